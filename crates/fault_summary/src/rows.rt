@@ -18,8 +18,8 @@ use std::alloc::{AllocError, Allocator};
 /// Each fault that a failing set of the graph has, in the order of faults: how many failing sets have it, and which of
 /// them is the first in canonical order.
 ///
-/// `sets` are the sets whose images fail by what is demanded of them; the patches change blocks of the base. Besides the
-/// rows it takes memory for one image and for one list of faults, which serves all sets. It fails only when out of
+/// `sets` are the sets whose images fail by what is demanded of them; the patches change blocks of the base. Besides
+/// the rows it takes memory for one image and for one list of faults, which serves all sets. It fails only when out of
 /// memory.
 pub fn fault_rows<A: Allocator + Copy>(
     alloc: A,

@@ -8,5 +8,5 @@ pub mod Sounds
 pub mod Means
 pub mod ViewTests
 pub mod Refused
-pub mod StayLive
-pub mod Passing
+pub mod Live
+pub mod SoFar

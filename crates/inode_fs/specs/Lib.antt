@@ -1,1 +1,2 @@
+pub mod Demanding
 pub mod Inside

@@ -2,9 +2,12 @@
 
 ghost use Rattle.std.specs.Prelude.{◌≡◌, ◌≤◌, All};
 ghost use Rattle.crash_model.specs.Plan.{with_changes};
+ghost use Rattle.crash_model.specs.Strict.{disk_after};
 ghost use Rattle.inode_fs.specs.Inside.{LiesInside};
 
+use crate::planning::plan;
 use crash_model::plans::Plan;
+use crash_model::steps::{Act, Step};
 use disk_image::Image;
 use std::alloc::Allocator;
 
@@ -22,5 +25,16 @@ pub fn apply<A: Allocator + Copy>(image: &mut Image<A>, plan: &Plan)
             change.offset as usize,
             change.new.as_slice(),
         );
+    }
+}
+
+/// Turns an image into the one after a step. A step on groups changes nothing, nor does a refused operation.
+pub(crate) fn advance<A: Allocator + Copy>(disk: &mut Image<A>, step: &Step)
+    ensures { disk.new ≡ disk_after disk.old step.now.act }
+{
+    if let Act::Do(op) = &step.act {
+        if let Ok(plan) = plan(disk, op) {
+            apply(disk, &plan);
+        }
     }
 }

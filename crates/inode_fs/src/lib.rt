@@ -8,7 +8,7 @@
 mod applying;
 mod changes;
 mod demanding;
-mod kept_inodes;
+mod live_inodes;
 mod lookup;
 mod planning;
 
@@ -17,5 +17,5 @@ pub use crash_model::names::{Name, Path};
 pub use crash_model::operations::Op;
 pub use crash_model::plans::{Change, Plan, Role};
 pub use crash_model::refusals::FsFault;
-pub use demanding::demands;
+pub use demanding::{Demanding, demands};
 pub use planning::plan;

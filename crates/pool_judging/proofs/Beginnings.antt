@@ -5,7 +5,7 @@ use Rattle.std.specs.Prelude.{Ok}
 use Rattle.std.specs.List.{All}
 use Rattle.std.proofs.lemmas.List.{take_more, take-append-drop}
 use Rattle.std.proofs.lemmas.List.Elements.{All-nil, All-cons, All-append, All-push}
-use Rattle.crash_model.specs.Checker.{Demands, AreDemands}
+use Rattle.crash_model.specs.Checker.{Demands}
 use Rattle.crash_model.specs.Disk.{Disk}
 use Rattle.crash_model.specs.Trace.{Tracing, IsGraphOf, trace_start, trace_from, step}
 use Rattle.crash_model.specs.declared.modules.Module.{Module}
@@ -13,12 +13,13 @@ use Rattle.crash_model.specs.declared.patches.Patch.{Patch}
 use Rattle.crash_model.specs.declared.rules.Rule.{Rule}
 use Rattle.crash_model.specs.declared.steps.Act.{Act}
 use Rattle.crash_model.specs.declared.steps.Step.{Step}
+use Rattle.inode_fs.specs.Demanding.{SoFar, IsSoFar, TakesStep}
 use Rattle.order_modules.specs.Tracer.{Trace, GivesNames, GivesNameIfAny, Moves}
 use Rattle.order_modules.proofs.Steps.{trace_one_more}
 use Rattle.search_model.specs.Verdict.{IsAccepted}
 use Rattle.search_model.specs.Workloads.{Search, HasPatches, steps_at, trace_at}
 use Rattle.workload_search.proofs.Accepted.{accepted_front}
-use Rattle.pool_judging.specs.Beginnings.{IsBegun, IsTraceAt}
+use Rattle.pool_judging.specs.Beginnings.{IsBegun, IsTraceAt, IsSoFarAt, AreDemandsAt}
 use Rattle.pool_judging.specs.declared.begun.Begun.{Begun}
 use Rattle.pool_judging.proofs.Pools.{steps_more}
 
@@ -61,6 +62,15 @@ module _ (s : Search) (front : List ℕ) (place : ℕ) (t : Trace) (x d : Step) 
         (All-nil GivesNames)));
   }
 
+-- what is demanded with one operation more
+pub demands_longer : (s : Search) (front : List ℕ) (place : ℕ) (x d : Step) (so_far next : SoFar)
+    → place < length s.pool → x ≡ get_or s.pool place d → TakesStep x so_far next → IsSoFarAt s front so_far
+    → IsSoFarAt s (front ++ place ∷ []) next
+demands_longer s front place x d so_far next low read takes is =
+    subst (λ (steps : List Step). IsSoFar s.strict s.atomic s.base steps next)
+    (sym (steps_more s.pool front place x d low read))
+    (takes s.strict s.atomic s.base (steps_at s.pool front) is)
+
 -- ---- some of the places
 
 module _ (s : Search) (places : List ℕ) (i : ℕ) (t : Trace) (x d : Step) (within : i < length places)
@@ -91,20 +101,22 @@ module _ (s : Search) (places : List ℕ) (i : ℕ) (t : Trace) (x d : Step) (wi
             ∙ (ap (trace_at s) (sym taken) ∙ early.1),
       )
 
+pub demands_taken : (s : Search) (places : List ℕ) (i : ℕ) (x d : Step) (so_far next : SoFar) → i < length places
+    → get_or places i 0 < length s.pool → x ≡ get_or s.pool (get_or places i 0) d → TakesStep x so_far next
+    → IsSoFarAt s (take i places) so_far → IsSoFarAt s (take (i + 1) places) next
+demands_taken s places i x d so_far next within low read takes is =
+    subst (λ (ps : List ℕ). IsSoFarAt s ps next) (sym (take_more places i 0 within))
+    (demands_longer s (take i places) (get_or places i 0) x d so_far next low read takes is)
+
 pub trace_all : (s : Search) (places : List ℕ) (i : ℕ) (t : Trace) → length places ≤ i → IsTraceAt s (take i places) t
     → IsTraceAt s places t
 trace_all s places i t past is = subst (λ (ps : List ℕ). IsTraceAt s ps t) (take_all i places past) is
 
 -- ---- a beginning and one operation more
 
-module _ {A : Type 0} (s : Search) (front : List ℕ) (place : ℕ) (begun : Begun A) where
-  pub longer_among : place < length s.pool → IsBegun s front begun
-      → All (λ place. place < length s.pool) (front ++ place ∷ [])
-  longer_among low is = All-push (λ place. place < length s.pool) front place is.among low
-
-  pub longer_same : IsBegun s front begun → (places : List ℕ) → places ≡ begun.places.items ++ place ∷ []
-      → places ≡ front ++ place ∷ []
-  longer_same is places whole = whole ∙ ap (λ (ps : List ℕ). ps ++ place ∷ []) is.same
+pub longer_among : {A : Type 0} (s : Search) (front : List ℕ) (place : ℕ) (begun : Begun A) → place < length s.pool
+    → IsBegun s front begun → All (λ place. place < length s.pool) (front ++ place ∷ [])
+longer_among s front place begun low is = All-push (λ place. place < length s.pool) front place is.among low
 
 -- ---- the patches of a trace
 
@@ -120,7 +132,7 @@ module _ (s : Search) (places : List ℕ) (t : Trace) where
 
   pub patches_of : (demands : Demands) (patches : List Patch) → IsTraceAt s places t
       → IsGraphOf t.log.rules t.log.base t.tracing patches
-      → AreDemands s.strict s.atomic s.base (steps_at s.pool places) demands → HasPatches s places demands patches
+      → AreDemandsAt s places demands → HasPatches s places demands patches
   patches_of demands patches is graph wanted = record {
     last = t.tracing;
     traced = is.traced;

@@ -1,4 +1,4 @@
-//! Beginnings of sequences, traced once for all operations that follow them.
+//! Beginnings of sequences, traced and planned once for all operations that follow them.
 
 ghost use Rattle.std.specs.Prelude.{◌≡◌, ◌<◌, ◌^◌, length, Ok, IfOk, OnOk};
 ghost use Rattle.std.specs.List.{All};
@@ -11,16 +11,16 @@ ghost use Rattle.pool_judging.specs.Judging.{search_by};
 use crate::judge::PoolJudge;
 use crash_model::refusals::TraceFault;
 use crash_model::steps::Step;
+use inode_fs::Demanding;
 use order_modules::Tracer;
 use search_model::Places;
 use std::alloc::{AllocError, Allocator};
-use workload_search::places::copied;
 
-/// A beginning of sequences: the places of its operations in the pool, and their trace.
+/// A beginning of sequences: the trace of its operations, and what they demand of an image that they leave.
 #[derive(Drop)]
 pub struct Begun<'a, A: Allocator + Copy> {
-    pub(crate) places: Places,
     pub(crate) tracer: Tracer<'a, A>,
+    pub(crate) demanding: Demanding<A>,
 }
 
 impl<'a, A: Allocator + Copy> PoolJudge<'a, A> {
@@ -32,13 +32,13 @@ impl<'a, A: Allocator + Copy> PoolJudge<'a, A> {
         ensures { IfOk result (IsBegun (search_by self.now) places.now.items) }
     {
         let mut tracer = Tracer::new(self.alloc, self.base, self.ordering)?;
+        let mut demanding = Demanding::new(self.alloc, self.base, self.strict, self.atomic)?;
         for place in places.as_slice() {
-            take(&mut tracer, &self.pool[*place])?;
+            let step = &self.pool[*place];
+            take(&mut tracer, step)?;
+            demanding.step(step)?;
         }
-        Ok(Begun {
-            places: copied(places),
-            tracer,
-        })
+        Ok(Begun { tracer, demanding })
     }
 }
 

@@ -6,7 +6,7 @@ ghost use Rattle.crash_model.specs.Checker.{AreDemands};
 ghost use Rattle.search_model.specs.Verdict.{IsVerdict};
 ghost use Rattle.search_model.specs.Refused.{refusal_of};
 ghost use Rattle.search_model.specs.Workloads.{Search, steps_at, trace_at};
-ghost use Rattle.pool_judging.specs.Beginnings.{IsBegun, IsTraceAt};
+ghost use Rattle.pool_judging.specs.Beginnings.{IsBegun, IsTraceAt, AreDemandsAt};
 ghost use Rattle.pool_judging.specs.Judging.{search_by, IsVerdictOn, IsNoFailure, IsFullJournal};
 
 use crate::begun::Begun;
@@ -23,7 +23,6 @@ use patch_graph::Graph;
 use search_model::{Places, Refusal, Verdict};
 use std::alloc::{AllocError, Allocator};
 use workload_search::Judge;
-use workload_search::places::extended;
 
 impl<'a, A: Allocator + Copy> PoolJudge<'a, A> {
     /// The steps at these places of the pool. It fails only when out of memory.
@@ -46,21 +45,6 @@ impl<'a, A: Allocator + Copy> PoolJudge<'a, A> {
         Ok(demands)
     }
 
-    /// What the operations at these places of the pool demand of an image that they leave. It fails only when out of
-    /// memory.
-    fn demands_at(&self, places: &Places) -> Result<Demands<A>, AllocError>
-        requires { All (λ place. place < length self.now.pool.now) places.now.items }
-        ensures { IfOk result (AreDemands self.now.strict self.now.atomic self.now.base.now
-            (steps_at self.now.pool.now places.now.items)) }
-    {
-        // Most checkers demand nothing, and need no steps.
-        if !self.strict && !self.atomic {
-            return Ok(Demands::none());
-        }
-        let steps = self.steps_at(places)?;
-        self.demands(&steps)
-    }
-
     /// The verdict on the operations of a beginning, followed by the one at this place of the pool. It fails only when
     /// out of memory.
     ///
@@ -72,25 +56,35 @@ impl<'a, A: Allocator + Copy> PoolJudge<'a, A> {
             → IfOk result (IsVerdict (search_by self.now) (front ++ place ∷ [])) }
         ensures full { IsFullJournal (search_by self.now) → IfOk result IsNoFailure }
     {
-        match begun.tracer.with_step(&self.pool[place]) {
-            Ok(longer) => self.judge_trace(&extended(&begun.places, place), longer),
+        let step = &self.pool[place];
+        match begun.tracer.with_step(step) {
+            Ok(longer) => {
+                let demanding = begun.demanding.with_step(step)?;
+                let demands = demanding.into_demands();
+                self.judge_trace(longer, &demands)
+            }
             Err(fault) => refused(fault),
         }
     }
 
-    /// The verdict on the operations at these places of the pool, which have this trace. It fails only when out of
+    /// The verdict on the operations that have this trace, by what they demand of images. It fails only when out of
     /// memory.
-    fn judge_trace(&self, places: &Places, tracer: Tracer<'a, A>) -> Result<Verdict, AllocError>
-        requires among { All (λ place. place < length self.now.pool.now) places.now.items }
-        requires trace { IsTraceAt (search_by self.now) places.now.items tracer }
-        ensures verdict { IfOk result (IsVerdict (search_by self.now) places.now.items) }
+    fn judge_trace(
+        &self,
+        tracer: Tracer<'a, A>,
+        demands: &Demands<A>,
+    ) -> Result<Verdict, AllocError>
+        requires { (places : List ℕ) × IsTraceAt (search_by self.now) places tracer
+            × AreDemandsAt (search_by self.now) places demands.now }
+        ensures verdict { (places : List ℕ) → IsTraceAt (search_by self.now) places tracer.entry
+            → AreDemandsAt (search_by self.now) places demands.now
+            → IfOk result (IsVerdict (search_by self.now) places) }
         ensures full { IsFullJournal (search_by self.now) → IfOk result IsNoFailure }
     {
         // For the proof: what holds of every image.
         let _blocks = self.base.blocks();
-        let demands = self.demands_at(places)?;
         let traced = tracer.into_traced();
-        self.judge_graph(traced.graph(), &demands)
+        self.judge_graph(traced.graph(), demands)
     }
 
     /// The verdict on the operations with these patches, none of which is refused, by what they demand of images. It

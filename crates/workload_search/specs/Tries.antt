@@ -24,7 +24,7 @@ extensions pool fronts = flat_map (extensions_of pool) fronts
 abbrev pub passing_of : List Tried → List (List ℕ)
 passing_of tried = map (λ t. t.places) (filter (λ t. is_passing t.verdict) tried)
 
--- a sequence of operations of the pool that can get one more, and none of which is refused
+-- operations of the pool, none of which is refused, that one more can follow
 pub record IsExtendable (s : Search) (pool : ℕ) (places : ArrayVec ℕ) : Type 0 where
   pub short : length places.items < 8
   pub among : All (λ place. place < pool) places.items

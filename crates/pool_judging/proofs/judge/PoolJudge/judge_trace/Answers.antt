@@ -15,17 +15,15 @@ pub judge_graph-requires : goal.judge_graph-requires
 judge_graph-requires g c =
     let s = search_by c.args.self.now in
     subst (All (λ patch. patch.block < s.base.blocks)) (sym c.graph.ensures)
-    (fits_at s c.args.places.now.items c.args.tracer c.into_traced-traced.result.patches c.requires.trace
+    (fits_at s c.requires.0 c.args.tracer c.into_traced-traced.result.patches c.requires.1
     c.into_traced-traced.ensures.fits)
 
 pub returns-clause-verdict : goal.returns-clause-verdict
-returns-clause-verdict g c =
+returns-clause-verdict g c = λ places trace wanted.
     let s = search_by c.args.self.now in
-    let places = c.args.places.now.items in
     let patches = c.into_traced-traced.result.patches in
-    let demands = c.in_ok-demands.demands in
-    let is = patches_of s places c.args.tracer demands patches c.requires.trace c.into_traced-traced.ensures.graph
-    c.in_ok-demands.ensures in
+    let demands = c.args.demands.now in
+    let is = patches_of s places c.args.tracer demands patches trace c.into_traced-traced.ensures.graph wanted in
     IfOk-weaker c.judge_graph.result _ _ (λ verdict on. verdict_on s places demands patches verdict is on)
     (subst (λ (ps : List Patch). IfOk c.judge_graph.result (IsVerdictOn demands s.base ps)) c.graph.ensures
     c.judge_graph.ensures)
@@ -34,13 +32,12 @@ pub returns-clause-full : goal.returns-clause-full
 returns-clause-full g c = λ is.
     let j = c.args.self.now in
     let s = search_by j in
-    let places = c.args.places.now.items in
+    let (places, trace, wanted) = c.requires in
     let steps = steps_at s.pool places in
     let t = c.args.tracer in
     let patches = c.into_traced-traced.result.patches in
-    let demands = c.in_ok-demands.demands in
+    let demands = c.args.demands.now in
     let disk = c.blocks-blocks.ensures.disk in
-    let trace = c.requires.trace in
     let graph = graph_at s places t patches trace c.into_traced-traced.ensures.graph in
     let on = subst (λ (ps : List Patch). IfOk c.judge_graph.result (IsVerdictOn demands s.base ps)) c.graph.ensures
     c.judge_graph.ensures in
@@ -48,4 +45,4 @@ returns-clause-full g c = λ is.
     (λ sound. let safe = traced_is_safe s.ordering s.rules s.whole s.base steps t.tracing patches is.full is.all disk
     sound.0 sound.1 trace.names trace.traced graph in
     IfOk-weaker c.judge_graph.result _ _ (λ verdict is_on. never_fails s.strict s.atomic s.whole demands s.base steps
-    patches verdict disk c.in_ok-demands.ensures safe is_on) on)
+    patches verdict disk wanted safe is_on) on)

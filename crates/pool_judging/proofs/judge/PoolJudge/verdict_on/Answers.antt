@@ -1,13 +1,10 @@
-use Rattle.std.proofs.Common.{◌<◌, ◌++◌, ◌∷◌, [], ℕ, List, length, refl, arith, sym, subst, ap, ◌∙◌}
-use Rattle.std.specs.Prelude.{IfOk}
-use Rattle.std.specs.List.{All}
+use Rattle.std.proofs.Common.{◌++◌, ◌∷◌, [], refl, arith, sym, subst, ◌∙◌}
 use Rattle.std.proofs.Math.Logic.{∥∥₁_elim}
 use Rattle.crash_model.specs.Trace.{trace_start}
-use Rattle.search_model.specs.Verdict.{IsVerdict}
 use Rattle.search_model.specs.Workloads.{IsOperation, steps_at}
-use Rattle.pool_judging.specs.Beginnings.{IsTraceAt}
+use Rattle.pool_judging.specs.Beginnings.{AreDemandsAt}
 use Rattle.pool_judging.specs.Judging.{search_by}
-use Rattle.pool_judging.proofs.Beginnings.{trace_one, trace_longer, longer_among, longer_same}
+use Rattle.pool_judging.proofs.Beginnings.{trace_one, trace_longer, demands_longer, longer_among}
 use Rattle.pool_judging.proofs.Pools.{all_at}
 use Rattle.pool_judging.proofs.Refusals.{operation_refused}
 use Rattle.pool_judging.proofs.judge.PoolJudge.verdict_on.Goals as goal
@@ -15,32 +12,31 @@ use Rattle.pool_judging.proofs.judge.PoolJudge.verdict_on.Goals as goal
 pub with_step-requires : goal.with_step-requires
 with_step-requires g c = let b = c.requires.begun.1 in omega (arith, b.is.turns, b.short)
 
-pub extended-requires : goal.extended-requires
-extended-requires g c = let b = c.requires.begun.1 in omega (arith, ap (λ (xs : List ℕ). length xs) b.same, b.short)
-
-pub judge_trace-requires-clause-among : goal.judge_trace-requires-clause-among
-judge_trace-requires-clause-among g c =
+pub judge_trace-requires : goal.judge_trace-requires
+judge_trace-requires g c =
     let s = search_by c.args.self.now in
-    let b = c.requires.begun in
-    subst (All (λ place. place < length s.pool))
-    (sym (longer_same s b.0 c.args.place c.args.begun.now b.1 c.extended.result.items c.extended.ensures))
-    (longer_among s b.0 c.args.place c.args.begun.now c.requires.among b.1)
+    let (front, b) = c.requires.begun in
+    let low = c.requires.among in
+    let step = c.index-self-place.result in (
+      front ++ c.args.place ∷ [],
+      trace_longer s front c.args.place c.args.begun.now.tracer _ step low refl b.is c.in-Ok.longer
+          c.in-Ok.ensures.ok c.in-Ok.ensures.names,
+      subst (AreDemandsAt s (front ++ c.args.place ∷ [])) (sym c.into_demands-demands.ensures)
+          (demands_longer s front c.args.place _ step c.args.begun.now.demanding c.in_ok-demanding-in-Ok.demanding low refl
+          c.in_ok-demanding-in-Ok.ensures b.demands).demands,
+    )
 
-pub judge_trace-requires-clause-trace : goal.judge_trace-requires-clause-trace
-judge_trace-requires-clause-trace g c =
+pub returns-in_ok-demanding-in-Ok-clause-verdict : goal.returns-in_ok-demanding-in-Ok-clause-verdict
+returns-in_ok-demanding-in-Ok-clause-verdict g c = λ front is.
     let s = search_by c.args.self.now in
-    let b = c.requires.begun in
-    subst (λ (places : List ℕ). IsTraceAt s places c.in-Ok.longer)
-    (sym (longer_same s b.0 c.args.place c.args.begun.now b.1 c.extended.result.items c.extended.ensures))
-    (trace_longer s b.0 c.args.place c.args.begun.now.tracer _ c.index-self-place.result c.requires.among refl b.1.is
-    c.in-Ok.longer c.in-Ok.ensures.ok c.in-Ok.ensures.names)
-
-pub returns-in-Ok-clause-verdict : goal.returns-in-Ok-clause-verdict
-returns-in-Ok-clause-verdict g c = λ front is.
-    let s = search_by c.args.self.now in
-    subst (λ (places : List ℕ). IfOk c.judge_trace.result (IsVerdict s places))
-    (longer_same s front c.args.place c.args.begun.now is c.extended.result.items c.extended.ensures)
-    c.judge_trace.ensures.verdict
+    let low = c.requires.among in
+    let step = c.index-self-place.result in
+    c.judge_trace.ensures.verdict (front ++ c.args.place ∷ [])
+    (trace_longer s front c.args.place c.args.begun.now.tracer _ step low refl is.is c.in-Ok.longer
+    c.in-Ok.ensures.ok c.in-Ok.ensures.names)
+    (subst (AreDemandsAt s (front ++ c.args.place ∷ [])) (sym c.into_demands-demands.ensures)
+    (demands_longer s front c.args.place _ step c.args.begun.now.demanding c.in_ok-demanding-in-Ok.demanding low refl
+    c.in_ok-demanding-in-Ok.ensures is.demands).demands)
 
 pub refused-requires : goal.refused-requires
 refused-requires g c =

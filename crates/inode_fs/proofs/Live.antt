@@ -1,6 +1,6 @@
--- The inodes that stay live, step by step.
-use Rattle.std.proofs.Common.{◌≡◌, ℕ, ◌+◌, ◌<◌, inl, inr, List, [], ◌∷◌, drop, drop-cons, length, get_or, Bool, true}
-use Rattle.std.proofs.Common.{false, ◌&&◌, ◌==◌, not, nat_lt, arith, refl, sym, subst, ap, ◌∙◌, suc}
+-- The live inodes of a disk, as a set.
+use Rattle.std.proofs.Common.{◌≡◌, ℕ, ◌+◌, ◌<◌, inl, inr, Bool, true}
+use Rattle.std.proofs.Common.{false, ◌&&◌, ◌==◌, not, nat_lt, arith, refl, sym, subst, ap, ◌∙◌}
 use Rattle.std.specs.Prelude.{bit_and}
 use Rattle.std.proofs.lemmas.Bool.{cases_eq, and_parts, and_right, lt-ltb, ltb-true, cases_Bool, le-ltb}
 use Rattle.std.proofs.lemmas.Nat.Bits.{bit_at_and, bit_at-lt}
@@ -9,8 +9,6 @@ use Rattle.patch_sets.proofs.Bits.{none_in_empty, in_with_same, in_with_cases, i
 use Rattle.patch_sets.proofs.Ids.{has_true, has_false, from_has}
 use Rattle.crash_model.specs.Disk.{Disk}
 use Rattle.crash_model.specs.Layout.{kind_of, is_live}
-use Rattle.crash_model.specs.Strict.{disk_after, stays_live}
-use Rattle.crash_model.specs.declared.steps.Step.{Step}
 
 -- ---- tests
 
@@ -22,7 +20,7 @@ same_test false false to from = refl
 both_true : (a b : Bool) → a ≡ true → b ≡ true → (a && b) ≡ true
 both_true a b e f = rw (e, f) refl
 
-has-and : (a b i : ℕ) → has (bit_and a b) i ≡ (has a i && has b i)
+pub has-and : (a b i : ℕ) → has (bit_and a b) i ≡ (has a i && has b i)
 has-and a b i = same_test (has (bit_and a b) i) (has a i && has b i)
     (λ t. let is : Has (bit_and a b) i = from_has (bit_and a b) i t in both_true (has a i) (has b i)
     (has_true a i (omega (arith, bit_at_and a b i, is, bit_at-lt a i, bit_at-lt b i)))
@@ -78,56 +76,3 @@ module _ (d : Disk) where
     | inl is ↦ both_true (is_live d i) (nat_lt i 16) is (and_parts (nat_lt i 16) (not (kind_of d i == 0)) is).0 ∙ sym is
     | inr gone ↦ rw gone refl
   ]
-
--- ---- the steps
-
--- what is kept so far, with what stays live through the rest
-pub record Keeping (start : Disk) (steps : List Step) (d : Disk) (rest : List Step) (kept : ℕ) : Type 0 where
-  pub so_far : (i : ℕ) → (has kept i && stays_live d rest i) ≡ stays_live start steps i
-  pub live : (i : ℕ) → has kept i ≡ true → is_live d i ≡ true
-
-stays_now : (d : Disk) (steps : List Step) (i : ℕ) → stays_live d steps i ≡ true → is_live d i ≡ true
-stays_now d [] i is = is
-stays_now d (x ∷ xs) i is = (and_parts (is_live d i) _ is).0
-
-pub keeping-start : (start : Disk) (steps : List Step) (kept : ℕ) → ((i : ℕ) → has kept i ≡ is_live start i)
-    → Keeping start steps start steps kept
-keeping-start start steps kept by = record {
-  so_far = λ i. same_test (has kept i && stays_live start steps i) (stays_live start steps i)
-      (λ t. (and_parts (has kept i) (stays_live start steps i) t).1)
-      (λ t. both_true (has kept i) (stays_live start steps i) (by i ∙ stays_now start steps i t) t);
-  live = λ i is. sym (by i) ∙ is;
-}
-
-pub keeping-step : (start d next : Disk) (steps rest : List Step) (x : Step) (kept live : ℕ) → next ≡ disk_after d x.act
-    → ((i : ℕ) → has live i ≡ is_live next i) → Keeping start steps d (x ∷ rest) kept
-    → Keeping start steps next rest (bit_and kept live)
-keeping-step start d next steps rest x kept live after by old = record {
-  so_far = λ i.
-      let there : stays_live (disk_after d x.act) rest i ≡ stays_live next rest i =
-      ap (λ (e : Disk). stays_live e rest i) (sym after) in
-      same_test (has (bit_and kept live) i && stays_live next rest i) (stays_live start steps i)
-      (λ t.
-      let parts = and_parts (has (bit_and kept live) i) (stays_live next rest i) t in
-      let both = and_parts (has kept i) (has live i) (sym (has-and kept live i) ∙ parts.0) in
-      sym (old.so_far i) ∙ both_true (has kept i) _ both.0
-      (both_true (is_live d i) _ (old.live i both.0) (there ∙ parts.1)))
-      (λ t.
-      let parts = and_parts (has kept i) _ (old.so_far i ∙ t) in
-      let on : stays_live next rest i ≡ true = sym there ∙ (and_parts (is_live d i) _ parts.1).1 in
-      both_true (has (bit_and kept live) i) (stays_live next rest i)
-      (has-and kept live i ∙ both_true (has kept i) (has live i) parts.0 (by i ∙ stays_now next rest i on)) on);
-  live = λ i is. sym (by i) ∙ (and_parts (has kept i) (has live i) (sym (has-and kept live i) ∙ is)).1;
-}
-
-pub keeping-end : (start d : Disk) (steps : List Step) (kept : ℕ) → Keeping start steps d [] kept → (i : ℕ)
-    → has kept i ≡ stays_live start steps i
-keeping-end start d steps kept all i = same_test (has kept i) (stays_live start steps i)
-    (λ is. sym (all.so_far i) ∙ both_true (has kept i) (is_live d i) is (all.live i is))
-    (λ t. (and_parts (has kept i) (is_live d i) (all.so_far i ∙ t)).0)
-
--- one step more is taken
-pub drop_step : (steps : List Step) (i : ℕ) (x : Step) → i < length steps → x ≡ get_or steps i x
-    → drop i steps ≡ x ∷ drop (i + 1) steps
-drop_step steps i x inside read = drop-cons steps i x inside ∙ ap (λ (y : Step). y ∷ drop (suc i) steps) (sym read)
-    ∙ ap (λ (n : ℕ). x ∷ drop n steps) (let z : suc i ≡ i + 1 = omega arith in z)

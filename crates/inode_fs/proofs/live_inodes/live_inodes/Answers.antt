@@ -1,7 +1,7 @@
 use Rattle.std.proofs.Common.{sym, ◌∙◌}
-use Rattle.inode_fs.proofs.StayLive.{live-more, live-none}
-use Rattle.inode_fs.proofs.kept_inodes.live_inodes.Goals as goal
-use Rattle.inode_fs.proofs.kept_inodes.live_inodes.Goals.{then-is_live, else-is_live}
+use Rattle.inode_fs.proofs.Live.{live-more, live-none}
+use Rattle.inode_fs.proofs.live_inodes.live_inodes.Goals as goal
+use Rattle.inode_fs.proofs.live_inodes.live_inodes.Goals.{then-is_live, else-is_live}
 
 pub loop-inode-preserved : goal.loop-inode-preserved
 loop-inode-preserved g c =
