@@ -1,5 +1,5 @@
 -- The faults listed so far of slots, links and blocks.
-use Rattle.std.proofs.Common.{◌≡◌, ℕ, ◌+◌, ◌<◌, ◌≤◌, inl, inr, List, [], ◌∷◌, ◌++◌, true, ◌&&◌, ◌^◌}
+use Rattle.std.proofs.Common.{◌≡◌, ℕ, ◌+◌, ◌<◌, ◌≤◌, inl, inr, List, [], ◌∷◌, ◌++◌, true, ◌&&◌}
 use Rattle.std.proofs.Common.{arith, tests, sym, ap, subst, ◌∙◌}
 use Rattle.std.specs.Prelude.{nat_le, nat_lt, slice_index}
 use Rattle.std.specs.List.{Contains}
@@ -13,7 +13,6 @@ use Rattle.crash_model.specs.declared.fault.Fault.TheVariants.{LowLinks, Twice}
 use Rattle.known_bytes.specs.Family.{Family, InEach, IsLike, HasValue}
 use Rattle.fault_candidates.specs.Listed.{InEachReplayed, IsWithin, HasSlot, HasFaultsOf, HasTwice, HasLow, HasStrict}
 use Rattle.fault_candidates.proofs.Pushed.{slot_more, slots_more, then_within, low_more, strict_more, pushed_has, pushed_keeps}
-use Rattle.fault_candidates.proofs.Tests.{value_small}
 
 -- each disk has the data area of the base
 pub same_area : (f : Family) → InEach f (IsLike f.base) → (block : ℕ)
@@ -89,15 +88,14 @@ blocks_more base low high inode slot n old new more kept here was = record {
 }
 
 pub slot_listed : (f : Family) (low high inode slot n : ℕ) (old new : List Fault) → InEach f (IsLike f.base)
-    → high < 2 ^ 128 → 255 ≤ n
+    → ((value : ℕ) → HasValue low high value → value ≤ n)
     → InEach f (λ d. HasValue low high (pointer_of (image_after_replay d) inode slot))
     → AreBlocks f.base low high inode slot n old new → InEachReplayed f (HasFaultsOf new inode slot)
-slot_listed f low high inode slot n old new like fits long values all set m some =
+slot_listed f low high inode slot n old new like most values all set m some =
     let d : Disk = image_after_replay (image_of f.base f.patches set) in
     let block : ℕ = pointer_of d inode slot in
     let here = values set m in
-    let small : block < 256 = value_small low high block fits here in
-    let has = all.each block (omega arith) (omega arith) here in
+    let has = all.each block (omega arith) (most block here) here in
     let area : is_data d block ≡ is_data f.base block = same_area f like block set m in
     record { tame = λ is. has.tame (sym area ∙ is); wild = λ is. has.wild (sym area ∙ is) }
 

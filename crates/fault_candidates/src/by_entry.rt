@@ -7,6 +7,7 @@ ghost use Rattle.known_bytes.specs.Family.{HasValue};
 ghost use Rattle.fault_candidates.specs.Listed.{InEachReplayed, IsWithin, HasDangling, CountsOne, AreCounted, AreAtMost, AreMost};
 
 use crate::entries;
+use crate::last_byte::last_byte;
 use crash_model::disk_bytes::{ENTRIES, INODES};
 use crash_model::fault::Fault;
 use known_bytes::{ByteSet, KnownBytes};
@@ -64,7 +65,7 @@ fn push_dangling<A: Allocator + Copy>(
     ensures dangling { OnOk result ((inode : ℕ) → inode < 255 → HasValue values.low values.high (inode + 1)
         → Contains faults.new.items (Dangling dir k inode)) }
 {
-    for inode in 0..255u8 {
+    for inode in 0..last_byte(values) {
         if values.has(inode + 1) {
             faults.push(Fault::Dangling {
                 dir,

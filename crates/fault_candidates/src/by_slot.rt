@@ -5,6 +5,7 @@ ghost use Rattle.std.specs.List.{Contains};
 ghost use Rattle.crash_model.specs.declared.fault.Fault.TheVariants.{Wild};
 ghost use Rattle.fault_candidates.specs.Listed.{InEachReplayed, IsWithin, HasTame, HasFaultsOf};
 
+use crate::last_byte::last_byte;
 use crate::pointers;
 use crash_model::disk_bytes::{INODES, SLOTS};
 use crash_model::fault::Fault;
@@ -57,7 +58,7 @@ fn push_slot<A: Allocator + Copy>(
 {
     let base = bytes.base();
     let values = pointers(bytes, inode, slot);
-    for before in 0..255u8 {
+    for before in 0..last_byte(values) {
         let block = before + 1;
         if values.has(block) {
             push_pointer(faults, base.is_data(block), inode, slot, block)?;

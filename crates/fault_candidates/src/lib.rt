@@ -12,6 +12,7 @@ ghost use Rattle.known_bytes.specs.Family.{InEach, HasValue};
 mod by_entry;
 mod by_inode;
 mod by_slot;
+mod last_byte;
 mod listing;
 
 use crash_model::disk_bytes::{ENTRIES, INODES, POINTERS_FROM, SLOTS};

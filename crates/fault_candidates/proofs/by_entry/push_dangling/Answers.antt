@@ -1,4 +1,4 @@
-use Rattle.std.proofs.Common.{◌≡◌, ◌+◌, true, false, sym, ◌∙◌}
+use Rattle.std.proofs.Common.{◌≡◌, ◌+◌, true, false, sym, ◌∙◌, arith}
 use Rattle.crash_model.specs.declared.fault.Fault.TheVariants.{Dangling}
 use Rattle.known_bytes.specs.Family.{HasValue}
 use Rattle.fault_candidates.proofs.ListedSoFar.{below_same, below_next}
@@ -19,3 +19,8 @@ loop-inode-preserved g c =
           (λ is. let never : true ≡ false = sym (c.has.ensures.1 is) ∙ w.if-has.false in absurd (cc))
           c.loop-inode.invariant)
     ]
+
+pub returns-clause-dangling : goal.returns-clause-dangling
+returns-clause-dangling g c = λ inode small here.
+    let most = c.last_byte-inode-end.ensures (inode + 1) here in
+    c.loop-inode.invariant.each inode (omega (arith, most, c.loop-inode-test.false)) here

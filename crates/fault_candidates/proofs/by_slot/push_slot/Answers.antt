@@ -32,4 +32,6 @@ loop-before-preserved g c =
 pub returns-clause-slot : goal.returns-clause-slot
 returns-clause-slot g c = slot_listed c.args.bytes.now c.pointers-values.result.low c.pointers-values.result.high
     c.args.inode c.args.slot c.loop-before.before c.args.faults.now.items c.loop-before.faults.items
-    c.base-base.ensures.alike c.pointers-values.type_inv.1.1.1.0.1 (omega arith) c.pointers-values.ensures c.loop-before.invariant
+    c.base-base.ensures.alike
+    (λ value is. let most = c.last_byte-before-end.ensures value is in omega (arith, most, c.loop-before-test.false))
+    c.pointers-values.ensures c.loop-before.invariant
