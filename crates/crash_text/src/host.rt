@@ -4,8 +4,8 @@ ghost use Rattle.std.specs.Prelude.{◌≡◌};
 
 use std::alloc::{Allocator, Global};
 
-/// Threads and files, by `rt`, and memory: the command line and JSON take it from `heap`, whose crates take no other,
-/// and all else from `alloc`. If `gives_hints` is set, hints follow a refusal, and warnings follow a report.
+/// Threads and files, by `rt`, and memory: the command line and the values and caches of JSON take it from `heap`, and
+/// all else from `alloc`. If `gives_hints` is set, hints follow a refusal, and warnings follow a report.
 #[derive(Drop)]
 pub struct Host<'a, R, A: Allocator + Copy> {
     pub rt: &'a R,

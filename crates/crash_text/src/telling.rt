@@ -143,8 +143,7 @@ where
         × (string_bytes text ≡ report_bytes report.now.settings.now (whole_of report.now body))) }
 {
     if report.settings.json {
-        let text = report_json(host.rt, host.heap, host.alloc, report, workers)?;
-        String::from_str(host.alloc, text.as_str())
+        report_json(host.rt, host.heap, host.alloc, report, workers)
     } else {
         report_text(host.rt, host.alloc, report, workers)
     }

@@ -21,26 +21,26 @@ use std::alloc::{AllocError, Allocator, Global};
 /// A decision as JSON: one compact object, its keys in ascending order, and a line feed. The number of closed sets is a
 /// text, since it can be more than a JSON number holds.
 ///
-/// The patches change blocks of the base, and a crash can leave each of the first sets. JSON takes its memory from
-/// `heap`, and sections take theirs from `alloc`; a section's is free again before the next is made. It fails only when
-/// out of memory.
+/// The patches change blocks of the base, and a crash can leave each of the first sets. The texts of block writes
+/// and faults that come again and the values of patches take their memory from `heap`, and all else from `alloc`. It
+/// fails only when out of memory.
 pub fn decision_json<A: Allocator + Copy>(
     heap: Global,
     alloc: A,
     decision: &Decision<'_, '_, '_, A>,
-) -> Result<String, AllocError>
+) -> Result<String<A>, AllocError>
     requires { CanReport decision.now }
     ensures { IfOk result (λ text. WritesDecision json_decision decision.now (string_bytes text)) }
 {
-    let mut out = String::new(heap);
-    write_decision(&mut out, alloc, decision)?;
+    let mut out = String::new(alloc);
+    write_decision(&mut out, heap, decision)?;
     Ok(out)
 }
 
 /// The decision, as an empty text's first.
 fn write_decision<A: Allocator + Copy>(
-    out: &mut String,
-    alloc: A,
+    out: &mut String<A>,
+    heap: Global,
     decision: &Decision<'_, '_, '_, A>,
 ) -> Result<(), AllocError>
     requires empty { string_bytes out.old ≡ [] }
@@ -51,18 +51,18 @@ fn write_decision<A: Allocator + Copy>(
     out.push_str("{")?;
     write_first_keys(out, decision.settings, decision.base)?;
     write!(out, "\"closed\":\"{closed}\",\"faults\":[")?;
-    write_faults(out, alloc, decision)?;
+    write_faults(out, heap, decision)?;
     out.push_str("]")?;
     write_module(out, decision.settings.module, decision.traced.graph().len())?;
-    write_from_strict(out, decision.settings, decision.traced)?;
+    write_from_strict(out, heap, decision.settings, decision.traced)?;
     out.push_str("}\n")?;
     Ok(())
 }
 
 /// The objects of the faults, with a comma between two. The texts of block writes are reused for later faults.
 fn write_faults<A: Allocator + Copy>(
-    out: &mut String,
-    alloc: A,
+    out: &mut String<A>,
+    heap: Global,
     decision: &Decision<'_, '_, '_, A>,
 ) -> Result<(), AllocError>
     requires { CanReport decision.now }
@@ -71,9 +71,9 @@ fn write_faults<A: Allocator + Copy>(
         (string_bytes out.old) (string_bytes out.new)) }
 {
     let graph = decision.traced.graph();
-    let mut known = KnownTexts::new(*out.allocator(), graph.len())?;
+    let mut known = KnownTexts::new(heap, graph.len())?;
     let mut maker = SectionMaker::new(
-        alloc,
+        *out.allocator(),
         decision.base,
         graph,
         decision.settings.explain,
@@ -84,7 +84,7 @@ fn write_faults<A: Allocator + Copy>(
 
 /// The objects of the faults, with a comma between two, by a maker of their sections.
 fn write_each_fault<A: Allocator + Copy>(
-    out: &mut String,
+    out: &mut String<A>,
     known: &mut KnownTexts,
     maker: &mut SectionMaker<'_, A>,
     faults: &[DecidedFault],
@@ -102,7 +102,7 @@ fn write_each_fault<A: Allocator + Copy>(
 
 /// The object of a fault at this place of an array, with a comma before it if it is not the first.
 fn write_fault<A: Allocator + Copy>(
-    out: &mut String,
+    out: &mut String<A>,
     at: usize,
     known: &mut KnownTexts,
     maker: &mut SectionMaker<'_, A>,
@@ -123,8 +123,8 @@ fn write_fault<A: Allocator + Copy>(
 
 /// The object of a fault, and of the first set that has it, which the section describes. It fails only when out of
 /// memory.
-pub fn push_decided<A: Allocator>(
-    out: &mut String,
+pub fn push_decided<A: Allocator, B: Allocator + Copy>(
+    out: &mut String<B>,
     known: &mut KnownTexts,
     decided: DecidedFault,
     section: &Section<A>,

@@ -11,8 +11,8 @@ use std::alloc::{AllocError, Allocator, Global};
 
 /// A decision as text, or as JSON if the settings ask for that.
 ///
-/// The patches change blocks of the base, and a crash can leave each of the first sets. JSON takes its memory from
-/// `heap`, and all else from `alloc`. It fails only when out of memory.
+/// The patches change blocks of the base, and a crash can leave each of the first sets. Some parts of
+/// JSON take their memory from `heap`, and all else takes it from `alloc`. It fails only when out of memory.
 pub fn decision_report<A: Allocator + Copy>(
     heap: Global,
     alloc: A,
@@ -22,8 +22,7 @@ pub fn decision_report<A: Allocator + Copy>(
     ensures { IfOk result (λ text. WritesDecision decision_bytes decision.now (string_bytes text)) }
 {
     if decision.settings.json {
-        let text = decision_json(heap, alloc, decision)?;
-        String::from_str(alloc, text.as_str())
+        decision_json(heap, alloc, decision)
     } else {
         decision_text(alloc, decision)
     }

@@ -17,23 +17,26 @@ use std::alloc::{AllocError, Allocator, Global};
 /// A report of the rules that a script needs as JSON: one compact object, its keys in ascending order, and a line feed.
 /// The number of closed sets is a text, since it can be more than a JSON number holds.
 ///
-/// It fails only when out of memory.
+/// The texts of block writes and faults that come again and the values of patches take their memory from `heap`, and all
+/// else from `alloc`. It fails only when out of memory.
 pub fn enough_json<A: Allocator + Copy>(
     heap: Global,
+    alloc: A,
     found: &EnoughFindings<'_, '_, '_, A>,
-) -> Result<String, AllocError>
+) -> Result<String<A>, AllocError>
     ensures { IfOk result (λ text.
         string_bytes text ≡ json_rules_report found.now.settings.now (report_of found.now)) }
 {
     let ordering = found.settings.ordering();
-    let mut out = String::new(heap);
-    write_findings(&mut out, &ordering, found)?;
+    let mut out = String::new(alloc);
+    write_findings(&mut out, heap, &ordering, found)?;
     Ok(out)
 }
 
 /// The report, as an empty text's first.
 fn write_findings<A: Allocator + Copy>(
-    out: &mut String,
+    out: &mut String<A>,
+    heap: Global,
     ordering: &Ordering,
     found: &EnoughFindings<'_, '_, '_, A>,
 ) -> Result<(), AllocError>
@@ -42,7 +45,7 @@ fn write_findings<A: Allocator + Copy>(
     ensures { OnOk result (string_bytes out.new ≡ json_rules_report found.now.settings.now (report_of found.now)) }
 {
     let (closed, patches) = (found.closed, found.traced.graph().len());
-    let mut known = KnownTexts::new(*out.allocator(), patches)?;
+    let mut known = KnownTexts::new(heap, patches)?;
     out.push_str("{")?;
     write_first_keys(out, found.settings, found.base)?;
     write!(out, "\"closed\":\"{closed}\",\"enough\":[")?;
@@ -53,13 +56,17 @@ fn write_findings<A: Allocator + Copy>(
     out.push_str(",\"needs\":[")?;
     write_groups(out, &mut known, ordering, found.needs)?;
     write!(out, "],\"patches\":{patches}")?;
-    write_from_strict(out, found.settings, found.traced)?;
+    write_from_strict(out, heap, found.settings, found.traced)?;
     out.push_str("}\n")?;
     Ok(())
 }
 
 /// The arrays of the sets of rules, with a comma between two. It fails only when out of memory.
-pub fn write_sets(out: &mut String, ordering: &Ordering, sets: &[u128]) -> Result<(), AllocError>
+pub fn write_sets<B: Allocator>(
+    out: &mut String<B>,
+    ordering: &Ordering,
+    sets: &[u128],
+) -> Result<(), AllocError>
     ensures { OnOk result (string_bytes out.new
         ≡ string_bytes out.old ++ set_items ordering.now.rules.items sets.now) }
 {
@@ -71,7 +78,11 @@ pub fn write_sets(out: &mut String, ordering: &Ordering, sets: &[u128]) -> Resul
 }
 
 /// The array of the rules of a set.
-fn write_set(out: &mut String, ordering: &Ordering, set: u128) -> Result<(), AllocError>
+fn write_set<B: Allocator>(
+    out: &mut String<B>,
+    ordering: &Ordering,
+    set: u128,
+) -> Result<(), AllocError>
     ensures { OnOk result (string_bytes out.new
         ≡ string_bytes out.old ++ set_json ordering.now.rules.items set) }
 {
@@ -83,8 +94,8 @@ fn write_set(out: &mut String, ordering: &Ordering, set: u128) -> Result<(), All
 }
 
 /// The key of the first fault of all rules with a comma before it, if there is one.
-fn write_first<A: Allocator>(
-    out: &mut String,
+fn write_first<A: Allocator, B: Allocator + Copy>(
+    out: &mut String<B>,
     known: &mut KnownTexts,
     first: &Option<FirstFault<A>>,
 ) -> Result<(), AllocError>
@@ -100,8 +111,8 @@ fn write_first<A: Allocator>(
 }
 
 /// The objects of the groups of which one rule is needed, with a comma between two.
-fn write_groups<A: Allocator>(
-    out: &mut String,
+fn write_groups<A: Allocator, B: Allocator + Copy>(
+    out: &mut String<B>,
     known: &mut KnownTexts,
     ordering: &Ordering,
     groups: &[NeededGroup<A>],
@@ -117,8 +128,8 @@ fn write_groups<A: Allocator>(
 }
 
 /// The object of a group of which one rule is needed.
-fn write_group<A: Allocator>(
-    out: &mut String,
+fn write_group<A: Allocator, B: Allocator + Copy>(
+    out: &mut String<B>,
     known: &mut KnownTexts,
     ordering: &Ordering,
     needed: &NeededGroup<A>,
@@ -136,8 +147,8 @@ fn write_group<A: Allocator>(
 /// the group, the blocks that replay changes where these are asked for, and the rules of the group.
 ///
 /// It fails only when out of memory.
-pub fn write_group_head<A: Allocator>(
-    out: &mut String,
+pub fn write_group_head<A: Allocator, B: Allocator + Copy>(
+    out: &mut String<B>,
     known: &mut KnownTexts,
     ordering: &Ordering,
     group: u128,

@@ -11,7 +11,7 @@ use std::alloc::{AllocError, Allocator, Global};
 
 /// A report of the rules that a script needs as text, or as JSON if the settings ask for that.
 ///
-/// JSON takes its memory from `heap`, and all else from `alloc`. It fails only when out of memory.
+/// Some parts of JSON take their memory from `heap`, and all else takes it from `alloc`. It fails only when out of memory.
 pub fn enough_report<A: Allocator + Copy>(
     heap: Global,
     alloc: A,
@@ -21,8 +21,7 @@ pub fn enough_report<A: Allocator + Copy>(
         string_bytes text ≡ rules_report_bytes found.now.settings.now (report_of found.now)) }
 {
     if found.settings.json {
-        let text = enough_json(heap, found)?;
-        String::from_str(alloc, text.as_str())
+        enough_json(heap, alloc, found)
     } else {
         enough_text(alloc, found)
     }

@@ -13,9 +13,9 @@ use std::alloc::{AllocError, Allocator};
 impl KnownTexts {
     /// Adds the entry of a fault: its text, how many failing sets have it, and the first of them, which is the set of
     /// the section. It fails only when out of memory.
-    pub fn push_fault_row<A: Allocator>(
+    pub fn push_fault_row<A: Allocator, B: Allocator + Copy>(
         &mut self,
-        out: &mut String,
+        out: &mut String<B>,
         row: &FaultRow,
         first: &Section<A>,
     ) -> Result<(), AllocError>

@@ -10,7 +10,7 @@ use crate::sections::push_set;
 use crash_model::fault::Fault;
 use patch_sets::write::BlockWrite;
 use report_sections::places::{FAULT_PLACES, place_of_fault};
-use std::alloc::{AllocError, Global};
+use std::alloc::{AllocError, Allocator, Global};
 use std::marker::Model;
 use word_places::place_of_word;
 
@@ -37,6 +37,7 @@ struct KnownFault {
 /// Contracts see the number of patches of the graph.
 #[derive(Drop)]
 pub struct KnownTexts {
+    heap: Global,
     patches: usize,
     writes: Vec<Option<KnownWrite>>,
     faults: Vec<Option<KnownFault>>,
@@ -54,7 +55,8 @@ impl Model for KnownTexts {
 }
 
 impl KnownTexts {
-    /// No text yet, for the block writes of a graph with `patches` patches. It fails only when out of memory.
+    /// No text yet, for the block writes of a graph with `patches` patches. The texts take their memory from `heap`. It
+    /// fails only when out of memory.
     pub fn new(heap: Global, patches: usize) -> Result<KnownTexts, AllocError>
         ensures { IfOk result (λ known. known ≡ patches) }
     {
@@ -73,6 +75,7 @@ impl KnownTexts {
             { None },
         )?;
         Ok(KnownTexts {
+            heap,
             patches,
             writes,
             faults,
@@ -87,9 +90,9 @@ impl KnownTexts {
     }
 
     /// Adds the object of a block write.
-    pub(crate) fn push_write(
+    pub(crate) fn push_write<B: Allocator>(
         &mut self,
-        out: &mut String,
+        out: &mut String<B>,
         write: BlockWrite,
     ) -> Result<(), AllocError>
         ensures text { OnOk result (string_bytes out.new ≡ string_bytes out.old ++ write_json self.old write) }
@@ -99,14 +102,18 @@ impl KnownTexts {
             out.push_str(text)?;
             return Ok(());
         }
-        let text = write_text(*out.allocator(), self.patches(), write)?;
+        let text = write_text(self.heap, self.patches(), write)?;
         out.push_str(text.as_str())?;
         self.keep_write(write, text);
         Ok(())
     }
 
     /// Adds the text of a fault, in quotes. It fails only when out of memory.
-    pub fn push_fault(&mut self, out: &mut String, fault: Fault) -> Result<(), AllocError>
+    pub fn push_fault<B: Allocator>(
+        &mut self,
+        out: &mut String<B>,
+        fault: Fault,
+    ) -> Result<(), AllocError>
         ensures text { OnOk result (string_bytes out.new ≡ string_bytes out.old ++ fault_json fault) }
         ensures kept { self.new ≡ self.old }
     {
@@ -114,7 +121,7 @@ impl KnownTexts {
             out.push_str(text)?;
             return Ok(());
         }
-        let text = fault_text(*out.allocator(), fault)?;
+        let text = fault_text(self.heap, fault)?;
         out.push_str(text.as_str())?;
         self.keep_fault(fault, text);
         Ok(())

@@ -12,9 +12,9 @@ use std::alloc::{AllocError, Allocator};
 impl KnownTexts {
     /// Adds the entry of a rule: to how many pairs of patches it applies, and how many sets are closed and fail without
     /// it, if they are counted. It fails only when out of memory.
-    pub fn push_rule<A: Allocator>(
+    pub fn push_rule<A: Allocator, B: Allocator + Copy>(
         &mut self,
-        out: &mut String,
+        out: &mut String<B>,
         told: &ToldRule<A>,
     ) -> Result<(), AllocError>
         ensures text { OnOk result (string_bytes out.new
@@ -47,9 +47,9 @@ impl KnownTexts {
     }
 
     /// Adds the key of the first section and a comma after it, if there is one.
-    fn push_first<A: Allocator>(
+    fn push_first<A: Allocator, B: Allocator + Copy>(
         &mut self,
-        out: &mut String,
+        out: &mut String<B>,
         first: &Option<Section<A>>,
     ) -> Result<(), AllocError>
         ensures text { OnOk result (string_bytes out.new

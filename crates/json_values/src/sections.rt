@@ -22,9 +22,9 @@ use std::alloc::{AllocError, Allocator};
 
 impl KnownTexts {
     /// Adds a failing set, by its section. It fails only when out of memory.
-    pub fn push_section<A: Allocator>(
+    pub fn push_section<A: Allocator, B: Allocator + Copy>(
         &mut self,
-        out: &mut String,
+        out: &mut String<B>,
         section: &Section<A>,
     ) -> Result<(), AllocError>
         ensures text { OnOk result (string_bytes out.new
@@ -39,9 +39,9 @@ impl KnownTexts {
 
     /// Adds the last keys of an object, which describe a crash, and the object's end: what replay changes if that is
     /// explained, the ids of the set, and the block writes that lead to it. It fails only when out of memory.
-    pub fn push_crash<A: Allocator>(
+    pub fn push_crash<A: Allocator, B: Allocator + Copy>(
         &mut self,
-        out: &mut String,
+        out: &mut String<B>,
         section: &Section<A>,
     ) -> Result<(), AllocError>
         ensures text { OnOk result (string_bytes out.new
@@ -54,9 +54,9 @@ impl KnownTexts {
 
     /// Adds the last keys of an object, and the object's end: the ids of the set, and the block writes that lead to it.
     /// It fails only when out of memory.
-    pub fn push_leading<A: Allocator>(
+    pub fn push_leading<A: Allocator, B: Allocator>(
         &mut self,
-        out: &mut String,
+        out: &mut String<B>,
         section: &Section<A>,
     ) -> Result<(), AllocError>
         ensures text { OnOk result (string_bytes out.new
@@ -72,7 +72,11 @@ impl KnownTexts {
     }
 
     /// Adds the texts of the faults, with a comma between two. It fails only when out of memory.
-    pub fn push_faults(&mut self, out: &mut String, faults: &[Fault]) -> Result<(), AllocError>
+    pub fn push_faults<B: Allocator>(
+        &mut self,
+        out: &mut String<B>,
+        faults: &[Fault],
+    ) -> Result<(), AllocError>
         ensures text { OnOk result (string_bytes out.new
             ≡ string_bytes out.old ++ join_of COMMA (map fault_json faults.now)) }
         ensures kept { self.new ≡ self.old }
@@ -85,7 +89,11 @@ impl KnownTexts {
     }
 
     /// Adds the objects of the block writes, with a comma between two. It fails only when out of memory.
-    pub fn push_writes(&mut self, out: &mut String, writes: &[BlockWrite]) -> Result<(), AllocError>
+    pub fn push_writes<B: Allocator>(
+        &mut self,
+        out: &mut String<B>,
+        writes: &[BlockWrite],
+    ) -> Result<(), AllocError>
         ensures text { OnOk result (string_bytes out.new
             ≡ string_bytes out.old ++ join_of COMMA (map (write_json self.old) writes.now)) }
         ensures kept { self.new ≡ self.old }
@@ -99,7 +107,11 @@ impl KnownTexts {
 }
 
 /// The array of the ids of the set below `patches`, ascending. It fails only when out of memory.
-pub fn push_set(out: &mut String, patches: usize, set: u128) -> Result<(), AllocError>
+pub fn push_set<B: Allocator>(
+    out: &mut String<B>,
+    patches: usize,
+    set: u128,
+) -> Result<(), AllocError>
     ensures { OnOk result (string_bytes out.new ≡ string_bytes out.old ++ ids_json patches set) }
 {
     out.push_str("[")?;
@@ -109,7 +121,7 @@ pub fn push_set(out: &mut String, patches: usize, set: u128) -> Result<(), Alloc
 }
 
 /// The ids of the set below `patches`, ascending, with a comma between two.
-fn push_ids(out: &mut String, patches: usize, set: u128) -> Result<(), AllocError>
+fn push_ids<B: Allocator>(out: &mut String<B>, patches: usize, set: u128) -> Result<(), AllocError>
     ensures { OnOk result (string_bytes out.new
         ≡ string_bytes out.old ++ join_of COMMA (map decimal (ids_of patches set))) }
 {
@@ -123,8 +135,8 @@ fn push_ids(out: &mut String, patches: usize, set: u128) -> Result<(), AllocErro
 
 /// The key of the blocks that replay changes, and a comma after it, if the section has them. It fails only when out of
 /// memory.
-pub fn push_replay<A: Allocator>(
-    out: &mut String,
+pub fn push_replay<A: Allocator, B: Allocator + Copy>(
+    out: &mut String<B>,
     replay: &Option<Vec<ReplayedBlock, A>>,
 ) -> Result<(), AllocError>
     ensures { OnOk result (string_bytes out.new ≡ string_bytes out.old ++ replay_json (told_replay replay.now)) }
@@ -139,7 +151,10 @@ pub fn push_replay<A: Allocator>(
 }
 
 /// The objects of the blocks that replay changes, with a comma between two.
-fn push_replayed_blocks(out: &mut String, replay: &[ReplayedBlock]) -> Result<(), AllocError>
+fn push_replayed_blocks<B: Allocator + Copy>(
+    out: &mut String<B>,
+    replay: &[ReplayedBlock],
+) -> Result<(), AllocError>
     ensures { OnOk result (string_bytes out.new
         ≡ string_bytes out.old ++ join_of COMMA (map replayed_json (map told_block replay.now))) }
 {
@@ -151,7 +166,10 @@ fn push_replayed_blocks(out: &mut String, replay: &[ReplayedBlock]) -> Result<()
 }
 
 /// The object of a block that replay changes: its number, and its bytes after replay.
-fn push_replayed(out: &mut String, replayed: &ReplayedBlock) -> Result<(), AllocError>
+fn push_replayed<B: Allocator + Copy>(
+    out: &mut String<B>,
+    replayed: &ReplayedBlock,
+) -> Result<(), AllocError>
     ensures { OnOk result (string_bytes out.new
         ≡ string_bytes out.old ++ replayed_json (told_block replayed.now)) }
 {
@@ -163,7 +181,7 @@ fn push_replayed(out: &mut String, replayed: &ReplayedBlock) -> Result<(), Alloc
 }
 
 /// Bytes as two hexadecimal digits each, in quotes. It fails only when out of memory.
-pub fn push_hex(out: &mut String, bytes: &[u8]) -> Result<(), AllocError>
+pub fn push_hex<B: Allocator + Copy>(out: &mut String<B>, bytes: &[u8]) -> Result<(), AllocError>
     ensures { OnOk result (string_bytes out.new ≡ string_bytes out.old ++ json_string (encode_lower bytes.now)) }
 {
     let text = hex::encode(*out.allocator(), bytes)?;

@@ -19,15 +19,15 @@ use crash_model::separators::COMMA;
 use crash_model::settings::Settings;
 use disk_image::Image;
 use json_values::write_comma;
-use std::alloc::{AllocError, Allocator};
+use std::alloc::{AllocError, Allocator, Global};
 use traced_patches::Traced;
 
 /// The first keys, each with a comma after it: that operations are to be atomic, and the base if an explanation is
 /// asked for. It fails only when out of memory.
 ///
 /// They are the same whatever the patches are.
-pub fn write_first_keys<A: Allocator + Copy>(
-    out: &mut String,
+pub fn write_first_keys<A: Allocator + Copy, B: Allocator + Copy>(
+    out: &mut String<B>,
     settings: &Settings,
     base: &Image<A>,
 ) -> Result<(), AllocError>
@@ -40,7 +40,7 @@ pub fn write_first_keys<A: Allocator + Copy>(
 }
 
 /// The key of a run whose operations are to be atomic, with a comma after it. It fails only when out of memory.
-pub fn write_atomic_key(out: &mut String, atomic: bool) -> Result<(), AllocError>
+pub fn write_atomic_key<B: Allocator>(out: &mut String<B>, atomic: bool) -> Result<(), AllocError>
     ensures { OnOk result (string_bytes out.new ≡ string_bytes out.old ++ atomic_json atomic) }
 {
     if atomic {
@@ -50,8 +50,8 @@ pub fn write_atomic_key(out: &mut String, atomic: bool) -> Result<(), AllocError
 }
 
 /// The key of the base with a comma after it, where an explanation is asked for.
-fn write_explained_base<A: Allocator + Copy>(
-    out: &mut String,
+fn write_explained_base<A: Allocator + Copy, B: Allocator + Copy>(
+    out: &mut String<B>,
     base: &Image<A>,
     explain: bool,
 ) -> Result<(), AllocError>
@@ -65,11 +65,13 @@ fn write_explained_base<A: Allocator + Copy>(
 }
 
 /// The keys from `strict` on: that the run is strict, the patches if an explanation is asked for, that blocks are
-/// written whole, and the rules that are put in and taken out. It fails only when out of memory.
+/// written whole, and the rules that are put in and taken out. The patches' values take their memory from `heap`. It
+/// fails only when out of memory.
 ///
 /// They are the same over each base.
-pub fn write_from_strict<A: Allocator + Copy>(
-    out: &mut String,
+pub fn write_from_strict<A: Allocator + Copy, B: Allocator>(
+    out: &mut String<B>,
+    heap: Global,
     settings: &Settings,
     traced: &Traced<'_, A>,
 ) -> Result<(), AllocError>
@@ -77,7 +79,7 @@ pub fn write_from_strict<A: Allocator + Copy>(
         ≡ string_bytes out.old ++ from_strict settings.now (explanation_by base traced.now)) }
 {
     write_strict_key(out, settings.strict)?;
-    write_explained_trace(out, traced, settings.explain)?;
+    write_explained_trace(out, heap, traced, settings.explain)?;
     write_whole_key(out, settings.whole_blocks)?;
     write_rule_key(out, "with", settings.put_in().as_slice())?;
     write_rule_key(out, "without", settings.taken_out().as_slice())?;
@@ -85,8 +87,9 @@ pub fn write_from_strict<A: Allocator + Copy>(
 }
 
 /// The key of the patches with a comma before it, if an explanation is asked for.
-fn write_explained_trace<A: Allocator + Copy>(
-    out: &mut String,
+fn write_explained_trace<A: Allocator + Copy, B: Allocator>(
+    out: &mut String<B>,
+    heap: Global,
     traced: &Traced<'_, A>,
     explain: bool,
 ) -> Result<(), AllocError>
@@ -94,13 +97,17 @@ fn write_explained_trace<A: Allocator + Copy>(
         ≡ string_bytes out.old ++ trace_json (when explain (explanation_by base traced.now))) }
 {
     if explain {
-        write_trace(out, traced)?;
+        write_trace(out, heap, traced)?;
     }
     Ok(())
 }
 
 /// The module and the number of patches, with a comma before them. It fails only when out of memory.
-pub fn write_module(out: &mut String, module: Module, patches: usize) -> Result<(), AllocError>
+pub fn write_module<B: Allocator>(
+    out: &mut String<B>,
+    module: Module,
+    patches: usize,
+) -> Result<(), AllocError>
     ensures { OnOk result (string_bytes out.new ≡ string_bytes out.old ++ module_key «module» patches) }
 {
     out.push_str(",\"module\":\"")?;
@@ -111,7 +118,7 @@ pub fn write_module(out: &mut String, module: Module, patches: usize) -> Result<
 }
 
 /// The key of the module, with a comma before it. It fails only when out of memory.
-pub fn write_module_key(out: &mut String, module: Module) -> Result<(), AllocError>
+pub fn write_module_key<B: Allocator>(out: &mut String<B>, module: Module) -> Result<(), AllocError>
     ensures { OnOk result (string_bytes out.new ≡ string_bytes out.old
         ++ (codes ",\"module\":" ++ json_string (module_text «module»))) }
 {
@@ -121,7 +128,7 @@ pub fn write_module_key(out: &mut String, module: Module) -> Result<(), AllocErr
 }
 
 /// The key of a strict run, with a comma before it. It fails only when out of memory.
-pub fn write_strict_key(out: &mut String, strict: bool) -> Result<(), AllocError>
+pub fn write_strict_key<B: Allocator>(out: &mut String<B>, strict: bool) -> Result<(), AllocError>
     ensures { OnOk result (string_bytes out.new ≡ string_bytes out.old ++ strict_key strict) }
 {
     if strict {
@@ -131,7 +138,7 @@ pub fn write_strict_key(out: &mut String, strict: bool) -> Result<(), AllocError
 }
 
 /// The key of a run in which blocks are written whole, with a comma before it. It fails only when out of memory.
-pub fn write_whole_key(out: &mut String, whole: bool) -> Result<(), AllocError>
+pub fn write_whole_key<B: Allocator>(out: &mut String<B>, whole: bool) -> Result<(), AllocError>
     ensures { OnOk result (string_bytes out.new ≡ string_bytes out.old ++ whole_key whole) }
 {
     if whole {
@@ -141,7 +148,11 @@ pub fn write_whole_key(out: &mut String, whole: bool) -> Result<(), AllocError>
 }
 
 /// The key with the texts of the rules and a comma before it, if there are any. It fails only when out of memory.
-pub fn write_rule_key(out: &mut String, key: &str, rules: &[Rule]) -> Result<(), AllocError>
+pub fn write_rule_key<B: Allocator>(
+    out: &mut String<B>,
+    key: &str,
+    rules: &[Rule],
+) -> Result<(), AllocError>
     ensures { OnOk result (string_bytes out.new ≡ string_bytes out.old ++ rules_json key.now rules.now) }
 {
     if rules.is_empty() {
@@ -154,7 +165,7 @@ pub fn write_rule_key(out: &mut String, key: &str, rules: &[Rule]) -> Result<(),
 }
 
 /// The texts of the rules, with a comma between two. It fails only when out of memory.
-pub fn write_rule_texts(out: &mut String, rules: &[Rule]) -> Result<(), AllocError>
+pub fn write_rule_texts<B: Allocator>(out: &mut String<B>, rules: &[Rule]) -> Result<(), AllocError>
     ensures { OnOk result (string_bytes out.new
         ≡ string_bytes out.old ++ join_of COMMA (map (λ r. json_string (rule_text r)) rules.now)) }
 {

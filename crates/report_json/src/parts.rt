@@ -9,14 +9,14 @@ use report_sections::Report;
 use section_maker::WriteSets;
 use std::alloc::{AllocError, Allocator, Global};
 
-/// The objects of sets, by the report that they are of. Sections take their memory from `alloc`.
+/// Writes the objects of sets, by the report that they belong to. Texts that come again take their memory from `heap`.
 #[derive(Drop)]
 pub(crate) struct SectionObjects<'a, 'found, 'steps, 'asked, 'body, A: Allocator + Copy> {
-    pub alloc: A,
+    pub heap: Global,
     pub report: &'a Report<'found, 'steps, 'asked, 'body, A>,
 }
 
-impl<'a, 'found, 'steps, 'asked, 'body, A: Allocator + Copy> WriteSets<Global>
+impl<'a, 'found, 'steps, 'asked, 'body, A: Allocator + Copy> WriteSets<A>
     for SectionObjects<'a, 'found, 'steps, 'asked, 'body, A> {
     ghost can_write = { λ w sets. AreOnBase w.report.now.base.now w.report.now.traced.now.patches
         × AreClosed w.report.now.traced.now.patches sets };
@@ -24,7 +24,7 @@ impl<'a, 'found, 'steps, 'asked, 'body, A: Allocator + Copy> WriteSets<Global>
     ghost writes = { λ w. WritesSections (detail_by w.report.now) w.report.now.base.now
         w.report.now.traced.now.patches };
 
-    fn write(&self, out: &mut String, place: usize, sets: &[u128]) -> Result<(), AllocError> {
-        write_sections(out, self.alloc, self.report, place, sets)
+    fn write(&self, out: &mut String<A>, place: usize, sets: &[u128]) -> Result<(), AllocError> {
+        write_sections(out, self.heap, self.report, place, sets)
     }
 }

@@ -10,12 +10,12 @@ ghost use Rattle.report_json.specs.JsonReport.{base_key, trace_key};
 use crash_model::separators::COMMA;
 use disk_image::Image;
 use json_values::{patch_value, push_hex, write_comma, write_item};
-use std::alloc::{AllocError, Allocator};
+use std::alloc::{AllocError, Allocator, Global};
 use traced_patches::Traced;
 
 /// The key `base` with the bytes of each block, followed by a comma.
-pub(crate) fn write_base<A: Allocator + Copy>(
-    out: &mut String,
+pub(crate) fn write_base<A: Allocator + Copy, B: Allocator + Copy>(
+    out: &mut String<B>,
     base: &Image<A>,
 ) -> Result<(), AllocError>
     ensures { OnOk result (string_bytes out.new ≡ string_bytes out.old ++ base_key base.now) }
@@ -27,7 +27,10 @@ pub(crate) fn write_base<A: Allocator + Copy>(
 }
 
 /// The bytes of each block, with a comma between two.
-fn write_blocks<A: Allocator + Copy>(out: &mut String, base: &Image<A>) -> Result<(), AllocError>
+fn write_blocks<A: Allocator + Copy, B: Allocator + Copy>(
+    out: &mut String<B>,
+    base: &Image<A>,
+) -> Result<(), AllocError>
     ensures { OnOk result (string_bytes out.new
         ≡ string_bytes out.old ++ join_of COMMA (map hex_json (blocks_of base.now))) }
 {
@@ -38,33 +41,34 @@ fn write_blocks<A: Allocator + Copy>(out: &mut String, base: &Image<A>) -> Resul
     Ok(())
 }
 
-/// The key `trace` with the object of each patch, and a comma before it. Each is a value of its own, which is freed
-/// once it is written.
-pub(crate) fn write_trace<A: Allocator + Copy>(
-    out: &mut String,
+/// The key `trace` with the object of each patch, and a comma before it. Each is a value of its own in
+/// `heap`, which is freed once it is written.
+pub(crate) fn write_trace<A: Allocator + Copy, B: Allocator>(
+    out: &mut String<B>,
+    heap: Global,
     traced: &Traced<'_, A>,
 ) -> Result<(), AllocError>
     ensures { OnOk result (string_bytes out.new ≡ string_bytes out.old ++ trace_key traced.now) }
 {
     out.push_str(",\"trace\":[")?;
-    write_patches(out, traced)?;
+    write_patches(out, heap, traced)?;
     out.push_str("]")?;
     Ok(())
 }
 
 /// The objects of the patches, with a comma between two.
-fn write_patches<A: Allocator + Copy>(
-    out: &mut String,
+fn write_patches<A: Allocator + Copy, B: Allocator>(
+    out: &mut String<B>,
+    heap: Global,
     traced: &Traced<'_, A>,
 ) -> Result<(), AllocError>
     ensures { OnOk result (string_bytes out.new
         ≡ string_bytes out.old ++ join_of COMMA (map told_json
         (some_below (length traced.now.patches) (told_at traced.now)))) }
 {
-    let heap = *out.allocator();
     for id in 0..traced.len() {
         let value = patch_value(heap, traced, id)?;
-        write_item(out, id, &value)?;
+        write_item(out, heap, id, &value)?;
     }
     Ok(())
 }

@@ -24,16 +24,16 @@ use std::thread::Threads;
 
 /// A report as JSON: one compact object, its keys in ascending order, and a line feed.
 ///
-/// The patches change blocks of the base, and a crash can leave each of the sets. JSON takes its memory from `heap`,
-/// and sections take theirs from `alloc`; a section's is free again before the next is made. Up to `workers` workers
-/// write sections side by side. It fails only when out of memory.
+/// The patches change blocks of the base, and a crash can leave each of the sets. The texts of block writes
+/// and faults that come again and the values of patches take their memory from `heap`, and all else from `alloc`. Up to
+/// `workers` workers write sections side by side. It fails only when out of memory.
 pub fn report_json<R, A>(
     rt: &R,
     heap: Global,
     alloc: A,
     report: &Report<'_, '_, '_, '_, A>,
     workers: usize,
-) -> Result<String, AllocError>
+) -> Result<String<A>, AllocError>
 where
     R: Threads + Sync,
     A: Allocator + Copy + Send + Sync,
@@ -43,16 +43,16 @@ where
         body
         × (string_bytes text ≡ json_report report.now.settings.now (whole_of report.now body))) }
 {
-    let mut out = String::new(heap);
-    write_report(&mut out, rt, alloc, report, workers)?;
+    let mut out = String::new(alloc);
+    write_report(&mut out, rt, heap, report, workers)?;
     Ok(out)
 }
 
 /// The report, as an empty text's first.
 fn write_report<R, A>(
-    out: &mut String,
+    out: &mut String<A>,
     rt: &R,
-    alloc: A,
+    heap: Global,
     report: &Report<'_, '_, '_, '_, A>,
     workers: usize,
 ) -> Result<(), AllocError>
@@ -70,30 +70,31 @@ where
     write_first_keys(out, report.settings, report.base)?;
     let closed = report.closed;
     write!(out, "\"closed\":{closed}")?;
-    write_early(out, rt, alloc, report, workers)?;
-    write_from_module(out, report)?;
+    write_early(out, rt, heap, report, workers)?;
+    write_from_module(out, heap, report)?;
     out.push_str("}\n")?;
     Ok(())
 }
 
 /// The keys from `module` on.
 fn write_from_module<A: Allocator + Copy>(
-    out: &mut String,
+    out: &mut String<A>,
+    heap: Global,
     report: &Report<'_, '_, '_, '_, A>,
 ) -> Result<(), AllocError>
     ensures { OnOk result (WritesFromModule report.now (string_bytes out.old) (string_bytes out.new)) }
 {
     let settings = report.settings;
     write_module(out, settings.module, report.traced.graph().len())?;
-    write_late(out, report)?;
-    write_from_strict(out, settings, report.traced)
+    write_late(out, heap, report)?;
+    write_from_strict(out, heap, settings, report.traced)
 }
 
 /// The body's key before `module`.
 fn write_early<R, A>(
-    out: &mut String,
+    out: &mut String<A>,
     rt: &R,
-    alloc: A,
+    heap: Global,
     report: &Report<'_, '_, '_, '_, A>,
     workers: usize,
 ) -> Result<(), AllocError>
@@ -106,12 +107,12 @@ where
     match report.body {
         Body::Sets(sets) => {
             out.push_str(",\"failing\":[")?;
-            write_together(out, rt, &SectionObjects { alloc, report }, sets, workers)?;
+            write_together(out, rt, &SectionObjects { heap, report }, sets, workers)?;
             out.push_str("]")?;
         }
         Body::Faults(rows) => {
             out.push_str(",\"faults\":[")?;
-            write_faults(out, alloc, report, rows)?;
+            write_faults(out, heap, report, rows)?;
             out.push_str("]")?;
         }
         Body::Rules(_) => {
@@ -124,7 +125,8 @@ where
 
 /// The body's key after `patches`.
 fn write_late<A: Allocator + Copy>(
-    out: &mut String,
+    out: &mut String<A>,
+    heap: Global,
     report: &Report<'_, '_, '_, '_, A>,
 ) -> Result<(), AllocError>
     ensures { OnOk result (WritesLate report.now (string_bytes out.old) (string_bytes out.new)) }
@@ -137,7 +139,7 @@ fn write_late<A: Allocator + Copy>(
         }
         Body::Rules(rules) => {
             out.push_str(",\"rules\":[")?;
-            write_rules(out, report.traced.graph().len(), rules)?;
+            write_rules(out, heap, report.traced.graph().len(), rules)?;
             out.push_str("]")?;
         }
     }
@@ -147,8 +149,8 @@ fn write_late<A: Allocator + Copy>(
 /// The objects of the sets, the first of which has this place in an array, with a comma before each that is not the
 /// first there. The cached texts of block writes and faults serve later sets.
 pub(crate) fn write_sections<A: Allocator + Copy>(
-    out: &mut String,
-    alloc: A,
+    out: &mut String<A>,
+    heap: Global,
     report: &Report<'_, '_, '_, '_, A>,
     place: usize,
     sets: &[u128],
@@ -160,9 +162,9 @@ pub(crate) fn write_sections<A: Allocator + Copy>(
         report.now.traced.now.patches place sets.now (string_bytes out.old) (string_bytes out.new)) }
 {
     let graph = report.traced.graph();
-    let mut known = KnownTexts::new(*out.allocator(), graph.len())?;
+    let mut known = KnownTexts::new(heap, graph.len())?;
     let mut maker = SectionMaker::new(
-        alloc,
+        *out.allocator(),
         report.base,
         graph,
         report.settings.explain,
@@ -173,7 +175,7 @@ pub(crate) fn write_sections<A: Allocator + Copy>(
 
 /// The objects of the sets, the first of which has this place in an array, by a maker of their sections.
 fn write_each_section<A: Allocator + Copy>(
-    out: &mut String,
+    out: &mut String<A>,
     known: &mut KnownTexts,
     maker: &mut SectionMaker<'_, A>,
     place: usize,
@@ -193,7 +195,7 @@ fn write_each_section<A: Allocator + Copy>(
 
 /// The object of a set at this place of an array, with a comma before it if it is not the first.
 fn write_section<A: Allocator + Copy>(
-    out: &mut String,
+    out: &mut String<A>,
     at: usize,
     known: &mut KnownTexts,
     maker: &mut SectionMaker<'_, A>,
@@ -214,8 +216,8 @@ fn write_section<A: Allocator + Copy>(
 
 /// The objects of the faults, with a comma between two.
 fn write_faults<A: Allocator + Copy>(
-    out: &mut String,
-    alloc: A,
+    out: &mut String<A>,
+    heap: Global,
     report: &Report<'_, '_, '_, '_, A>,
     rows: &[FaultRow],
 ) -> Result<(), AllocError>
@@ -225,9 +227,9 @@ fn write_faults<A: Allocator + Copy>(
         report.now.traced.now.patches rows.now (string_bytes out.old) (string_bytes out.new)) }
 {
     let graph = report.traced.graph();
-    let mut known = KnownTexts::new(*out.allocator(), graph.len())?;
+    let mut known = KnownTexts::new(heap, graph.len())?;
     let mut maker = SectionMaker::new(
-        alloc,
+        *out.allocator(),
         report.base,
         graph,
         report.settings.explain,
@@ -238,7 +240,7 @@ fn write_faults<A: Allocator + Copy>(
 
 /// The objects of the faults, with a comma between two, by a maker of their sections.
 fn write_each_fault<A: Allocator + Copy>(
-    out: &mut String,
+    out: &mut String<A>,
     known: &mut KnownTexts,
     maker: &mut SectionMaker<'_, A>,
     rows: &[FaultRow],
@@ -256,7 +258,7 @@ fn write_each_fault<A: Allocator + Copy>(
 
 /// The object of a fault at this place of an array, with a comma before it if it is not the first.
 fn write_fault<A: Allocator + Copy>(
-    out: &mut String,
+    out: &mut String<A>,
     at: usize,
     known: &mut KnownTexts,
     maker: &mut SectionMaker<'_, A>,
@@ -276,14 +278,15 @@ fn write_fault<A: Allocator + Copy>(
 }
 
 /// The objects of the rules, with a comma between two. The graph has `patches` patches.
-fn write_rules<A: Allocator>(
-    out: &mut String,
+fn write_rules<A: Allocator + Copy>(
+    out: &mut String<A>,
+    heap: Global,
     patches: usize,
     rules: &[ToldRule<A>],
 ) -> Result<(), AllocError>
     ensures { OnOk result (WritesRules patches rules.now (string_bytes out.old) (string_bytes out.new)) }
 {
-    let mut known = KnownTexts::new(*out.allocator(), patches)?;
+    let mut known = KnownTexts::new(heap, patches)?;
     for (at, rule) in rules.iter().enumerate() {
         write_comma(out, at)?;
         known.push_rule(out, rule)?;

@@ -9,7 +9,7 @@ use report_sections::Report;
 use section_maker::WriteSets;
 use std::alloc::{AllocError, Allocator};
 
-/// The lines of sets, by the report that they are of.
+/// Writes the lines of sets, by the report that they belong to.
 #[derive(Drop)]
 pub(crate) struct SectionLines<'a, 'found, 'steps, 'asked, 'body, A: Allocator + Copy> {
     pub report: &'a Report<'found, 'steps, 'asked, 'body, A>,

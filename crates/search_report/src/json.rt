@@ -26,23 +26,26 @@ use std::alloc::{AllocError, Allocator, Global};
 /// A report of a search as JSON: one compact object, its keys in ascending order, and a line feed. The numbers of
 /// workloads can be more than 64 bits hold.
 ///
-/// The pool has only operations. It fails only when out of memory.
-pub fn search_json<A: Allocator>(
+/// The pool has only operations. The texts of block writes and faults that come again take their memory from `heap`, and
+/// all else from `alloc`. It fails only when out of memory.
+pub fn search_json<A: Allocator + Copy>(
     heap: Global,
+    alloc: A,
     findings: &SearchFindings<'_, A>,
-) -> Result<String, AllocError>
+) -> Result<String<A>, AllocError>
     requires { All IsOperation findings.now.pool.now }
     ensures { IfOk result (λ text. string_bytes text ≡ json_search findings.now.settings.now findings.now.most
         (length findings.now.pool.now) findings.now.found.now (told_kinds findings.now)) }
 {
-    let mut out = String::new(heap);
-    write_findings(&mut out, findings)?;
+    let mut out = String::new(alloc);
+    write_findings(&mut out, heap, findings)?;
     Ok(out)
 }
 
 /// The report, as an empty text's first.
-fn write_findings<A: Allocator>(
-    out: &mut String,
+fn write_findings<A: Allocator + Copy>(
+    out: &mut String<A>,
+    heap: Global,
     findings: &SearchFindings<'_, A>,
 ) -> Result<(), AllocError>
     requires empty { string_bytes out.old ≡ [] }
@@ -54,7 +57,7 @@ fn write_findings<A: Allocator>(
     out.push_str("{")?;
     write_atomic_key(out, findings.settings.atomic)?;
     write!(out, "\"failing\":{failing},\"kinds\":[")?;
-    write_kinds(out, findings.pool, findings.kinds)?;
+    write_kinds(out, heap, findings.pool, findings.kinds)?;
     out.push_str("]")?;
     write_module_key(out, findings.settings.module)?;
     write_last_keys(out, findings.settings, findings.most, pool, findings.found)?;
@@ -66,8 +69,8 @@ fn write_findings<A: Allocator>(
 /// blocks are written whole, which rules are put in and taken out, and how many workloads there are.
 ///
 /// It fails only when out of memory.
-pub fn write_last_keys(
-    out: &mut String,
+pub fn write_last_keys<B: Allocator>(
+    out: &mut String<B>,
     settings: &Settings,
     most: usize,
     pool: usize,
@@ -86,7 +89,10 @@ pub fn write_last_keys(
 }
 
 /// The keys that say that the run is strict, that blocks are written whole, and which rules are put in and taken out.
-fn write_ordering_keys(out: &mut String, settings: &Settings) -> Result<(), AllocError>
+fn write_ordering_keys<B: Allocator>(
+    out: &mut String<B>,
+    settings: &Settings,
+) -> Result<(), AllocError>
     ensures { OnOk result (string_bytes out.new ≡ string_bytes out.old
         ++ ordering_keys settings.now) }
 {
@@ -98,7 +104,10 @@ fn write_ordering_keys(out: &mut String, settings: &Settings) -> Result<(), Allo
 }
 
 /// The objects of the reasons for which operations are refused, with a comma between two.
-fn write_refused(out: &mut String, refused: &[RefusedCount]) -> Result<(), AllocError>
+fn write_refused<B: Allocator>(
+    out: &mut String<B>,
+    refused: &[RefusedCount],
+) -> Result<(), AllocError>
     ensures { OnOk result (string_bytes out.new
         ≡ string_bytes out.old ++ join_of COMMA (map refused_json refused.now)) }
 {
@@ -110,7 +119,7 @@ fn write_refused(out: &mut String, refused: &[RefusedCount]) -> Result<(), Alloc
 }
 
 /// The object of a reason: how many operations are refused for it, its number and its text.
-fn write_refusal(out: &mut String, refusal: RefusedCount) -> Result<(), AllocError>
+fn write_refusal<B: Allocator>(out: &mut String<B>, refusal: RefusedCount) -> Result<(), AllocError>
     ensures { OnOk result (string_bytes out.new ≡ string_bytes out.old ++ refused_json refusal) }
 {
     let (number, text) = (refusal.reason.number(), refusal.reason.text());
@@ -123,8 +132,9 @@ fn write_refusal(out: &mut String, refusal: RefusedCount) -> Result<(), AllocErr
 }
 
 /// The objects of the kinds of faults, with a comma between two.
-fn write_kinds<A: Allocator>(
-    out: &mut String,
+fn write_kinds<A: Allocator + Copy>(
+    out: &mut String<A>,
+    heap: Global,
     pool: &[Step],
     kinds: &[KindCrash<'_, A>],
 ) -> Result<(), AllocError>
@@ -133,15 +143,16 @@ fn write_kinds<A: Allocator>(
 {
     for (at, crash) in kinds.iter().enumerate() {
         write_comma(out, at)?;
-        write_kind(out, pool, crash)?;
+        write_kind(out, heap, pool, crash)?;
     }
     Ok(())
 }
 
 /// The object of a kind of fault. The cached texts of block writes and faults serve only this one, whose workload has
 /// patches of its own.
-fn write_kind<A: Allocator>(
-    out: &mut String,
+fn write_kind<A: Allocator + Copy>(
+    out: &mut String<A>,
+    heap: Global,
     pool: &[Step],
     crash: &KindCrash<'_, A>,
 ) -> Result<(), AllocError>
@@ -149,7 +160,7 @@ fn write_kind<A: Allocator>(
     ensures { OnOk result (string_bytes out.new ≡ string_bytes out.old ++ kind_json (told_kind pool.now crash.now)) }
 {
     let (section, workloads) = (&crash.section, crash.shown.workloads);
-    let mut known = KnownTexts::new(*out.allocator(), crash.patches)?;
+    let mut known = KnownTexts::new(heap, crash.patches)?;
     write_head(out, &mut known, crash)?;
     out.push_str("\"set\":")?;
     push_set(out, crash.patches, section.set)?;
@@ -162,8 +173,8 @@ fn write_kind<A: Allocator>(
 }
 
 /// The keys of a kind's object before the set.
-fn write_head<A: Allocator>(
-    out: &mut String,
+fn write_head<A: Allocator + Copy>(
+    out: &mut String<A>,
     known: &mut KnownTexts,
     crash: &KindCrash<'_, A>,
 ) -> Result<(), AllocError>
@@ -182,7 +193,11 @@ fn write_head<A: Allocator>(
 /// pool.
 ///
 /// The pool has operations alone. It fails only when out of memory.
-pub fn write_steps(out: &mut String, pool: &[Step], places: &[usize]) -> Result<(), AllocError>
+pub fn write_steps<B: Allocator + Copy>(
+    out: &mut String<B>,
+    pool: &[Step],
+    places: &[usize],
+) -> Result<(), AllocError>
     requires { All IsOperation pool.now }
     ensures { OnOk result (string_bytes out.new ≡ string_bytes out.old
         ++ join_of COMMA (map (λ step. json_string (step_text step)) (steps_at pool.now places.now))) }
@@ -193,7 +208,7 @@ pub fn write_steps(out: &mut String, pool: &[Step], places: &[usize]) -> Result<
 }
 
 /// The texts of the operations, with a comma between two.
-fn write_operations(out: &mut String, ops: &[&Op]) -> Result<(), AllocError>
+fn write_operations<B: Allocator>(out: &mut String<B>, ops: &[&Op]) -> Result<(), AllocError>
     ensures { OnOk result (string_bytes out.new
         ≡ string_bytes out.old ++ join_of COMMA (map (λ op. json_string (op_text op.now)) ops.now)) }
 {
@@ -205,7 +220,7 @@ fn write_operations(out: &mut String, ops: &[&Op]) -> Result<(), AllocError>
 }
 
 /// The text of an operation, in quotes.
-fn write_operation(out: &mut String, op: &Op) -> Result<(), AllocError>
+fn write_operation<B: Allocator>(out: &mut String<B>, op: &Op) -> Result<(), AllocError>
     ensures { OnOk result (string_bytes out.new ≡ string_bytes out.old ++ json_string (op_text op.now)) }
 {
     write!(out, "\"{op}\"")

@@ -13,8 +13,8 @@ use std::alloc::{AllocError, Allocator, Global};
 
 /// A report of a search as text, or as JSON if the settings ask for that.
 ///
-/// The pool has only operations. JSON takes its memory from `heap`, and all else from `alloc`. It fails only when out
-/// of memory.
+/// The pool has only operations. Some parts of JSON take their memory from `heap`, and all else takes it from
+/// `alloc`. It fails only when out of memory.
 pub fn search_report<A: Allocator + Copy>(
     heap: Global,
     alloc: A,
@@ -25,8 +25,7 @@ pub fn search_report<A: Allocator + Copy>(
         (length findings.now.pool.now) findings.now.found.now (told_kinds findings.now)) }
 {
     if findings.settings.json {
-        let text = search_json(heap, findings)?;
-        String::from_str(alloc, text.as_str())
+        search_json(heap, alloc, findings)
     } else {
         search_text(alloc, findings)
     }

@@ -19,24 +19,27 @@ use std::alloc::{AllocError, Allocator, Global};
 /// A report of the rules that the workloads of a search need as JSON: one compact object, its keys in ascending order,
 /// and a line feed. The numbers of workloads can be more than 64 bits hold.
 ///
-/// The pool has operations alone. It fails only when out of memory.
-pub fn search_rules_json<A: Allocator>(
+/// The pool has only operations. The texts of block writes and faults that come again take their memory from `heap`,
+/// and all else from `alloc`. It fails only when out of memory.
+pub fn search_rules_json<A: Allocator + Copy>(
     heap: Global,
+    alloc: A,
     findings: &SearchRulesFindings<'_, A>,
-) -> Result<String, AllocError>
+) -> Result<String<A>, AllocError>
     requires { All IsOperation findings.now.pool.now }
     ensures { IfOk result (λ text. string_bytes text ≡ json_search_rules findings.now.settings.now findings.now.most
         (length findings.now.pool.now) findings.now.found.now findings.now.enough.now (told_needs findings.now)) }
 {
     let ordering = findings.settings.ordering();
-    let mut out = String::new(heap);
-    write_findings(&mut out, &ordering, findings)?;
+    let mut out = String::new(alloc);
+    write_findings(&mut out, heap, &ordering, findings)?;
     Ok(out)
 }
 
 /// The report, as an empty text's first.
-fn write_findings<A: Allocator>(
-    out: &mut String,
+fn write_findings<A: Allocator + Copy>(
+    out: &mut String<A>,
+    heap: Global,
     ordering: &Ordering,
     findings: &SearchRulesFindings<'_, A>,
 ) -> Result<(), AllocError>
@@ -54,15 +57,16 @@ fn write_findings<A: Allocator>(
     write!(out, "],\"failing\":{failing}")?;
     write_module_key(out, findings.settings.module)?;
     out.push_str(",\"needs\":[")?;
-    write_needs(out, ordering, findings.pool, findings.needs)?;
+    write_needs(out, heap, ordering, findings.pool, findings.needs)?;
     out.push_str("]")?;
     write_last_keys(out, findings.settings, findings.most, pool, findings.found)?;
     Ok(())
 }
 
 /// The objects of the groups of which one rule is needed, with a comma between two.
-fn write_needs<A: Allocator>(
-    out: &mut String,
+fn write_needs<A: Allocator + Copy>(
+    out: &mut String<A>,
+    heap: Global,
     ordering: &Ordering,
     pool: &[Step],
     needs: &[NeededWorkload<A>],
@@ -73,15 +77,16 @@ fn write_needs<A: Allocator>(
 {
     for (at, needed) in needs.iter().enumerate() {
         write_comma(out, at)?;
-        write_need(out, ordering, pool, needed)?;
+        write_need(out, heap, ordering, pool, needed)?;
     }
     Ok(())
 }
 
 /// The object of a group of which one rule is needed, with the steps of the first workload that fails without it and
 /// the first fault of that. The texts of block writes serve this one, whose workload has patches of its own.
-fn write_need<A: Allocator>(
-    out: &mut String,
+fn write_need<A: Allocator + Copy>(
+    out: &mut String<A>,
+    heap: Global,
     ordering: &Ordering,
     pool: &[Step],
     needed: &NeededWorkload<A>,
@@ -91,7 +96,7 @@ fn write_need<A: Allocator>(
         ≡ string_bytes out.old ++ need_json ordering.now.rules.items (told_need pool.now needed.now)) }
 {
     let section = &needed.fault.section;
-    let mut known = KnownTexts::new(*out.allocator(), needed.patches)?;
+    let mut known = KnownTexts::new(heap, needed.patches)?;
     write_group_head(out, &mut known, ordering, needed.group, &needed.fault)?;
     out.push_str(",\"set\":")?;
     push_set(out, needed.patches, section.set)?;

@@ -13,8 +13,8 @@ use std::alloc::{AllocError, Allocator, Global};
 
 /// A report of the rules that the workloads of a search need as text, or as JSON where the settings ask for that.
 ///
-/// The pool has operations alone. JSON takes its memory from `heap`, and all else from `alloc`. It fails only when out
-/// of memory.
+/// The pool has operations alone. Some parts of JSON take their memory from `heap`, and all else takes it from
+/// `alloc`. It fails only when out of memory.
 pub fn search_rules_report<A: Allocator + Copy>(
     heap: Global,
     alloc: A,
@@ -25,8 +25,7 @@ pub fn search_rules_report<A: Allocator + Copy>(
         (length findings.now.pool.now) findings.now.found.now findings.now.enough.now (told_needs findings.now)) }
 {
     if findings.settings.json {
-        let text = search_rules_json(heap, findings)?;
-        String::from_str(alloc, text.as_str())
+        search_rules_json(heap, alloc, findings)
     } else {
         search_rules_text(alloc, findings)
     }

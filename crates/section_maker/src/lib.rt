@@ -1,5 +1,5 @@
-//! Sections of a report, made from set to set in the images of one of them, and texts of sets that workers write side by
-//! side.
+//! Sections of a report, made from set to set in the images of one of them, and texts of sets that workers write side
+//! by side.
 #![tactic(auto)]
 
 pub mod maker;

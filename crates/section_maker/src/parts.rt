@@ -11,12 +11,13 @@ use std::thread::Threads;
 /// Fewer sets than this are not shared out, since a thread would take longer to start.
 const SHARED: usize = 64;
 
-/// What is written of each set of a list, one after another.
+/// Writes something of each set of a list, one after another.
 pub trait WriteSets<A: Allocator> {
     /// The lists of sets that can be written.
     ghost can_write: { Self → List ℕ → Type 0 };
 
-    /// A text, before and after a list of sets is added to it, of which the first has this place among all sets.
+    /// The texts that there may be once a list of sets is added to a text. The place of the first set among all sets
+    /// comes first, then the list, the text before and the text after.
     ghost writes: { Self → ℕ → List ℕ → List ℕ → List ℕ → Type 0 };
 
     /// Adds what is written of each of the sets. The first of them has this place among all sets. It fails only when

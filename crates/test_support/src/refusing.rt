@@ -28,8 +28,8 @@ impl Gauge {
         }
     }
 
-    /// Counts anew, and refuses the requests from `first` to `last`, of which 1 is the next. A grown or shrunk block is a
-    /// request too, for all its bytes.
+    /// Counts anew, and refuses the requests from `first` to `last`, of which 1 is the next. A grown or shrunk block is
+    /// a request too, for all its bytes.
     pub fn refuse(&self, first: u64, last: u64) {
         self.first.store(first, SeqCst);
         self.last.store(last, SeqCst);

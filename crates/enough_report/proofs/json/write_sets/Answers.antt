@@ -4,7 +4,7 @@ use Rattle.json_values.proofs.Commas.{taken_more}
 use Rattle.enough_report.proofs.json.write_sets.Goals as goal
 
 pub loop-at-preserved : goal.loop-at-preserved
-loop-at-preserved c =
+loop-at-preserved g c =
     let form = set_json c.args.ordering.now.rules.items in
     let text = form (get_or c.args.sets.now c.loop-at.at 0) in
     taken_more form c.args.sets.now c.loop-at.at 0 (string_bytes c.args.out.now)

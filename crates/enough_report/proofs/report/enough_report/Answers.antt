@@ -1,17 +1,17 @@
 use Rattle.std.proofs.Common.{◌≡◌, string_bytes, ◌∙◌}
 use Rattle.std.proofs.lemmas.Result.{IfOk-weaker}
-use Rattle.enough_model.specs.EnoughReport.{rules_report_bytes, text_rules_report}
+use Rattle.enough_model.specs.EnoughReport.{json_rules_report, rules_report_bytes, text_rules_report}
 use Rattle.enough_report.specs.Found.{report_of}
 use Rattle.enough_report.proofs.Pieces.{as_json, as_text}
 use Rattle.enough_report.proofs.report.enough_report.Goals as goal
 
-pub returns-in_ok-text : goal.returns-in_ok-text
-returns-in_ok-text g c =
+pub returns-then-found : goal.returns-then-found
+returns-then-found g c =
     let found = c.args.found.now in
-    IfOk-weaker c.from_str.result (λ text. string_bytes text ≡ c.as_str.result.now)
+    IfOk-weaker c.enough_json.result
+    (λ text. string_bytes text ≡ json_rules_report found.settings.now (report_of found))
     (λ text. string_bytes text ≡ rules_report_bytes found.settings.now (report_of found))
-    (λ text same. same ∙ (c.as_str.ensures.value ∙ (c.in_ok-text.ensures ∙ as_json found c.if-found.true)))
-    c.from_str.ensures.ok
+    (λ text same. same ∙ as_json found c.if-found.true) c.enough_json.ensures
 
 pub returns-else-found : goal.returns-else-found
 returns-else-found g c =

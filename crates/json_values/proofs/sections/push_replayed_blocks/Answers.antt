@@ -23,13 +23,13 @@ block_more blocks at d old so_far comma after within tells is more =
     (more ∙ ap (λ (t : List ℕ). t ++ text) is)
 
 pub loop-at-preserved : goal.loop-at-preserved
-loop-at-preserved c =
+loop-at-preserved g c =
     block_more c.args.replay.now c.loop-at.at _ (string_bytes c.args.out.now) (string_bytes c.loop-at.out)
     (string_bytes c.write_comma.new.out) (string_bytes c.push_replayed.new.out) c.loop-at-test.true
     c.loop-at.invariant c.in_ok-write_comma.ensures c.in_ok-push_replayed.ensures
 
 pub returns : goal.returns
-returns c =
+returns g c =
     let before = string_bytes c.args.out.now in
     c.loop-at.invariant
     ∙ (ap (λ (rs : List ReplayedBlock). before ++ join_of 44 (map form rs))

@@ -5,5 +5,5 @@ use Rattle.report_sections.specs.Replay.{told_block}
 use Rattle.json_values.proofs.sections.push_replayed_blocks.Given as goal
 
 abbrev pub invariant-loop-at : goal.invariant-loop-at
-invariant-loop-at l = string_bytes l.out ≡ string_bytes l.initial.out
+invariant-loop-at g l = string_bytes l.out ≡ string_bytes l.initial.out
     ++ join_of 44 (map (λ r. replayed_json (told_block r)) (take l.at l.replay))

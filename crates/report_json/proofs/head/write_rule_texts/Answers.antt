@@ -12,7 +12,7 @@ abbrev no_rule : Rule
 no_rule = same_rule (Change InodeInit) (Change InodeInit)
 
 pub loop-at-preserved : goal.loop-at-preserved
-loop-at-preserved c =
+loop-at-preserved g c =
     let text = json_string (rule_text (get_or c.args.rules.now c.loop-at.at no_rule)) in
     taken_more (λ r. json_string (rule_text r)) c.args.rules.now c.loop-at.at no_rule (string_bytes c.args.out.now)
     (string_bytes c.loop-at.out) (string_bytes c.write.new.self) text c.loop-at-test.true c.loop-at.invariant refl

@@ -5,5 +5,5 @@ use Rattle.crash_model.specs.Rules.{rule_text}
 use Rattle.report_json.proofs.head.write_rule_texts.Given as goal
 
 abbrev pub invariant-loop-at : goal.invariant-loop-at
-invariant-loop-at l = string_bytes l.out ≡ string_bytes l.initial.out
+invariant-loop-at g l = string_bytes l.out ≡ string_bytes l.initial.out
     ++ join_of 44 (map (λ r. json_string (rule_text r)) (take l.at l.rules))

@@ -6,7 +6,7 @@ use Rattle.search_report.proofs.JsonPieces.{last_pieces}
 use Rattle.search_report.proofs.json.write_last_keys.Goals as goal
 
 pub returns : goal.returns
-returns c =
+returns g c =
     let refused = ap (λ (rs : List RefusedCount). string_bytes c.write.new.self ++ join_of 44 (map refused_json rs))
     c.as_slice.ensures.value in
     last_pieces c.args.settings.now c.args.most c.args.pool c.args.found.now (string_bytes c.args.out.now) _ _ _ _ _

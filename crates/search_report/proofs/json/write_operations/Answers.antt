@@ -6,7 +6,7 @@ use Rattle.search_report.proofs.Lent.{act_json, asked}
 use Rattle.search_report.proofs.json.write_operations.Goals as goal
 
 pub loop-at-preserved : goal.loop-at-preserved
-loop-at-preserved c =
+loop-at-preserved g c =
     let form : Bor Op → List ℕ = λ op. act_json (asked op) in
     let text = form c.index-ops-at.result in
     taken_more form c.args.ops.now c.loop-at.at c.index-ops-at.result (string_bytes c.args.out.now)

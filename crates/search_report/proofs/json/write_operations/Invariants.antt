@@ -5,5 +5,5 @@ use Rattle.report_model.specs.Report.{json_string}
 use Rattle.search_report.proofs.json.write_operations.Given as goal
 
 abbrev pub invariant-loop-at : goal.invariant-loop-at
-invariant-loop-at l = string_bytes l.out ≡ string_bytes l.initial.out
+invariant-loop-at g l = string_bytes l.out ≡ string_bytes l.initial.out
     ++ join_of 44 (map (λ op. json_string (op_text op.now)) (take l.at l.ops))

@@ -4,7 +4,7 @@ use Rattle.report_sections.proofs.Pieces.{four_pieces}
 use Rattle.search_report.proofs.json.write_ordering_keys.Goals as goal
 
 pub returns : goal.returns
-returns c =
+returns g c =
     let settings = c.args.settings.now in
     let whole = string_bytes c.write_whole_key.new.out in
     let with : string_bytes c.write_rule_key.new.out ≡ whole ++ rules_json (codes "with") (told_with settings) =

@@ -10,7 +10,7 @@ abbrev no_refusal : RefusedCount
 no_refusal = record { reason = TooManyPatches; count = 0 }
 
 pub loop-at-preserved : goal.loop-at-preserved
-loop-at-preserved c =
+loop-at-preserved g c =
     let text = refused_json (get_or c.args.refused.now c.loop-at.at no_refusal) in
     taken_more refused_json c.args.refused.now c.loop-at.at no_refusal (string_bytes c.args.out.now)
     (string_bytes c.loop-at.out) (string_bytes c.write_refusal.new.out) text c.loop-at-test.true c.loop-at.invariant

@@ -4,5 +4,5 @@ use Rattle.search_model.specs.SearchReport.{refused_json}
 use Rattle.search_report.proofs.json.write_refused.Given as goal
 
 abbrev pub invariant-loop-at : goal.invariant-loop-at
-invariant-loop-at l = string_bytes l.out ≡ string_bytes l.initial.out
+invariant-loop-at g l = string_bytes l.out ≡ string_bytes l.initial.out
     ++ join_of 44 (map refused_json (take l.at l.refused))

@@ -8,7 +8,7 @@ use Rattle.search_report.proofs.Lent.{act_json, asked}
 use Rattle.search_report.proofs.json.write_steps.Goals as goal
 
 pub returns : goal.returns
-returns c =
+returns g c =
     let before = string_bytes c.args.out.now in
     let texts = ap (λ (ops : List (Bor Op)). before ++ join_of 44 (map (λ op. act_json (asked op)) ops))
     c.deref.ensures.value in

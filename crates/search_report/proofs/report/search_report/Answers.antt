@@ -1,18 +1,17 @@
 use Rattle.std.proofs.Common.{◌≡◌, length, string_bytes, ◌∙◌}
 use Rattle.std.proofs.lemmas.Result.{IfOk-weaker}
-use Rattle.search_model.specs.SearchReport.{search_bytes, text_search}
+use Rattle.search_model.specs.SearchReport.{json_search, search_bytes, text_search}
 use Rattle.search_report.specs.Findings.{told_kinds}
 use Rattle.search_report.proofs.Forms.{as_json, as_text}
 use Rattle.search_report.proofs.report.search_report.Goals as goal
 
-pub returns-in_ok-text : goal.returns-in_ok-text
-returns-in_ok-text g c =
+pub returns-then-findings : goal.returns-then-findings
+returns-then-findings g c =
     let f = c.args.findings.now in
-    IfOk-weaker c.from_str.result (λ text. string_bytes text ≡ c.as_str.result.now)
-    (λ text. string_bytes text
-    ≡ search_bytes f.settings.now f.most (length f.pool.now) f.found.now (told_kinds f))
-    (λ text same. same ∙ (c.as_str.ensures.value ∙ (c.in_ok-text.ensures ∙ as_json f c.if-findings.true)))
-    c.from_str.ensures.ok
+    IfOk-weaker c.search_json.result
+    (λ text. string_bytes text ≡ json_search f.settings.now f.most (length f.pool.now) f.found.now (told_kinds f))
+    (λ text. string_bytes text ≡ search_bytes f.settings.now f.most (length f.pool.now) f.found.now (told_kinds f))
+    (λ text same. same ∙ as_json f c.if-findings.true) c.search_json.ensures
 
 pub returns-else-findings : goal.returns-else-findings
 returns-else-findings g c =

@@ -1,15 +1,14 @@
 use Rattle.std.proofs.Common.{◌≡◌, string_bytes, ◌∙◌}
 use Rattle.std.proofs.lemmas.Result.{IfOk-weaker}
-use Rattle.search_rules_report.proofs.Forms.{as_json, as_text, asked_bytes, in_text}
+use Rattle.search_rules_report.proofs.Forms.{as_json, as_text, asked_bytes, in_json, in_text}
 use Rattle.search_rules_report.proofs.report.search_rules_report.Goals as goal
 
-pub returns-in_ok-text : goal.returns-in_ok-text
-returns-in_ok-text g c =
+pub returns-then-findings : goal.returns-then-findings
+returns-then-findings g c =
     let f = c.args.findings.now in
-    IfOk-weaker c.from_str.result (λ text. string_bytes text ≡ c.as_str.result.now)
-    (λ text. string_bytes text ≡ asked_bytes f)
-    (λ text same. same ∙ (c.as_str.ensures.value ∙ (c.in_ok-text.ensures ∙ as_json f c.if-findings.true)))
-    c.from_str.ensures.ok
+    IfOk-weaker c.search_rules_json.result (λ text. string_bytes text ≡ in_json f)
+    (λ text. string_bytes text ≡ asked_bytes f) (λ text same. same ∙ as_json f c.if-findings.true)
+    c.search_rules_json.ensures
 
 pub returns-else-findings : goal.returns-else-findings
 returns-else-findings g c =

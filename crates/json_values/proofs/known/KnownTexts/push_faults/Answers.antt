@@ -10,7 +10,7 @@ abbrev no_fault : Fault
 no_fault = Dangling 0 0 0
 
 pub loop-at-preserved : goal.loop-at-preserved
-loop-at-preserved c =
+loop-at-preserved g c =
     let kept : c.push_fault.new.self ≡ c.args.self.now = c.in_ok-push_fault.ensures.kept ∙ c.loop-at.invariant.kept in
     let text = fault_json (get_or c.args.faults.now c.loop-at.at no_fault) in
     let told : string_bytes c.push_fault.new.out ≡ string_bytes c.write_comma.new.out ++ text =

@@ -4,7 +4,7 @@ use Rattle.json_values.specs.Known.{fault_json}
 use Rattle.json_values.proofs.known.KnownTexts.push_faults.Given as goal
 
 abbrev pub invariant-loop-at : goal.invariant-loop-at
-invariant-loop-at l = record {
+invariant-loop-at g l = record {
   text : string_bytes l.out ≡ string_bytes l.initial.out ++ join_of 44 (map fault_json (take l.at l.faults));
   kept : l.self ≡ l.initial.self;
 }

@@ -9,7 +9,7 @@ abbrev no_write : BlockWrite
 no_write = record { block = 0; ids = 0 }
 
 pub loop-at-preserved : goal.loop-at-preserved
-loop-at-preserved c =
+loop-at-preserved g c =
     let kept : c.push_write.new.self ≡ c.args.self.now = c.in_ok-push_write.ensures.kept ∙ c.loop-at.invariant.kept in
     let text = (write_json c.args.self.now) (get_or c.args.writes.now c.loop-at.at no_write) in
     let told : string_bytes c.push_write.new.out ≡ string_bytes c.write_comma.new.out ++ text =
