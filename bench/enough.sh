@@ -1,7 +1,7 @@
 #!/usr/bin/env bash
 # enough.sh [COUNT [SEED]]: how long a whole run of --enough --strict takes on random scripts of 100 to 124 patches. It
-# makes COUNT scripts (60) of each kind: soft updates with their twelve rules, and the two journals with their seven. Not
-# part of the gate.
+# makes COUNT scripts (60) of each kind: soft updates with their twelve rules, and the two journals with their seven.
+# Not part of the gate.
 #
 # Each script is run ROUNDS times (3) by one worker, and the shortest run counts. Every run is a process of its own, so
 # the time to start it is part of each number. CRASHMAP_PROGRAM names another program to time than the one that is built

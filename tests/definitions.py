@@ -48,7 +48,8 @@ ROWS = {
     "--atomic": ["crash_model/Atomic", "crash_model/Strict disk_after", "crash_model/Checker /pub disks|Some disks/",
                  "crash_model/Texts /HalfDone/", "report_model/Whole atomic_json", "report_model/Whole /atomic/"],
     "--explain": ["crash_model/Reasons", "crash_model/Texts op_text", "crash_model/Rules part_text",
-                  "crash_model/Trace rules_between", "report_model/Explain", "report_model/Whole /pub explanation|trace_json/",
+                  "crash_model/Trace rules_between", "report_model/Explain",
+                  "report_model/Whole /pub explanation|trace_json/",
                   "report_model/Report ReplayedBlock changed_blocks replay_of replayed_text replay_text replayed_json "
                   "replay_json"],
     "--summary": ["crash_model/FaultRows", "report_model/Summary", "report_model/Whole /Faults/",

@@ -171,8 +171,8 @@ function checkLists(json) {
 export function checkReport(json) {
   if (!isObject(json)) throw new ReportError(`A report is a JSON object, but this file holds ${kindOf(json)}.`);
   if (json.search !== undefined) {
-    throw new ReportError("This is the report of a search. The page shows the report of one script: make it of the steps " +
-      "of a workload.");
+    throw new ReportError("This is the report of a search. The page shows the report of one script: make it of the " +
+      "steps of a workload.");
   }
   if (json.base === undefined || json.trace === undefined) {
     throw new ReportError("This report does not say what its patches are. Make it with --json --explain --summary.");

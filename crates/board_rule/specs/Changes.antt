@@ -1,5 +1,6 @@
 -- What steps make of a view.
-use Rattle.std.specs.Prelude.{ℕ, ◌+◌, max, List, [], ◌∷◌, ◌++◌, length, slice_set, replicate, if◌then◌else◌, ◌==◌, ◌/◌, ◌%◌}
+use Rattle.std.specs.Prelude.{ℕ, ◌+◌, max, List, [], ◌∷◌, ◌++◌, length, slice_set, replicate, if◌then◌else◌, ◌==◌}
+use Rattle.std.specs.Prelude.{◌/◌, ◌%◌}
 use Rattle.board_rule.specs.declared.shards.TheConstants.{SHARDS}
 use Rattle.board_rule.specs.Layout.{half, length_word, low_word, high_word, index_word, size_for, place_of, slot}
 use Rattle.board_rule.specs.Lists.{row_of, longer_rows, agree}

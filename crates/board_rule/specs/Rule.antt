@@ -1,6 +1,6 @@
 -- The rule of a board's table: one fact for each subject.
-use Rattle.std.specs.Prelude.{◌≡◌, ℕ, ◌+◌, ◌*◌, ◌/◌, ◌%◌, ◌^◌, ◌<◌, ◌≤◌, ◌⊎◌, List, [], ◌∷◌, length, slice_index, if◌then◌else◌}
-use Rattle.std.specs.Prelude.{◌==◌, nat_lt, Contains}
+use Rattle.std.specs.Prelude.{◌≡◌, ℕ, ◌+◌, ◌*◌, ◌/◌, ◌%◌, ◌^◌, ◌<◌, ◌≤◌, ◌⊎◌, List, [], ◌∷◌, length, slice_index}
+use Rattle.std.specs.Prelude.{if◌then◌else◌, ◌==◌, nat_lt, Contains}
 use Rattle.std.specs.List.{All}
 use Rattle.board_rule.specs.declared.shards.TheConstants.{SHARDS}
 use mathlib.Core.Option.{some}

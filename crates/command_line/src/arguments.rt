@@ -175,8 +175,8 @@ static HEADS: [Head; 5] = [
             Entry {
                 name: "decide",
                 takes: Takes::NothingWithout(&["limit", "explorer", "summary", "needs"]),
-                help: "Find each fault of any closed set, with the first set that has it, however many closed sets there \
-                       are",
+                help: "Find each fault of any closed set, with the first set that has it, however many closed sets \
+                       there are",
             },
             Entry {
                 name: "enough",

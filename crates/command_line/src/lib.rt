@@ -39,9 +39,9 @@ pub struct Call<'a> {
 
 /// Reads the words of a command line, without the program's name.
 ///
-/// Each rule to take out is one of the module's. An option has at most 16 rules, each given by its own word, and none is
-/// given twice, to one option or to both. A fault of the command line, a request for help or for the version, and out of
-/// memory are `clap`'s errors.
+/// Each rule to take out is one of the module's. An option has at most 16 rules, each given by its own word, and none
+/// is given twice, to one option or to both. A fault of the command line, a request for help or for the version, and
+/// out of memory are `clap`'s errors.
 pub fn settings_of<'a>(heap: Global, words: &'a [&'a str]) -> Result<Call<'a>, Error>
     ensures ranges { IfOk result (λ call. IsInRanges call.request) }
     ensures without { IfOk result (λ call.

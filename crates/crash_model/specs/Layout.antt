@@ -1,5 +1,6 @@
 -- What the bytes of a disk mean. Inodes are in blocks 2 and 3, 16 bytes each, so inode i begins at byte 256 + 16 * i.
-use Rattle.std.specs.Prelude.{ℕ, ◌+◌, ◌-◌, ◌*◌, ◌/◌, ◌%◌, List, take, drop, slice_index, Bool, ◌&&◌, ◌==◌, not, nat_le, nat_lt}
+use Rattle.std.specs.Prelude.{ℕ, ◌+◌, ◌-◌, ◌*◌, ◌/◌, ◌%◌, List, take, drop, slice_index, Bool, ◌&&◌, ◌==◌, not}
+use Rattle.std.specs.Prelude.{nat_le, nat_lt}
 use Rattle.crash_model.specs.declared.disk_bytes.TheConstants.{BLOCK_SIZE, MAP_AT, INODE_BLOCK, JOURNAL_AT, INODES}
 use Rattle.crash_model.specs.declared.disk_bytes.TheConstants.{INODES_IN_BLOCK, INODE_SIZE, KINDS_AT, LINKS_AT}
 use Rattle.crash_model.specs.declared.disk_bytes.TheConstants.{POINTERS_AT, ENTRIES_FROM, ENTRY_SIZE, SPELLING_SIZE}

@@ -176,7 +176,8 @@ test fails fault = record { fails = fails; fault = fault }
 -- ten different names
 abbrev pub IsFull : View → ℕ → Type 0
 IsFull v dir =
-    (name : ℕ → List ℕ) × ((k : ℕ) → k < ENTRIES → LeadsTo v dir (name k)) × ((j k : ℕ) → j < k → k < ENTRIES → name j ≢ name k)
+    (name : ℕ → List ℕ) × ((k : ℕ) → k < ENTRIES → LeadsTo v dir (name k))
+    × ((j k : ℕ) → j < k → k < ENTRIES → name j ≢ name k)
 
 abbrev pub NoInodeLeft : View → Type 0
 NoInodeLeft v = (i : ℕ) → i < INODES → IsInode v i

@@ -28,7 +28,8 @@ pub record IsSound (d : Disk) : Type 0 where
   pub packed : (i : ℕ) → i < INODES → kind_of d i ≡ FILE_KIND → (s : ℕ) → s + 1 < SLOTS → pointer_of d i s ≡ 0
       → pointer_of d i (s + 1) ≡ 0
   -- entries have names, those of one directory different ones
-  pub named : (dir : ℕ) → dir < INODES → (k : ℕ) → k < ENTRIES → IsTrue (is_entry d dir k) → (name : List ℕ) × IsName name
+  pub named : (dir : ℕ) → dir < INODES → (k : ℕ) → k < ENTRIES → IsTrue (is_entry d dir k)
+    → (name : List ℕ) × IsName name
       × (spelling_of d dir k ≡ name_spelling name)
   pub distinct : (dir : ℕ) → dir < INODES → (j k : ℕ) → j < k → k < ENTRIES → IsTrue (is_entry d dir j)
       → IsTrue (is_entry d dir k) → spelling_of d dir j ≢ spelling_of d dir k
@@ -45,4 +46,5 @@ pub record IsSound (d : Disk) : Type 0 where
 -- no journal block has a byte that is not 0
 abbrev pub HasZeroJournal : Disk → Type 0
 HasZeroJournal d =
-    (block : ℕ) → JOURNAL_AT ≤ block → block < JOURNAL_AT + d.journal → (offset : ℕ) → offset < BLOCK_SIZE → byte d block offset ≡ 0
+    (block : ℕ) → JOURNAL_AT ≤ block → block < JOURNAL_AT + d.journal → (offset : ℕ) → offset < BLOCK_SIZE
+    → byte d block offset ≡ 0

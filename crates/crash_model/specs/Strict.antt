@@ -50,7 +50,8 @@ unfoldable pub reach_in : Disk → ℕ → List ℕ
 reach_in d zero = ids_below INODES (λ inode. inode == 0 && kind_of d 0 == DIRECTORY_KIND)
 reach_in d (suc n) =
     let before = reach_in d n in
-    ids_below INODES (λ inode. is_in before inode || (is_live d inode && list_any (λ dir. has_entry_to d dir inode) before))
+    ids_below INODES
+        (λ inode. is_in before inode || (is_live d inode && list_any (λ dir. has_entry_to d dir inode) before))
 
 -- each of the 16 inodes that is reached is reached in at most 16 steps
 unfoldable pub is_reached : Disk → ℕ → Bool

@@ -11,8 +11,8 @@ pub const LEAST_BLOCKS: usize = 16;
 /// Blocks of the largest disk.
 pub const MOST_BLOCKS: usize = 128;
 
-/// The fewest blocks that a disk has besides its journal's: the superblock, the map, two of inodes, the root directory's
-/// block, and one to spare.
+/// The fewest blocks that a disk has besides its journal's: the superblock, the map, two of inodes, the root
+/// directory's block, and one to spare.
 pub const OTHER_BLOCKS: usize = 6;
 
 /// Where the allocation map begins on the disk: it is block 1.

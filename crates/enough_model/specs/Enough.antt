@@ -1,5 +1,5 @@
--- Which rules of an ordering a trace needs, and which sets of them suffice. A set of rules is the set of their places in
--- the ordering's list.
+-- Which rules of an ordering a trace needs, and which sets of them suffice. A set of rules is the set of their places
+-- in the ordering's list.
 use Rattle.std.specs.Prelude.{◌≢◌, ℕ, ◌<◌, List, length, Bool, not, if◌then◌else◌, None, slice_get}
 use Rattle.patch_sets.specs.Sets.{Has, has, IsSubset}
 use Rattle.crash_model.specs.Disk.{Disk}
@@ -50,8 +50,8 @@ pub record IsMinimalEnough (demands : Demands) (base : Disk) (s : Tracing) (rule
   pub enough : AreEnough demands base s (rules_in rules set)
   pub minimal : (part : ℕ) → IsSubset part set → part ≢ set → ¬ (AreEnough demands base s (rules_in rules part))
 
--- a minimal group of rules of which one is needed: all rules but the group are not enough, and all but a smaller part of
--- it are
+-- a minimal group of rules of which one is needed: all rules but the group are not enough, and all but a smaller part
+-- of it are
 pub record IsNeeded (demands : Demands) (base : Disk) (s : Tracing) (rules : List Rule) (group : ℕ) : Type 0 where
   pub places : ArePlaces rules group
   pub some : group ≢ 0

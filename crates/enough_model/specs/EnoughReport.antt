@@ -1,6 +1,6 @@
 -- What is reported of the rules that a script needs.
-use Rattle.std.specs.Prelude.{◌≡◌, ◌≢◌, ℕ, List, [], ◌∷◌, ◌++◌, length, map, flat_map, if◌then◌else◌, Option, Some, None}
-use Rattle.std.specs.Prelude.{codes, decimal, option_to_list}
+use Rattle.std.specs.Prelude.{◌≡◌, ◌≢◌, ℕ, List, [], ◌∷◌, ◌++◌, length, map, flat_map, if◌then◌else◌, Option, Some}
+use Rattle.std.specs.Prelude.{None, codes, decimal, option_to_list}
 use Rattle.std.specs.List.{All}
 use Rattle.patch_sets.specs.Sets.{AreAllInOrder}
 use Rattle.report_model.specs.Answer.{HasGraph, detail_of, ordering_rules}

@@ -17,8 +17,8 @@ use std::alloc::{AllocError, Allocator, Global};
 /// A report of the rules that a script needs as JSON: one compact object, its keys in ascending order, and a line feed.
 /// The number of closed sets is a text, since it can be more than a JSON number holds.
 ///
-/// The texts of block writes and faults that come again and the values of patches take their memory from `heap`, and all
-/// else from `alloc`. It fails only when out of memory.
+/// The texts of block writes and faults that come again and the values of patches take their memory from `heap`, and
+/// all else from `alloc`. It fails only when out of memory.
 pub fn enough_json<A: Allocator + Copy>(
     heap: Global,
     alloc: A,

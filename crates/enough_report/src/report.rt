@@ -11,7 +11,8 @@ use std::alloc::{AllocError, Allocator, Global};
 
 /// A report of the rules that a script needs as text, or as JSON if the settings ask for that.
 ///
-/// Some parts of JSON take their memory from `heap`, and all else takes it from `alloc`. It fails only when out of memory.
+/// Some parts of JSON take their memory from `heap`, and all else takes it from `alloc`. It fails only when out of
+/// memory.
 pub fn enough_report<A: Allocator + Copy>(
     heap: Global,
     alloc: A,

@@ -75,7 +75,8 @@ HasTwice faults d = (block : ℕ) → is_data d block ≡ true → Contains faul
 -- each number of entries above an inode's links and up to a number is listed
 abbrev pub HasLow : List Fault → ℕ → ℕ → Disk → Type 0
 HasLow faults inode most d =
-    (entries : ℕ) → links_of d inode < entries → entries ≤ most → Contains faults (LowLinks inode entries (links_of d inode))
+    (entries : ℕ) → links_of d inode < entries → entries ≤ most
+    → Contains faults (LowLinks inode entries (links_of d inode))
 
 -- the faults of an inode are listed that a strict checker can find
 pub record HasStrict (faults : List Fault) (kept inode : ℕ) : Type 0 where

@@ -4,7 +4,8 @@ ghost use Rattle.std.specs.Prelude.{ℕ, ◌+◌, ◌*◌, ◌<◌, ◌≤◌, O
 ghost use Rattle.std.specs.List.{Contains};
 ghost use Rattle.crash_model.specs.declared.fault.Fault.TheVariants.{Dangling};
 ghost use Rattle.known_bytes.specs.Family.{HasValue};
-ghost use Rattle.fault_candidates.specs.Listed.{InEachReplayed, IsWithin, HasDangling, CountsOne, AreCounted, AreAtMost, AreMost};
+ghost use Rattle.fault_candidates.specs.Listed.{InEachReplayed, IsWithin, HasDangling, CountsOne, AreCounted};
+ghost use Rattle.fault_candidates.specs.Listed.{AreAtMost, AreMost};
 
 use crate::entries;
 use crate::last_byte::last_byte;
@@ -13,8 +14,8 @@ use crash_model::fault::Fault;
 use known_bytes::{ByteSet, KnownBytes};
 use std::alloc::{AllocError, Allocator};
 
-/// Lists a dangling entry for each inode that any entry can name. For each inode it gives the number of the entries that
-/// can name it.
+/// Lists a dangling entry for each inode that any entry can name. For each inode it gives the number of the entries
+/// that can name it.
 pub(crate) fn push_entries<A: Allocator + Copy>(
     faults: &mut Vec<Fault, A>,
     bytes: &KnownBytes<A>,

@@ -32,8 +32,8 @@ pub fn replay_recovers_the_committed_operations()
         → IsRecovered base steps s patches set }
 {}
 
-/// So the patches that `trace` of `order_modules` makes are safe under the full journal with all its rules. The premises
-/// are what `trace` is given, and what it promises of its names, of the trace and of the graph.
+/// So the patches that `trace` of `order_modules` makes are safe under the full journal with all its rules. The
+/// premises are what `trace` is given, and what it promises of its names, of the trace and of the graph.
 pub fn what_is_traced_is_safe()
     ensures { (by : Module) → (rules : List Rule) → (whole : Bool) → (base : Disk) → (steps : List Step)
         → (s : Tracing) → (patches : List Patch)

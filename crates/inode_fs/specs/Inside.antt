@@ -15,7 +15,8 @@ pub record LiesInside (blocks : ℕ) (c : Change) : Type 0 where
 
 -- the journal's blocks are the same
 abbrev pub HasSameJournal : Disk → Disk → Type 0
-HasSameJournal old new = (block : ℕ) → JOURNAL_AT ≤ block → block < JOURNAL_AT + old.journal → block_of new block ≡ block_of old block
+HasSameJournal old new =
+    (block : ℕ) → JOURNAL_AT ≤ block → block < JOURNAL_AT + old.journal → block_of new block ≡ block_of old block
 
 -- the name that an operation gives is a name
 abbrev pub GivesName : Op → Type 0

@@ -141,8 +141,8 @@ fn further_name<A: Allocator + Copy>(
         (λ fault. (more : ℕ → ℕ → ℕ → List Change) → relink_plan image.now old.now new.now more ≡ Err fault) }
     ensures links { IfOk result (λ r. (r.links ≡ links_of image.now r.old.target) × (r.links < MOST_LINKS)) }
     ensures place { IfOk result (λ r. free_entry image.now r.dir ≡ Some r.place) }
-    ensures within { IfOk result (λ r. (r.old.dir < INODES) × (r.old.place < ENTRIES) × (r.old.target < INODES) × (r.dir < INODES)
-        × (r.place < ENTRIES)) }
+    ensures within { IfOk result (λ r. (r.old.dir < INODES) × (r.old.place < ENTRIES) × (r.old.target < INODES)
+        × (r.dir < INODES) × (r.place < ENTRIES)) }
 {
     let old = find(image, old)?;
     let dir = walk(image, new)?;

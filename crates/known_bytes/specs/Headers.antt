@@ -1,6 +1,6 @@
 -- Headers that may or may not be there, but whose contents are known.
-use Rattle.std.specs.Prelude.{◌≡◌, ◌≢◌, ℕ, zero, suc, ◌+◌, ◌<◌, ◌≤◌, List, length, slice_index, Bool, true, false, ◌&&◌, ◌==◌}
-use Rattle.std.specs.Prelude.{nat_le, ◌⊎◌, Result, Ok}
+use Rattle.std.specs.Prelude.{◌≡◌, ◌≢◌, ℕ, zero, suc, ◌+◌, ◌<◌, ◌≤◌, List, length, slice_index, Bool, true, false}
+use Rattle.std.specs.Prelude.{◌&&◌, ◌==◌, nat_le, ◌⊎◌, Result, Ok}
 use Rattle.patch_sets.specs.Sets.{Has}
 use Rattle.std.specs.List.{list_all}
 use Rattle.crash_model.specs.declared.disk_bytes.TheConstants.{JOURNAL_AT}

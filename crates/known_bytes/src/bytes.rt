@@ -200,7 +200,8 @@ impl<'a, A: Allocator + Copy> KnownBytes<'a, A> {
         ensures { MatchOption result
             (is_one_of (slice_index values 0) (slice_index values 1)
             (byte (image_of self.now.base self.now.patches self.now.held) block offset) ≡ alike
-            → InEach self.now (λ d. is_one_of (slice_index values 0) (slice_index values 1) (byte d block offset) ≡ alike))
+            → InEach self.now (λ d.
+            is_one_of (slice_index values 0) (slice_index values 1) (byte d block offset) ≡ alike))
             (IsUndecided self.now) }
     {
         let mut left = self.undecided & self.chains.at(block, offset);

@@ -86,7 +86,8 @@ fn mark(sets: &mut [u128], id: usize, patch: &Patch)
     requires id { id < 128 }
     requires patch { IsPatch patch.now }
     requires fits { BLOCK_SIZE * patch.now.block + 128 ≤ length sets.old }
-    ensures { AddsFrom id (BLOCK_SIZE * patch.now.block + patch.now.offset) (length patch.now.new.items) sets.old sets.new }
+    ensures { AddsFrom id (BLOCK_SIZE * patch.now.block + patch.now.offset) (length patch.now.new.items)
+        sets.old sets.new }
 {
     let from = BLOCK_SIZE * usize::from(patch.block) + usize::from(patch.offset);
     for place in from..from + patch.new.len() {

@@ -1,7 +1,7 @@
 //! The disks of a family, read at once.
 
-ghost use Rattle.std.specs.Prelude.{◌≡◌, ℕ, ◌+◌, ◌*◌, ◌==◌, ◌||◌, not, ◌<◌, ◌≤◌, IsTrue, IfOk, IfErr, IfSome, slice_index, length, true};
-ghost use Rattle.std.specs.Prelude.{false, ◌&&◌};
+ghost use Rattle.std.specs.Prelude.{◌≡◌, ℕ, ◌+◌, ◌*◌, ◌==◌, ◌||◌, not, ◌<◌, ◌≤◌, IsTrue, IfOk, IfErr, IfSome};
+ghost use Rattle.std.specs.Prelude.{slice_index, length, true, false, ◌&&◌};
 ghost use Rattle.crash_model.specs.Disk.{byte, IsDisk};
 ghost use Rattle.crash_model.specs.Layout.{kind_of, links_of, pointer_of, is_live, is_data, counts};
 ghost use Rattle.known_bytes.specs.Family.{IsUndecided, HasValue, IsLike, is_one_of};

@@ -1,7 +1,7 @@
 //! Where replay finds each block, by bytes that the images of a family share.
 
-ghost use Rattle.std.specs.Prelude.{◌≡◌, ◌≢◌, ◌⊎◌, ℕ, ◌+◌, ◌<◌, ◌≤◌, ◌↔◌, length, slice_index, true, false, IfOk, IfErr};
-ghost use Rattle.std.specs.Prelude.{Ok, Err};
+ghost use Rattle.std.specs.Prelude.{◌≡◌, ◌≢◌, ◌⊎◌, ℕ, ◌+◌, ◌<◌, ◌≤◌, ◌↔◌, length, slice_index, true, false, IfOk};
+ghost use Rattle.std.specs.Prelude.{IfErr, Ok, Err};
 ghost use Rattle.std.specs.List.{All};
 ghost use Rattle.known_bytes.specs.Family.{IsUndecided};
 ghost use Rattle.known_bytes.specs.Reading.{AreHomes};

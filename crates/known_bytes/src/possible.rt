@@ -14,8 +14,8 @@ use std::alloc::Allocator;
 impl<'a, A: Allocator + Copy> KnownBytes<'a, A> {
     /// The values that a byte of a block has on any of the disks, as they are left or after replay.
     ///
-    /// After replay it is the byte of the block itself, or of a journal block that may have a copy of it. So the set may
-    /// have values too that no disk has there.
+    /// After replay it is the byte of the block itself, or of a journal block that may have a copy of it. So the set
+    /// may have values too that no disk has there.
     pub fn possible(&self, block: usize, offset: usize) -> ByteSet
         requires block { block < self.now.base.blocks }
         requires offset { offset < BLOCK_SIZE }

@@ -1,6 +1,7 @@
 //! The inodes that entries lead to from the root, on all disks of a family at once.
 
-ghost use Rattle.std.specs.Prelude.{◌≡◌, ◌==◌, ◌<◌, ◌⊎◌, ◌&&◌, ℕ, IfOk, IfErr, IfSome, IsTrue, MatchOption, Ok, bit_and, false, true};
+ghost use Rattle.std.specs.Prelude.{◌≡◌, ◌==◌, ◌<◌, ◌⊎◌, ◌&&◌, ℕ, IfOk, IfErr, IfSome, IsTrue, MatchOption, Ok};
+ghost use Rattle.std.specs.Prelude.{bit_and, false, true};
 ghost use Rattle.known_bytes.specs.Directories.{IsFound};
 ghost use Rattle.known_bytes.specs.Family.{IsUndecided};
 ghost use Rattle.patch_sets.specs.Sets.{Has};

@@ -1,8 +1,8 @@
 //! Each fault by its text, tested on all disks of a family at once.
 
 ghost use Rattle.std.specs.Prelude.{◌≡◌, Bool};
-ghost use Rattle.known_bytes.specs.Texts.{has_fault, dangling_there, twice_there, unwritten_there, low_there, marked_free_there, wild_there};
-ghost use Rattle.known_bytes.specs.Texts.{lost_there, bare_there};
+ghost use Rattle.known_bytes.specs.Texts.{has_fault, dangling_there, twice_there, unwritten_there, low_there};
+ghost use Rattle.known_bytes.specs.Texts.{marked_free_there, wild_there, lost_there, bare_there};
 ghost use Rattle.known_bytes.specs.Reading.{IsKnown};
 
 use crate::disk::KnownDisk;

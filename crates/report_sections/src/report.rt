@@ -30,8 +30,8 @@ impl<'a, A: Allocator> Copy for Body<'a, A> {}
 
 /// A report before it is written: the image that the traced steps began on, their patches, and what was found of them.
 ///
-/// `demands` is what is demanded of images after replay; `closed` and `failing` are the numbers of closed and of failing
-/// sets.
+/// `demands` is what is demanded of images after replay; `closed` and `failing` are the numbers of closed and of
+/// failing sets.
 pub struct Report<'found, 'steps, 'asked, 'body, A: Allocator + Copy> {
     pub base: &'steps Image<A>,
     pub traced: &'found Traced<'steps, A>,

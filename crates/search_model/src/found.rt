@@ -15,8 +15,8 @@ pub struct RefusedCount {
     pub count: u128,
 }
 
-/// A kind of fault that some workloads show, and how many do: the places of the first of them, and its first failing set,
-/// in canonical order, that has such a fault.
+/// A kind of fault that some workloads show, and how many do: the places of the first of them, and its first failing
+/// set, in canonical order, that has such a fault.
 #[derive(Default, Drop)]
 pub struct ShownKind {
     pub kind: FaultKind,

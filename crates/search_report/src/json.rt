@@ -26,8 +26,8 @@ use std::alloc::{AllocError, Allocator, Global};
 /// A report of a search as JSON: one compact object, its keys in ascending order, and a line feed. The numbers of
 /// workloads can be more than 64 bits hold.
 ///
-/// The pool has only operations. The texts of block writes and faults that come again take their memory from `heap`, and
-/// all else from `alloc`. It fails only when out of memory.
+/// The pool has only operations. The texts of block writes and faults that come again take their memory from `heap`,
+/// and all else from `alloc`. It fails only when out of memory.
 pub fn search_json<A: Allocator + Copy>(
     heap: Global,
     alloc: A,

@@ -1,5 +1,6 @@
 -- What a closed board holds.
-use Rattle.std.specs.Prelude.{◌≡◌, ◌⊎◌, ℕ, ◌+◌, ◌/◌, ◌%◌, ◌<◌, ◌≤◌, List, length, slice_index, if◌then◌else◌, ◌==◌, Contains}
+use Rattle.std.specs.Prelude.{◌≡◌, ◌⊎◌, ℕ, ◌+◌, ◌/◌, ◌%◌, ◌<◌, ◌≤◌, List, length, slice_index, if◌then◌else◌, ◌==◌}
+use Rattle.std.specs.Prelude.{Contains}
 use Rattle.std.specs.List.{concat}
 use Rattle.state_space.specs.declared.limits.TheConstants.{MAX_BOARD}
 use Rattle.board_rule.specs.declared.shards.TheConstants.{SHARDS}

@@ -184,7 +184,8 @@ pub record SoundBlocks (blocks journal : ℕ) (kind : ℕ → ℕ) (pointer : �
   pub packed : (i s : ℕ) → kind i ≡ FILE_KIND → pointer i s ≡ 0 → pointer i (s + 1) ≡ 0
   pub low_used : (b : ℕ) → b < JOURNAL_AT + journal → used b ≡ true
   pub named_used : (i s b : ℕ) → HasPointer kind pointer i s b → used b ≡ true
-  pub used_named : (b : ℕ) → JOURNAL_AT + journal ≤ b → used b ≡ true → (i : ℕ) × (s : ℕ) × HasPointer kind pointer i s b
+  pub used_named : (b : ℕ) → JOURNAL_AT + journal ≤ b → used b ≡ true
+    → (i : ℕ) × (s : ℕ) × HasPointer kind pointer i s b
 
 pub record SoundInodes (kind links : ℕ → ℕ) : Type 0 where
   pub below : (i : ℕ) → kind i ≢ FREE_KIND → i < INODES

@@ -19,8 +19,8 @@ use std::thread;
 use std::thread::Threads;
 
 /// The minimal sets of rules that are enough for all workloads of a judge's search that do not fail, and the minimal
-/// groups of which one rule is needed, each in canonical order. `passing` are these workloads, in order, and the workers
-/// share them.
+/// groups of which one rule is needed, each in canonical order. `passing` are these workloads, in order, and the
+/// workers share them.
 ///
 /// The answer is the same for each number of workers. It calls no method of the watch.
 ///

@@ -1,6 +1,6 @@
 -- Sequences that are tried one after another.
-use Rattle.std.specs.Prelude.{◌≡◌, ℕ, ◌+◌, ◌<◌, ◌^◌, List, [], ◌∷◌, ◌++◌, length, map, Bool, if◌then◌else◌, Result, IfOk}
-use Rattle.std.specs.Prelude.{slice_index_or}
+use Rattle.std.specs.Prelude.{◌≡◌, ℕ, ◌+◌, ◌<◌, ◌^◌, List, [], ◌∷◌, ◌++◌, length, map, Bool, if◌then◌else◌, Result}
+use Rattle.std.specs.Prelude.{IfOk, slice_index_or}
 use Rattle.std.specs.Fork.{slice_chunk}
 use Rattle.std.specs.List.{All, filter, flat_map, range_with_len}
 use Rattle.arrayvec.specs.ArrayVec.{ArrayVec}
