@@ -55,5 +55,5 @@ abbrev pub AreUndo : Disk → List Patch → Type 0
 AreUndo d [] = Unit {0}
 AreUndo d (p ∷ ps) =
     (p.undo.items
-        ≡ slice_range d.bytes (BLOCK_SIZE * p.block + p.offset) (BLOCK_SIZE * p.block + p.offset + length p.new.items))
+    ≡ slice_range d.bytes (BLOCK_SIZE * p.block + p.offset) (BLOCK_SIZE * p.block + p.offset + length p.new.items))
     × AreUndo (with_bytes d p.block p.offset p.new.items) ps

@@ -29,8 +29,7 @@ pub record IsSound (d : Disk) : Type 0 where
       → pointer_of d i (s + 1) ≡ 0
   -- entries have names, those of one directory different ones
   pub named : (dir : ℕ) → dir < INODES → (k : ℕ) → k < ENTRIES → IsTrue (is_entry d dir k)
-    → (name : List ℕ) × IsName name
-      × (spelling_of d dir k ≡ name_spelling name)
+      → (name : List ℕ) × IsName name × (spelling_of d dir k ≡ name_spelling name)
   pub distinct : (dir : ℕ) → dir < INODES → (j k : ℕ) → j < k → k < ENTRIES → IsTrue (is_entry d dir j)
       → IsTrue (is_entry d dir k) → spelling_of d dir j ≢ spelling_of d dir k
   -- link counts are the numbers of entries: one for a directory, one to eight for a file

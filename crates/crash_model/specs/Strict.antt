@@ -51,7 +51,7 @@ reach_in d zero = ids_below INODES (λ inode. inode == 0 && kind_of d 0 == DIREC
 reach_in d (suc n) =
     let before = reach_in d n in
     ids_below INODES
-        (λ inode. is_in before inode || (is_live d inode && list_any (λ dir. has_entry_to d dir inode) before))
+    (λ inode. is_in before inode || (is_live d inode && list_any (λ dir. has_entry_to d dir inode) before))
 
 -- each of the 16 inodes that is reached is reached in at most 16 steps
 unfoldable pub is_reached : Disk → ℕ → Bool

@@ -185,7 +185,7 @@ pub record SoundBlocks (blocks journal : ℕ) (kind : ℕ → ℕ) (pointer : �
   pub low_used : (b : ℕ) → b < JOURNAL_AT + journal → used b ≡ true
   pub named_used : (i s b : ℕ) → HasPointer kind pointer i s b → used b ≡ true
   pub used_named : (b : ℕ) → JOURNAL_AT + journal ≤ b → used b ≡ true
-    → (i : ℕ) × (s : ℕ) × HasPointer kind pointer i s b
+      → (i : ℕ) × (s : ℕ) × HasPointer kind pointer i s b
 
 pub record SoundInodes (kind links : ℕ → ℕ) : Type 0 where
   pub below : (i : ℕ) → kind i ≢ FREE_KIND → i < INODES
