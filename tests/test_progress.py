@@ -24,9 +24,23 @@ SAFE += b"".join(b"write /%c\n" % name for name in b"abcdefg")
 SAFE_REPORT = b"module soft\npatches 41\nclosed 526153617\nfailing 0\n"
 SAFE_WORDS = ("--limit", "1000000000", "--blocks", "64")
 
+# Under a full journal no workload fails.
+POOL = ROOT / "pools" / "all-operations-on-a-file-and-directory.script"
+SEARCH_WORDS = ("--module", "full", "--blocks", "48", "--journal", "24", "--workers", "1", "--search")
+
 WIPED = b"\r\x1b[K"
 LINE = re.compile(rb"([0-9]+) sets visited, ([0-9]+) failing")
 WORKLOADS = re.compile(rb"([0-9]+) workloads judged, ([0-9]+) failing")
+
+
+def a_long_search():
+    """Searches a pool on a terminal, by four operations, or by more until a search takes long enough that the line
+    appears. Returns the number of operations and what the run did."""
+    for operations in range(4, 9):
+        run = on_terminal([program(), *SEARCH_WORDS, str(operations)], POOL.read_bytes())
+        if run.seconds > 1.5:
+            break
+    return operations, run
 
 
 class Progress(unittest.TestCase):
@@ -48,12 +62,11 @@ class Progress(unittest.TestCase):
             self.assertLessEqual(numbers[-1], most)
 
     def test_a_long_search_on_a_terminal(self):
-        pool = ROOT / "pools" / "all-operations-on-a-file-and-directory.script"
-        run = on_terminal([program(), "--blocks", "24", "--search", "4"], pool.read_bytes())
-        self.assertEqual((run.status, run.output[:21]), (0, b"module soft\nsearch 4\n"))
+        operations, run = a_long_search()
+        self.assertEqual((run.status, run.output[:21]), (0, b"module full\nsearch %d\n" % operations))
         before, *shown, after = run.terminal.split(WIPED)
         self.assertEqual((before, after), (b"", b""), "the line is gone at the end")
-        self.assertTrue(shown, "four operations take more than a second")
+        self.assertTrue(shown, "the search took more than a second")
         workloads = int(re.search(rb"^workloads ([0-9]+)$", run.output, re.MULTILINE)[1])
         for line in shown:
             numbers = WORKLOADS.fullmatch(line)
