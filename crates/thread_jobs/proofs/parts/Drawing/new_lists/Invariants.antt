@@ -1,0 +1,7 @@
+use Rattle.std.specs.List.{All}
+use Rattle.thread_jobs.specs.Parts.{IsDrawn}
+use Rattle.thread_jobs.proofs.parts.Drawing.new_lists.Given as goal
+
+abbrev pub invariant-loop : goal.invariant-loop
+invariant-loop g l =
+    All (λ list. All (IsDrawn (g.J.PartJob.is_part l.self.job.now) l.self.parts) list.items) l.lists.items
