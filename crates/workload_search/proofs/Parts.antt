@@ -1,14 +1,12 @@
 -- The parts of a level, joined in order.
 use Rattle.std.proofs.Common.{◌≡◌, ℕ, zero, suc, ◌+◌, ◌*◌, ◌/◌, ◌%◌, ◌<◌, ◌≤◌, ◌^◌, min, List, [], ◌∷◌, ◌++◌}
-use Rattle.std.proofs.Common.{length, map, take, drop, get_or, Bool, Result, Ok, IfOk, refl, sym, subst, ap, ◌∙◌}
+use Rattle.std.proofs.Common.{length, map, take, get_or, Bool, Result, Ok, IfOk, refl, sym, subst, ap, ◌∙◌}
 use Rattle.std.proofs.Common.{arith, suc-mul, zero-mul, mul-le-mul_right, append-nil, append_assoc, length-append}
-use Rattle.std.specs.Fork.{slice_chunk, IsChunk}
-use Rattle.std.specs.List.{All}
+use Rattle.std.proofs.Common.{take-add, take_all, length-take}
+use Rattle.std.specs.Fork.{slice_chunk}
 use Rattle.std.proofs.Math.Nat.{mod-lt}
-use Rattle.std.proofs.lemmas.List.{map-append, take-append-drop, drop-drop, drop_all, take_more, length-map}
-use Rattle.std.proofs.lemmas.List.{length-drop, length_push, get_or_push, get_or_append_left}
+use Rattle.std.proofs.lemmas.List.{map-append, take_more, length-map, get_or_at}
 use Rattle.std.proofs.lemmas.List.Concat.{flat_map-append}
-use Rattle.std.proofs.lemmas.List.Elements.{All-take, All-drop}
 use Rattle.std.proofs.lemmas.List.FromFn.{length-map-range_with_len, map-range_with_len_more}
 use Rattle.std.proofs.lemmas.Nat.{div-add-mod'}
 use Rattle.arrayvec.specs.ArrayVec.{ArrayVec}
@@ -61,19 +59,6 @@ one_room s keeps pool sequences front n batch is low room = record {
   );
 }
 
--- ---- what a worker is given
-
-pub chunk_room : (pool : ℕ) (xs ys : List (ArrayVec ℕ)) (size start : ℕ) → IsChunk xs size start ys
-    → length xs * pool < 2 ^ 128 → length ys * pool < 2 ^ 128
-chunk_room pool xs ys size start chunk room =
-    let few : length ys ≤ length xs = omega (arith, chunk.in_bounds) in
-    omega (arith, mul-le-mul_right pool few)
-
-pub chunk_all : (P : ArrayVec ℕ → Type 0) (xs ys : List (ArrayVec ℕ)) (size start : ℕ) → IsChunk xs size start ys
-    → All P xs → All P ys
-chunk_all P xs ys size start chunk all =
-    subst (All P) (sym chunk.value) (All-take P size (drop start xs) (All-drop P start xs all))
-
 -- ---- parts of a number of beginnings
 
 module _ (xs : List (ArrayVec ℕ)) (size : ℕ) where
@@ -98,29 +83,32 @@ module _ (xs : List (ArrayVec ℕ)) (size : ℕ) where
             one_more (length xs / size),
           )
 
-  -- after the last part there is nothing
-  pub after_last : (count : ℕ) → 0 < size → count ≡ length xs / size + min 1 (length xs % size)
-      → drop (count * size) xs ≡ []
-  after_last count some number = drop_all (count * size) xs (cover count some number)
+  -- the parts before the first are none
+  before_first : take (0 * size) xs ≡ []
+  before_first = ap (λ (k : ℕ). take k xs) (zero-mul size)
 
-  -- a part and what is after it
-  pub part_and_rest : (n : ℕ) → slice_chunk xs size n ++ drop ((n + 1) * size) xs ≡ drop (n * size) xs
-  part_and_rest n =
-      ap (λ (k : ℕ). slice_chunk xs size n ++ drop k xs) (one_more n)
-      ∙ (ap (λ (ys : List (ArrayVec ℕ)). slice_chunk xs size n ++ ys) (sym (drop-drop size (n * size) xs))
-      ∙ take-append-drop size (drop (n * size) xs))
+  -- what is before a part, and the part
+  before_and_part : (n : ℕ) → take (n * size) xs ++ slice_chunk xs size n ≡ take ((n + 1) * size) xs
+  before_and_part n = sym (ap (λ (k : ℕ). take k xs) (one_more n) ∙ take-add (n * size) size xs)
 
-  -- the extensions of a part and of what is after it
-  pub extensions_behind : (pool n : ℕ) → extensions pool (map items_of (slice_chunk xs size n))
-      ++ extensions pool (map items_of (drop ((n + 1) * size) xs))
-      ≡ extensions pool (map items_of (drop (n * size) xs))
-  extensions_behind pool n =
-      sym (extensions_join pool (slice_chunk xs size n) (drop ((n + 1) * size) xs))
-      ∙ ap (λ (ys : List (ArrayVec ℕ)). extensions pool (map items_of ys)) (part_and_rest n)
+  -- the extensions of what is before a part and of the part
+  extensions_before : (pool n : ℕ) → extensions pool (map items_of (take (n * size) xs))
+      ++ extensions pool (map items_of (slice_chunk xs size n))
+      ≡ extensions pool (map items_of (take ((n + 1) * size) xs))
+  extensions_before pool n =
+      sym (extensions_join pool (take (n * size) xs) (slice_chunk xs size n))
+      ∙ ap (λ (ys : List (ArrayVec ℕ)). extensions pool (map items_of ys)) (before_and_part n)
 
-  -- the first of all parts begins at the front
-  pub from_front : (pool : ℕ) → extensions pool (map items_of (drop (0 * size) xs)) ≡ extensions pool (map items_of xs)
-  from_front pool = ap (λ (k : ℕ). extensions pool (map items_of (drop k xs))) (zero-mul size)
+before_long : (pool : ℕ) (xs : List (ArrayVec ℕ)) (k : ℕ)
+    → length (extensions pool (map items_of (take k xs))) ≤ length xs * pool
+before_long pool xs k =
+    let few : length (take k xs) ≤ length xs = omega (arith, length-take k xs) in
+    omega (
+      arith,
+      length_extensions pool (map items_of (take k xs)),
+      ap (λ n. n * pool) (length-map (take k xs) items_of),
+      mul-le-mul_right pool few,
+    )
 
 -- ---- what is found of the parts
 
@@ -128,86 +116,62 @@ module _ (xs : List (ArrayVec ℕ)) (size : ℕ) where
 abbrev pub IsPart : {A : Type 0} → Search → Bool → ℕ → List (ArrayVec ℕ) → ℕ → ℕ → Batch A → Type 0
 IsPart s keeps pool xs size n batch = IsBatch s keeps (extensions pool (map items_of (slice_chunk xs size n))) batch
 
-module _ {A E : Type 0} (s : Search) (keeps : Bool) (pool : ℕ) (xs : List (ArrayVec ℕ)) (size : ℕ) where
-  -- all but the last
-  pub parts_left : (all front : List (Result (Batch A) E)) (last : Result (Batch A) E)
-      → ArePartsOf s keeps pool xs size all → all ≡ front ++ last ∷ [] → ArePartsOf s keeps pool xs size front
-  parts_left all front last are whole n d within =
-      let each = subst (ArePartsOf s keeps pool xs size) whole are in
-      subst (λ (part : Result (Batch A) E). IfOk part (IsPart s keeps pool xs size n))
-      (get_or_append_left front (last ∷ []) d n within)
-      (each n d (omega (arith, length_push front last)))
-
-  -- the last
-  pub part_taken : (all front : List (Result (Batch A) E)) (last : Result (Batch A) E) (part : Batch A) (n : ℕ)
-      → ArePartsOf s keeps pool xs size all → all ≡ front ++ last ∷ [] → last ≡ Ok part → n ≡ length front
-      → IsPart s keeps pool xs size n part
-  part_taken all front last part n are whole ok number =
-      let each = subst (ArePartsOf s keeps pool xs size) whole are in
-      let found : IfOk last (IsPart s keeps pool xs size n) =
-      subst (λ (r : Result (Batch A) E). IfOk r (IsPart s keeps pool xs size n))
-      (get_or_push front last last n (sym number)) (each n last (omega (arith, length_push front last))) in
-      subst (λ (r : Result (Batch A) E). IfOk r (IsPart s keeps pool xs size n)) ok found
-
-rest_long : (pool : ℕ) (xs : List (ArrayVec ℕ)) (size n : ℕ)
-    → length (extensions pool (map items_of (drop (n * size) xs))) ≤ length xs * pool
-rest_long pool xs size n =
-    let few : length (drop (n * size) xs) ≤ length xs = omega (arith, length-drop (n * size) xs) in
-    omega (
-      arith,
-      length_extensions pool (map items_of (drop (n * size) xs)),
-      ap (λ k. k * pool) (length-map (drop (n * size) xs) items_of),
-      mul-le-mul_right pool few,
-    )
+-- what is found of the parts before the one of that number
+abbrev pub AreBefore : {A : Type 0} → Search → Bool → ℕ → List (ArrayVec ℕ) → ℕ → ℕ → Batch A → Type 0
+AreBefore s keeps pool xs size n batch = IsBatch s keeps (extensions pool (map items_of (take (n * size) xs))) batch
 
 module _ {A : Type 0} (s : Search) (keeps : Bool) (pool : ℕ) (xs : List (ArrayVec ℕ)) (size : ℕ) where
-  -- after the last part nothing is found
-  pub rest_none : (count : ℕ) (batch : Batch A) → 0 < size → count ≡ length xs / size + min 1 (length xs % size)
-      → IsBatch s keeps [] batch → IsBatch s keeps (extensions pool (map items_of (drop (count * size) xs))) batch
-  rest_none count batch some number is =
-      subst (λ (ys : List (ArrayVec ℕ)). IsBatch s keeps (extensions pool (map items_of ys)) batch)
-      (sym (after_last xs size count some number)) is
+  -- a part comes after those before it
+  pub part_found : {E : Type 0} (all before after : List (Result (Batch A) E)) (one : Result (Batch A) E)
+      (part : Batch A) → ArePartsOf s keeps pool xs size all → before ++ one ∷ after ≡ all → one ≡ Ok part
+      → IsPart s keeps pool xs size (length before) part
+  part_found {E = E} all before after one part are whole ok =
+      let n = length before in
+      let within : n < length all = omega (arith, ap length whole, length-append before (one ∷ after)) in
+      let here : get_or all n one ≡ one = ap (λ (ys : List (Result (Batch A) E)). get_or ys n one) (sym whole)
+      ∙ get_or_at before one after one n refl in
+      subst (λ (r : Result (Batch A) E). IfOk r (IsPart s keeps pool xs size n)) (here ∙ ok) (are n one within)
 
-  -- a part can be counted with what is after it
-  pub part_room : (n : ℕ) (part rest : Batch A) → length xs * pool < 2 ^ 128
-      → IsBatch s keeps (extensions pool (map items_of (slice_chunk xs size n))) part
-      → IsBatch s keeps (extensions pool (map items_of (drop ((n + 1) * size) xs))) rest → HaveRoomFor part rest
-  part_room n part rest room is after =
-      let fronts = extensions pool (map items_of (slice_chunk xs size n)) in
-      let others = extensions pool (map items_of (drop ((n + 1) * size) xs)) in
+  -- before the first part nothing is found
+  pub none_before : (batch : Batch A) → IsBatch s keeps [] batch → AreBefore s keeps pool xs size 0 batch
+  none_before batch is =
+      subst (λ (ys : List (ArrayVec ℕ)). IsBatch s keeps (extensions pool (map items_of ys)) batch)
+      (sym (before_first xs size)) is
+
+  -- a part can be counted with those before it
+  pub part_room : (n : ℕ) (before part : Batch A) → length xs * pool < 2 ^ 128
+      → AreBefore s keeps pool xs size n before → IsPart s keeps pool xs size n part → HaveRoomFor before part
+  part_room n before part room so_far is =
+      let fronts = extensions pool (map items_of (take (n * size) xs)) in
+      let others = extensions pool (map items_of (slice_chunk xs size n)) in
       record {
         s = s;
         keeps = keeps;
         sequences = fronts;
         others = others;
-        is = is;
-        after = after;
+        is = so_far;
+        after = is;
         room = omega (
           arith,
           length-append fronts others,
-          ap length (extensions_behind xs size pool n),
-          rest_long pool xs size n,
+          ap length (extensions_before xs size pool n),
+          before_long pool xs ((n + 1) * size),
         );
       }
 
-  -- what is found of a part and of what is after it
-  pub rest_more : (n : ℕ) (batch : Batch A)
-      → IsBatch s keeps (extensions pool (map items_of (slice_chunk xs size n))
-      ++ extensions pool (map items_of (drop ((n + 1) * size) xs))) batch
-      → IsBatch s keeps (extensions pool (map items_of (drop (n * size) xs))) batch
-  rest_more n batch is =
-      subst (λ (es : List (List ℕ)). IsBatch s keeps es batch) (extensions_behind xs size pool n) is
+  -- one part more
+  pub part_more : (n m : ℕ) (batch : Batch A) → m ≡ n + 1
+      → IsBatch s keeps (extensions pool (map items_of (take (n * size) xs))
+      ++ extensions pool (map items_of (slice_chunk xs size n))) batch
+      → AreBefore s keeps pool xs size m batch
+  part_more n m batch next is =
+      subst (λ (k : ℕ). AreBefore s keeps pool xs size k batch) (sym next)
+      (subst (λ (es : List (List ℕ)). IsBatch s keeps es batch) (extensions_before xs size pool n) is)
 
-  pub rest_at : (m n : ℕ) (batch : Batch A) → m ≡ n
-      → IsBatch s keeps (extensions pool (map items_of (drop (m * size) xs))) batch
-      → IsBatch s keeps (extensions pool (map items_of (drop (n * size) xs))) batch
-  rest_at m n batch same is =
-      subst (λ (k : ℕ). IsBatch s keeps (extensions pool (map items_of (drop (k * size) xs))) batch) same is
-
-  -- the first part and all after it are all
-  pub rest_all : (n : ℕ) (batch : Batch A) → n ≡ 0
-      → IsBatch s keeps (extensions pool (map items_of (drop (n * size) xs))) batch
-      → IsBatch s keeps (extensions pool (map items_of xs)) batch
-  rest_all n batch first is =
-      subst (λ (es : List (List ℕ)). IsBatch s keeps es batch) (from_front xs size pool)
-      (rest_at n 0 batch first is)
+  -- the parts before the end are all
+  pub all_found : (n count : ℕ) (batch : Batch A) → 0 < size → n ≡ count
+      → count ≡ length xs / size + min 1 (length xs % size)
+      → AreBefore s keeps pool xs size n batch → IsBatch s keeps (extensions pool (map items_of xs)) batch
+  all_found n count batch some all number is =
+      subst (λ (ys : List (ArrayVec ℕ)). IsBatch s keeps (extensions pool (map items_of ys)) batch)
+      (take_all (n * size) xs (cover xs size n some (all ∙ number))) is

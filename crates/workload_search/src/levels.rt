@@ -9,8 +9,11 @@ use crate::trying::Trying;
 use search_model::Places;
 use set_sweep::Watch;
 use std::alloc::{AllocError, Allocator};
-use std::thread;
 use std::thread::Threads;
+use thread_jobs::{PartJob, do_parts};
+
+/// About how many parts of a level there are for each worker: enough that all are busy to the end.
+const PARTS: usize = 64;
 
 impl<J, A, W> Trying<'_, J, A, W>
 where
@@ -19,8 +22,8 @@ where
     A: Allocator + Copy + Send + Sync,
     W: Watch + Sync,
 {
-    /// Tries each beginning, in order, followed by each operation of the pool. Each worker takes as many beginnings as
-    /// the others, and what they find is joined in order. One worker starts no thread.
+    /// Tries each beginning, in order, followed by each operation of the pool. Workers draw small parts of the
+    /// beginnings, one after another, and what they find is joined in order. One worker starts no thread.
     pub(crate) fn try_level<R: Threads + Sync>(
         &self,
         rt: &R,
@@ -36,17 +39,18 @@ where
         if workers == 1 {
             return self.try_beginnings(beginnings);
         }
-        let size = beginnings.len() / workers + 1;
-        let parts = self.try_parts(rt, beginnings, size)?;
+        let size = beginnings.len() / PARTS / workers + 1;
+        let parts = self.try_parts(rt, beginnings, size, workers)?;
         self.join_parts(beginnings, size, parts)
     }
 
-    /// Tries each part of this number of beginnings, all side by side.
+    /// Tries each part of this number of beginnings, side by side. No more workers begin than there are parts.
     fn try_parts<R: Threads + Sync>(
         &self,
         rt: &R,
         beginnings: &[Places],
         size: usize,
+        workers: usize,
     ) -> Result<Vec<Result<Batch<A>, AllocError>, A>, AllocError>
         requires size { 0 < size }
         requires room { length beginnings.now * self.now.pool < 2 ^ 128 }
@@ -56,26 +60,23 @@ where
         ensures each { IfOk result (λ parts. ArePartsOf (J.search self.now.judge.now) self.now.keeps self.now.pool
             beginnings.now size parts.items) }
     {
-        thread::map_chunks(
-            rt,
-            self.alloc,
+        let parts = beginnings.len().div_ceil(size);
+        let level = Level {
+            trying: self,
             beginnings,
             size,
-            &|_, part|
-                requires { (length part.now * self.now.pool < 2 ^ 128)
-                    × All (IsExtendable (J.search self.now.judge.now) self.now.pool) part.now }
-            { self.try_beginnings(part) },
-        )
+        };
+        do_parts(rt, self.alloc, &level, parts, workers.min(parts))
     }
 }
 
 impl<J: Judge, A: Allocator + Copy, W: Watch> Trying<'_, J, A, W> {
-    /// What was found of all parts, joined from the last part to the first.
+    /// What was found of all parts, joined in order.
     fn join_parts(
         &self,
         beginnings: &[Places],
         size: usize,
-        mut parts: Vec<Result<Batch<A>, AllocError>, A>,
+        parts: Vec<Result<Batch<A>, AllocError>, A>,
     ) -> Result<Batch<A>, AllocError>
         requires size { 0 < size }
         requires room { length beginnings.now * self.now.pool < 2 ^ 128 }
@@ -86,11 +87,40 @@ impl<J: Judge, A: Allocator + Copy, W: Watch> Trying<'_, J, A, W> {
             (extensions self.now.pool (map items_of beginnings.now))) }
     {
         let mut joined = Batch::new(self.alloc)?;
-        while let Some(part) = parts.pop() {
-            let mut part = part?;
-            part.join(joined)?;
-            joined = part;
+        for part in parts {
+            let part = part?;
+            joined.join(part)?;
         }
         Ok(joined)
+    }
+}
+
+/// The beginnings of a level, in parts of this number of them. The last part may have fewer.
+#[derive(Drop)]
+struct Level<'a, J: Judge, A: Allocator + Copy, W: Watch> {
+    trying: &'a Trying<'a, J, A, W>,
+    beginnings: &'a [Places],
+    size: usize,
+}
+
+impl<'a, J: Judge, A: Allocator + Copy, W: Watch> PartJob for Level<'a, J, A, W> {
+    type Part = Result<Batch<A>, AllocError>;
+
+    ghost use Rattle.std.specs.Prelude.{◌*◌, ◌<◌, ◌^◌, length, map, IfOk};
+    ghost use Rattle.std.specs.Fork.{slice_chunk};
+    ghost use Rattle.std.specs.List.{All};
+    ghost use Rattle.workload_search.specs.Tries.{IsBatch, IsExtendable, extensions, items_of};
+
+    ghost may_do = { λ j n. (n * j.size < length j.beginnings.now)
+        × (length j.beginnings.now * j.trying.now.pool < 2 ^ 128)
+        × All (IsExtendable (J.search j.trying.now.judge.now) j.trying.now.pool) j.beginnings.now };
+
+    ghost is_part = { λ j n part. IfOk part (IsBatch (J.search j.trying.now.judge.now) j.trying.now.keeps
+        (extensions j.trying.now.pool (map items_of (slice_chunk j.beginnings.now j.size n)))) };
+
+    fn do_part(&self, at: usize) -> Result<Batch<A>, AllocError> {
+        let rest = &self.beginnings[at * self.size..];
+        let part = &rest[..self.size.min(rest.len())];
+        self.trying.try_beginnings(part)
     }
 }

@@ -1,16 +1,18 @@
-use Rattle.std.proofs.Common.{◌≡◌, ◌+◌, vec_len, arith}
-use Rattle.workload_search.proofs.Parts.{parts_left, part_taken, rest_none, part_room, rest_more, rest_at, rest_all}
+use Rattle.std.proofs.Common.{◌≡◌, ◌*◌, ◌∷◌, ◌++◌, [], length, map, take, vec_len, arith, append_assoc, length-append}
+use Rattle.std.proofs.Common.{subst, ap, ◌∙◌}
+use Rattle.std.specs.Fork.{slice_chunk}
+use Rattle.std.proofs.lemmas.List.{length_push}
+use Rattle.workload_search.specs.Tries.{extensions, items_of}
+use Rattle.workload_search.proofs.Parts.{part_found, none_before, part_room, part_more, all_found}
 use Rattle.workload_search.proofs.trying.Trying.join_parts.Goals as goal
 
 pub loop-part-init : goal.loop-part-init
-loop-part-init g c =
-    let s = g.J.Judge.search c.args.self.now.judge.now in
-    let keeps = c.args.self.now.keeps in
-    record {
-      each = c.requires.each;
-      joined = rest_none s keeps c.args.self.now.pool c.args.beginnings.now c.args.size (vec_len c.args.parts)
-          c.in_ok-joined.joined c.requires.size c.requires.len (c.in_ok-joined.ensures s keeps);
-    }
+loop-part-init g c = record {
+  parts = c.into_iter-part-iterator.ensures.into_iter_gives.0;
+  joined = none_before (g.J.Judge.search c.args.self.now.judge.now) c.args.self.now.keeps c.args.self.now.pool
+      c.args.beginnings.now c.args.size c.in_ok-joined.joined
+      (c.in_ok-joined.ensures (g.J.Judge.search c.args.self.now.judge.now) c.args.self.now.keeps);
+}
 
 pub join-requires : goal.join-requires
 join-requires g c =
@@ -19,14 +21,13 @@ join-requires g c =
     let pool = c.args.self.now.pool in
     let xs = c.args.beginnings.now in
     let size = c.args.size in
-    let left = c.pop.new.self in
-    let n = vec_len left in
-    let one : vec_len c.loop-part.parts ≡ n + 1 = omega (arith, c.in-Some.ensures.cases) in
-    part_room s keeps pool xs size n c.in_ok-part.part c.loop-part.joined c.requires.room
-    (part_taken s keeps pool xs size c.loop-part.parts.items left.items c.in-Some.part c.in_ok-part.part n
-    c.loop-part.invariant.each c.in-Some.ensures.items c.in_ok-part.was left.ok.0)
-    (rest_at s keeps pool xs size (vec_len c.loop-part.parts) (n + 1) c.loop-part.joined one
-    c.loop-part.invariant.joined)
+    let before = c.loop-part.yielded in
+    let after = c.next.new.self.rest.items in
+    part_room s keeps pool xs size (length before) c.loop-part.joined c.in_ok-part.part c.requires.room
+    c.loop-part.invariant.joined
+    (part_found s keeps pool xs size c.args.parts.items before after c.in-Some.part c.in_ok-part.part c.requires.each
+    (subst (λ left. before ++ left ≡ c.args.parts.items) c.in-Some.ensures.steps.0 c.loop-part.invariant.parts)
+    c.in_ok-part.was)
 
 pub loop-part-preserved : goal.loop-part-preserved
 loop-part-preserved g c =
@@ -35,20 +36,32 @@ loop-part-preserved g c =
     let pool = c.args.self.now.pool in
     let xs = c.args.beginnings.now in
     let size = c.args.size in
-    let left = c.pop.new.self in
-    let n = vec_len left in
-    let one : vec_len c.loop-part.parts ≡ n + 1 = omega (arith, c.in-Some.ensures.cases) in
+    let before = c.loop-part.yielded in
+    let after = c.next.new.self.rest.items in
+    let whole : before ++ c.in-Some.part ∷ after ≡ c.args.parts.items =
+    subst (λ left. before ++ left ≡ c.args.parts.items) c.in-Some.ensures.steps.0 c.loop-part.invariant.parts in
     record {
-      each = parts_left s keeps pool xs size c.loop-part.parts.items left.items c.in-Some.part
-          c.loop-part.invariant.each c.in-Some.ensures.items;
-      joined = rest_more s keeps pool xs size n c.join.new.self (c.in_ok-join.ensures s keeps _ _
-          (part_taken s keeps pool xs size c.loop-part.parts.items left.items c.in-Some.part c.in_ok-part.part n
-          c.loop-part.invariant.each c.in-Some.ensures.items c.in_ok-part.was left.ok.0)
-          (rest_at s keeps pool xs size (vec_len c.loop-part.parts) (n + 1) c.loop-part.joined one
-          c.loop-part.invariant.joined));
+      parts = append_assoc before (c.in-Some.part ∷ []) after ∙ whole;
+      joined = part_more s keeps pool xs size (length before) (length (before ++ c.in-Some.part ∷ [])) c.join.new.self
+          (length_push before c.in-Some.part)
+          (c.in_ok-join.ensures s keeps (extensions pool (map items_of (take (length before * size) xs)))
+          (extensions pool (map items_of (slice_chunk xs size (length before)))) c.loop-part.invariant.joined
+          (part_found s keeps pool xs size c.args.parts.items before after c.in-Some.part c.in_ok-part.part
+          c.requires.each whole c.in_ok-part.was));
     }
 
 pub returns : goal.returns
-returns g c = rest_all (g.J.Judge.search c.args.self.now.judge.now) c.args.self.now.keeps c.args.self.now.pool
-    c.args.beginnings.now c.args.size (vec_len c.loop-part.parts) c.loop-part.joined c.in_default.ensures.cases.0
-    c.loop-part.invariant.joined
+returns g c =
+    let yielded = c.loop-part.yielded in
+    let rest = c.loop-part.part-iterator.rest in
+    let count : length yielded ≡ vec_len c.args.parts = omega (
+      arith,
+      ap length c.loop-part.invariant.parts,
+      length-append yielded rest.items,
+      c.in-None.ensures.steps.0,
+      rest.ok.0,
+      c.args.parts.ok.0,
+    ) in
+    all_found (g.J.Judge.search c.args.self.now.judge.now) c.args.self.now.keeps c.args.self.now.pool
+    c.args.beginnings.now c.args.size (length yielded) (vec_len c.args.parts) c.loop-part.joined c.requires.size count
+    c.requires.len c.loop-part.invariant.joined
