@@ -1,13 +1,19 @@
 //! The words of rules: which there are, and why a word is not a rule.
 
 use crash_model::modules::Module;
-use crash_model::rules::RulePart;
+use crash_model::rules::{Rule, RulePart};
 use std::alloc::{AllocError, Global};
 use std::fmt;
 use strsim::levenshtein;
 
 /// How many letters of a part may differ from the part that was meant.
 const MOST_EDITS: usize = 3;
+
+/// What the page of rules says before the parts.
+const ABOUT_PARTS: &str = "
+A rule LATER:EARLIER makes the later part wait for the earlier one of the same operation, LATER:previous-EARLIER for the
+one of the operation right before, and LATER:before-EARLIER for those of all operations before. The parts are:
+";
 
 /// A word and what it means.
 struct Meaning {
@@ -261,42 +267,41 @@ fn write_rules_of<W: fmt::Write>(f: &mut fmt::Formatter<W>, module: Module) -> f
 /// The page that `--rules` prints: the module's rules, and the parts that a rule names, each with its meaning.
 pub(crate) fn rules_page(heap: Global, module: Module) -> Result<String, AllocError> {
     let mut page = String::new(heap);
-    push_rules(heap, &mut page, module)?;
-    page.push_str(
-        "\nA rule LATER:EARLIER makes the later part wait for the earlier one of the same operation, ",
-    )?;
-    page.push_str(
-        "LATER:previous-EARLIER for the\none of the operation right before, and LATER:before-EARLIER for those ",
-    )?;
-    page.push_str("of all operations before. The parts are:\n")?;
-    for part in &PARTS {
-        let Meaning { word, meaning } = part;
-        write!(page, "  {word:<10}  {meaning}\n")?;
-    }
+    push_rules(&mut page, module)?;
+    push_parts(&mut page)?;
     Ok(page)
 }
 
 /// Adds the module's rules.
-fn push_rules(heap: Global, page: &mut String, module: Module) -> Result<(), AllocError> {
+fn push_rules(page: &mut String, module: Module) -> Result<(), AllocError> {
     let name = module.name();
     if module.rules().is_empty() {
         return write!(page, "{name} has no rules.\n");
     }
     write!(page, "Rules of {name}, in their order:\n")?;
     for rule in module.rules() {
-        let text = format!(in heap; "{rule}")?;
-        push_rule(page, text.as_str())?;
+        push_rule(page, *rule)?;
     }
     Ok(())
 }
 
 /// Adds a rule with its meaning.
-fn push_rule(page: &mut String, rule: &str) -> Result<(), AllocError> {
+fn push_rule(page: &mut String, rule: Rule) -> Result<(), AllocError> {
     for known in &RULES {
         let Meaning { word, meaning } = known;
-        if *word == rule {
+        if Rule::read(word) == Some(rule) {
             return write!(page, "  {word:<25}  {meaning}\n");
         }
+    }
+    Ok(())
+}
+
+/// Adds the parts that a rule names.
+fn push_parts(page: &mut String) -> Result<(), AllocError> {
+    page.push_str(ABOUT_PARTS)?;
+    for part in &PARTS {
+        let Meaning { word, meaning } = part;
+        write!(page, "  {word:<10}  {meaning}\n")?;
     }
     Ok(())
 }
