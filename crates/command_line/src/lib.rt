@@ -88,9 +88,14 @@ fn refusal(
 /// The module's rules and the parts of rules, which are shown as help is.
 fn rules_shown(heap: Global, module: Module) -> Result<Error, AllocError> {
     let page = rules_page(heap, module)?;
-    let mut command = Command::new(heap, "crashmap").override_help(page.as_str());
+    help_with(heap, page.as_str())
+}
+
+/// The page, as help of the command.
+fn help_with(heap: Global, page: &str) -> Result<Error, AllocError> {
+    let mut command = Command::new(heap, "crashmap").override_help(page);
     match command.try_get_matches_from_mut(&["crashmap", "--help"]) {
-        Ok(_) => command.error(ErrorKind::DisplayHelp, page.as_str()),
+        Ok(_) => command.error(ErrorKind::DisplayHelp, page),
         Err(shown) => Ok(shown),
     }
 }
