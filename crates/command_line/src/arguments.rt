@@ -1,7 +1,8 @@
 //! The options as `clap` knows them, and its help.
 
 use crate::numbers::{BLOCKS, JOURNAL, LIMIT, Numbers, WORKERS};
-use clap::{Arg, ArgAction, Command, value_parser};
+use clap::builder::ValueParser;
+use clap::{Arg, ArgAction, Command};
 use std::alloc::{AllocError, Global};
 
 /// What `--version` shows after the program's name.
@@ -33,7 +34,7 @@ enum Takes {
     /// One of these numbers, else the usual one.
     Number(&'static str, Numbers),
     /// A number from the first to the second, and the option goes with none of the others.
-    NumberWithout(&'static str, i64, i64, &'static [&'static str]),
+    NumberWithout(&'static str, u64, u64, &'static [&'static str]),
     /// One of the words, else the default.
     OneOf(&'static str, &'static [&'static str], &'static str),
 }
@@ -49,10 +50,17 @@ impl Takes {
             }
         }
     }
-}
 
-/// The program so far, unless memory ran out.
-type Made<'a> = Result<Command<'a>, AllocError>;
+    /// The options that an option of this kind does not go with.
+    fn conflicts(&self) -> &'static [&'static str] {
+        match self {
+            Takes::NothingWithout(others) | Takes::NumberWithout(_, _, _, others) => others,
+            Takes::Nothing | Takes::Itself | Takes::Rule | Takes::Number(..) | Takes::OneOf(..) => {
+                &[]
+            }
+        }
+    }
+}
 
 const ABOUT: &str =
     "Finds every state that a crash can leave a small file system in, and reports those that its checker rejects \
@@ -225,71 +233,72 @@ static HEADS: [Head; 5] = [
     },
 ];
 
-/// The program's options, in help under their headings.
-pub(crate) fn command<'a>(heap: Global) -> Made<'a> {
-    let mut command = the_program(heap);
+/// The program with its options.
+pub(crate) fn command<'a>(heap: Global) -> Result<Command<'a>, AllocError> {
+    let options = options(heap)?;
+    the_program(heap).args(options)
+}
+
+/// The options, in help under their headings.
+fn options<'a>(heap: Global) -> Result<Vec<Arg<'a>>, AllocError> {
+    let mut options = Vec::new(heap);
     for head in &HEADS {
-        command = add(heap, command, head)?;
+        add(heap, &mut options, head)?;
     }
-    Ok(command)
+    Ok(options)
 }
 
 /// Adds the options under a heading, in this order.
-fn add<'a>(heap: Global, command: Command<'a>, head: &'static Head) -> Made<'a> {
-    let mut command = command.next_help_heading(head.name);
-    for (place, entry) in head.entries.iter().enumerate() {
-        command = add_one(heap, command, place, entry)?;
-    }
-    Ok(command)
-}
-
-/// Adds an option, at this place in help.
-fn add_one<'a>(
+fn add<'a>(
     heap: Global,
-    command: Command<'a>,
-    place: usize,
-    entry: &'static Entry,
-) -> Made<'a> {
-    let arg = argument(heap, entry)?;
-    command.arg(arg.display_order(place))
+    options: &mut Vec<Arg<'a>>,
+    head: &'static Head,
+) -> Result<(), AllocError> {
+    for (place, entry) in head.entries.iter().enumerate() {
+        let option = option(heap, entry)?;
+        options.push(option.help_heading(head.name).display_order(place))?;
+    }
+    Ok(())
 }
 
 /// The option as `clap` knows it.
-fn argument<'a>(heap: Global, entry: &'static Entry) -> Result<Arg<'a>, AllocError> {
-    let arg = Arg::new(heap, entry.name)
+fn option<'a>(heap: Global, entry: &'static Entry) -> Result<Arg<'a>, AllocError> {
+    let option = Arg::new(heap, entry.name)
         .help(entry.help)
         .action(entry.takes.action());
-    if let Takes::Itself = entry.takes {
-        return Ok(arg);
+    taking(named(option, entry), &entry.takes).conflicts_with_all(entry.takes.conflicts())
+}
+
+/// The option under its name, unless it is a word by itself.
+fn named<'a>(option: Arg<'a>, entry: &'static Entry) -> Arg<'a> {
+    match entry.takes {
+        Takes::Itself => option,
+        _ => option.long(entry.name),
     }
-    taking(arg.long(entry.name), &entry.takes)
 }
 
 /// The option with what follows it.
-fn taking<'a>(arg: Arg<'a>, takes: &'static Takes) -> Result<Arg<'a>, AllocError> {
+fn taking<'a>(option: Arg<'a>, takes: &'static Takes) -> Arg<'a> {
     match takes {
-        Takes::Nothing | Takes::Itself => Ok(arg),
-        Takes::NothingWithout(others) => arg.conflicts_with_all(others),
-        Takes::Rule => Ok(arg.value_name("RULE")),
+        Takes::Nothing | Takes::NothingWithout(_) | Takes::Itself => option,
+        Takes::Rule => option.value_name("RULE"),
         Takes::Number(symbol, numbers) => {
-            let (least, most) = (i64::from(numbers.least), i64::from(numbers.most));
-            let among = value_parser!(usize).range(least..=most);
-            Ok(set(arg, symbol, numbers.shown).value_parser(among))
+            let among = ValueParser::Unsigned(numbers.least.into(), numbers.most.into());
+            set(option, symbol, numbers.shown).value_parser(among)
         }
-        Takes::NumberWithout(symbol, from, until, others) => {
-            let among = value_parser!(usize).range(*from..=*until);
-            let number = arg.value_name(symbol).value_parser(among);
-            number.conflicts_with_all(others)
+        Takes::NumberWithout(symbol, least, most, _) => {
+            let among = ValueParser::Unsigned(*least, *most);
+            option.value_name(symbol).value_parser(among)
         }
         Takes::OneOf(symbol, words, default) => {
-            Ok(set(arg, symbol, default).value_parser(*words))
+            set(option, symbol, default).value_parser(ValueParser::Names(words))
         }
     }
 }
 
 /// The option with one value, else the default.
-fn set<'a>(arg: Arg<'a>, symbol: &'static str, default: &'static str) -> Arg<'a> {
-    arg.value_name(symbol).default_value(default)
+fn set<'a>(option: Arg<'a>, symbol: &'static str, default: &'static str) -> Arg<'a> {
+    option.value_name(symbol).default_value(default)
 }
 
 /// The program without its options.
