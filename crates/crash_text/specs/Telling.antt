@@ -38,14 +38,14 @@ pub record IsTraceOf (settings : Settings) (base : Disk) (t : TracedPatches) (la
 
 -- what is found of patches that were traced over the base
 pub record AreFindings {A : Type 0} (f : Findings A) : Type 0 where
-  pub on_base : AreOnBase f.base.now f.traced.patches
-  pub found : AreFound f.settings.now f.demands f.base.now f.traced.patches f.found
+  pub on_base : AreOnBase f.base.now f.traced.now.patches
+  pub found : AreFound f.settings.now f.demands.now f.base.now f.traced.now.patches f.found
 
 -- the text is the report on what is found, whatever state traced these patches
 abbrev pub IsReportOf : {A : Type 0} → Findings A → List ℕ → Type 0
 IsReportOf f text =
-    (last : Tracing) → IsTraceOf f.settings.now f.base.now f.traced last
-    → IsReport f.settings.now f.demands f.base.now last f.traced.patches text f.found.failing
+    (last : Tracing) → IsTraceOf f.settings.now f.base.now f.traced.now last
+    → IsReport f.settings.now f.demands.now f.base.now last f.traced.now.patches text f.found.failing
 
 -- the report with this body as the definition sees it
 abbrev pub whole : Settings → Explanation → List Patch → ℕ → ℕ → Body → Report

@@ -33,7 +33,7 @@ use std::thread::Threads;
 pub(crate) fn report_by_rule<R, A, G>(
     host: &Host<'_, R, A>,
     finder: &Finder<'_, R, A, G>,
-    findings: &Findings<'_, '_, A>,
+    findings: &Findings<'_, '_, '_, A>,
 ) -> Result<String<A>, AllocError>
 where
     R: Threads + Wait + Sync,
@@ -54,7 +54,7 @@ where
 /// the ordering without it, within the limit of the settings. It fails only when out of memory.
 fn needs<R, A, G>(
     finder: &Finder<'_, R, A, G>,
-    findings: &Findings<'_, '_, A>,
+    findings: &Findings<'_, '_, '_, A>,
 ) -> Result<Vec<ToldRule<A>, A>, AllocError>
 where
     R: Threads + Wait + Sync,
@@ -63,9 +63,9 @@ where
     requires same { finder.now.settings.now ≡ findings.now.settings.now }
     requires found { AreFindings findings.now }
     ensures { IfOk result (λ rules. (last : Tracing)
-        → IsTraceOf findings.now.settings.now findings.now.base.now findings.now.traced last
-        → AreToldRules (detail_of findings.now.settings.now findings.now.demands) findings.now.settings.now.limit
-        (ordering_rules findings.now.settings.now) findings.now.base.now last findings.now.traced.patches
+        → IsTraceOf findings.now.settings.now findings.now.base.now findings.now.traced.now last
+        → AreToldRules (detail_of findings.now.settings.now findings.now.demands.now) findings.now.settings.now.limit
+        (ordering_rules findings.now.settings.now) findings.now.base.now last findings.now.traced.now.patches
         (ordering_rules findings.now.settings.now) (map told_rule rules.items)) }
 {
     let mut rules = Vec::new(finder.alloc);
@@ -81,7 +81,7 @@ where
 /// memory.
 fn usage<R, A, G>(
     finder: &Finder<'_, R, A, G>,
-    findings: &Findings<'_, '_, A>,
+    findings: &Findings<'_, '_, '_, A>,
     rule: Rule,
 ) -> Result<RuleUsage<A>, AllocError>
 where
@@ -90,16 +90,17 @@ where
     G: Gate + Sync,
     requires same { finder.now.settings.now ≡ findings.now.settings.now }
     requires found { AreFindings findings.now }
-    ensures { IfOk result (λ usage. (last : Tracing) → last.emitted ≡ findings.now.traced.emitted
-        → last.links ≡ findings.now.traced.links → last.whole ≡ findings.now.traced.whole
-        → IsRuleUsage (detail_of findings.now.settings.now findings.now.demands) findings.now.settings.now.limit
-        findings.now.traced.rules findings.now.base.now last findings.now.traced.patches rule (usage_of usage)) }
+    ensures { IfOk result (λ usage. (last : Tracing) → last.emitted ≡ findings.now.traced.now.emitted
+        → last.links ≡ findings.now.traced.now.links → last.whole ≡ findings.now.traced.now.whole
+        → IsRuleUsage (detail_of findings.now.settings.now findings.now.demands.now) findings.now.settings.now.limit
+        findings.now.traced.now.rules findings.now.base.now last findings.now.traced.now.patches rule
+        (usage_of usage)) }
 {
     let pairs = findings.traced.pairs(rule);
     if pairs == 0 {
         return Ok(RuleUsage::Unused);
     }
-    let changed = graph_without(&findings.traced, finder.alloc, findings.base, rule)?;
+    let changed = graph_without(findings.traced, finder.alloc, findings.base, rule)?;
     usage_without(finder, findings, pairs, &changed)
 }
 
@@ -108,7 +109,7 @@ where
 /// `changed` has the same patches without that rule.
 fn usage_without<R, A, G>(
     finder: &Finder<'_, R, A, G>,
-    findings: &Findings<'_, '_, A>,
+    findings: &Findings<'_, '_, '_, A>,
     pairs: usize,
     changed: &Graph<A>,
 ) -> Result<RuleUsage<A>, AllocError>
@@ -119,14 +120,14 @@ where
     requires same { finder.now.settings.now ≡ findings.now.settings.now }
     requires on_base { AreOnBase findings.now.base.now changed.now }
     requires earlier { AreEarlier (deps_of changed.now) }
-    ensures { IfOk result (λ usage. IsUsageBy (detail_of findings.now.settings.now findings.now.demands)
-        findings.now.settings.now.limit findings.now.base.now findings.now.traced.patches changed.now pairs
+    ensures { IfOk result (λ usage. IsUsageBy (detail_of findings.now.settings.now findings.now.demands.now)
+        findings.now.settings.now.limit findings.now.base.now findings.now.traced.now.patches changed.now pairs
         (usage_of usage)) }
 {
     let crashes = Crashes {
         base: findings.base,
         graph: changed,
-        demands: &findings.demands,
+        demands: findings.demands,
     };
     match finder.count_failing(&crashes, findings.traced.graph()) {
         Ok(count) => Ok(RuleUsage::Used {
@@ -145,23 +146,23 @@ where
 /// `changed` has the same patches without a rule of it, and `set` is that set. It fails only when out of memory.
 fn first_section<A: Allocator + Copy>(
     alloc: A,
-    findings: &Findings<'_, '_, A>,
+    findings: &Findings<'_, '_, '_, A>,
     changed: &Graph<A>,
     set: Option<u128>,
 ) -> Result<Option<Section<A>>, AllocError>
     requires on_base { AreOnBase findings.now.base.now changed.now }
     requires earlier { AreEarlier (deps_of changed.now) }
-    requires first { IsFirstPrevented (IsFailingUnder findings.now.demands findings.now.base.now changed.now)
-        (IsClosed (deps_of findings.now.traced.patches)) set }
+    requires first { IsFirstPrevented (IsFailingUnder findings.now.demands.now findings.now.base.now changed.now)
+        (IsClosed (deps_of findings.now.traced.now.patches)) set }
     ensures { IfOk result (λ first. (sets : List ℕ)
-        → AreAllInOrder (IsFailingUnder findings.now.demands findings.now.base.now changed.now) sets
-        → IsFirstNew (detail_of findings.now.settings.now findings.now.demands) findings.now.base.now
-        findings.now.traced.patches changed.now sets (option_map section_of first)) }
+        → AreAllInOrder (IsFailingUnder findings.now.demands.now findings.now.base.now changed.now) sets
+        → IsFirstNew (detail_of findings.now.settings.now findings.now.demands.now) findings.now.base.now
+        findings.now.traced.now.patches changed.now sets (option_map section_of first)) }
 {
     let Some(set) = set else {
         return Ok(None);
     };
-    let (explain, demands) = (findings.settings.explain, &findings.demands);
+    let (explain, demands) = (findings.settings.explain, findings.demands);
     let mut maker = SectionMaker::new(alloc, findings.base, changed, explain, demands)?;
     let section = maker.section(set)?;
     Ok(Some(section))

@@ -121,7 +121,7 @@ where
         traced,
         demands,
     };
-    answer_traced(host, request, gate, script)
+    answer_traced(host, request, gate, &script)
 }
 
 /// Answers the question about what a crash can leave of a traced script.
@@ -129,7 +129,7 @@ fn answer_traced<R, A, G>(
     host: &Host<'_, R, A>,
     request: &Request,
     gate: &G,
-    script: TracedScript<'_, A>,
+    script: &TracedScript<'_, A>,
 ) -> Result<Outcome<A>, RunFault>
 where
     R: Threads + Wait + Sync,
@@ -138,21 +138,21 @@ where
     requires limit { IsExplorable request.now.settings }
     requires workers { (1 ≤ request.now.workers) × (request.now.workers ≤ 16) }
     requires asked { IsOfSteps request.now.question }
-    requires on_base { AreOnBase script.base.now script.traced.patches }
-    ensures reported { IfOk result (λ outcome. IsReportOn request.now.question request.now.settings script.entry
+    requires on_base { AreOnBase script.now.base.now script.now.traced.patches }
+    ensures reported { IfOk result (λ outcome. IsReportOn request.now.question request.now.settings script.now
         (string_bytes outcome.text) outcome.number) }
     ensures past { IfErr result
-        (IsPastLimit request.now.question request.now.settings script.entry.traced.patches) }
-    ensures safe { NoneFails script.entry → IfOk result (λ outcome. outcome.number ≡ 0) }
+        (IsPastLimit request.now.question request.now.settings script.now.traced.patches) }
+    ensures safe { NoneFails script.now → IfOk result (λ outcome. outcome.number ≡ 0) }
 {
     match request.question {
         Question::Visit => visited(host, request, gate, script),
         Question::Decide => {
-            let outcome = decided(host, request, &script)?;
+            let outcome = decided(host, request, script)?;
             Ok(outcome)
         }
         Question::Enough => {
-            let outcome = enough(host, &request.settings, &script)?;
+            let outcome = enough(host, &request.settings, script)?;
             Ok(outcome)
         }
         Question::Search(_) | Question::SearchRules(_) => unreachable!(),

@@ -27,15 +27,18 @@ use traced_patches::Traced;
 
 /// What was found of the patches that were traced over a base, by what the script demands of images.
 #[derive(Drop)]
-pub(crate) struct Findings<'steps, 'asked, A: Allocator + Copy> {
+pub(crate) struct Findings<'found, 'steps, 'asked, A: Allocator + Copy> {
     pub base: &'steps Image<A>,
-    pub traced: Traced<'steps, A>,
+    pub traced: &'found Traced<'steps, A>,
     pub settings: &'asked Settings,
-    pub demands: Demands<A>,
+    pub demands: &'found Demands<A>,
     pub found: Found<A>,
 }
 
-impl<'steps, 'asked, A: Allocator + Copy + Send + Sync> Findings<'steps, 'asked, A> {
+impl<'found, 'steps, 'asked, A> Findings<'found, 'steps, 'asked, A>
+where
+    A: Allocator + Copy + Send + Sync,
+{
     /// The report with a section for each failing set, of which these are all. It fails only when out of memory.
     pub fn by_set<R: Threads + Sync>(
         &self,
@@ -45,8 +48,8 @@ impl<'steps, 'asked, A: Allocator + Copy + Send + Sync> Findings<'steps, 'asked,
     ) -> Result<String<A>, AllocError>
         requires found { AreFindings self.now }
         requires by { self.now.settings.now.by ≡ BySet }
-        requires sets { AreAllInOrder (IsFailingUnder self.now.demands self.now.base.now self.now.traced.patches)
-            sets.now }
+        requires sets { AreAllInOrder
+            (IsFailingUnder self.now.demands.now self.now.base.now self.now.traced.now.patches) sets.now }
         ensures { IfOk result (λ text. IsReportOf self.now (string_bytes text)) }
     {
         self.write(host, Body::Sets(sets), workers)
@@ -61,7 +64,7 @@ impl<'steps, 'asked, A: Allocator + Copy + Send + Sync> Findings<'steps, 'asked,
     ) -> Result<String<A>, AllocError>
         requires found { AreFindings self.now }
         requires by { self.now.settings.now.by ≡ ByFault }
-        requires rows { AreRows (HasFault self.now.demands self.now.base.now self.now.traced.patches) rows.now }
+        requires rows { AreRows (HasFault self.now.demands.now self.now.base.now self.now.traced.now.patches) rows.now }
         ensures { IfOk result (λ text. IsReportOf self.now (string_bytes text)) }
     {
         self.write(host, Body::Faults(rows), workers)
@@ -76,9 +79,9 @@ impl<'steps, 'asked, A: Allocator + Copy + Send + Sync> Findings<'steps, 'asked,
     ) -> Result<String<A>, AllocError>
         requires found { AreFindings self.now }
         requires by { self.now.settings.now.by ≡ ByRule }
-        requires rules { (last : Tracing) → IsTraceOf self.now.settings.now self.now.base.now self.now.traced last
-            → AreToldRules (detail_of self.now.settings.now self.now.demands) self.now.settings.now.limit
-            (ordering_rules self.now.settings.now) self.now.base.now last self.now.traced.patches
+        requires rules { (last : Tracing) → IsTraceOf self.now.settings.now self.now.base.now self.now.traced.now last
+            → AreToldRules (detail_of self.now.settings.now self.now.demands.now) self.now.settings.now.limit
+            (ordering_rules self.now.settings.now) self.now.base.now last self.now.traced.now.patches
             (ordering_rules self.now.settings.now) (map told_rule rules.now) }
         ensures { IfOk result (λ text. IsReportOf self.now (string_bytes text)) }
     {
@@ -92,34 +95,31 @@ impl<'steps, 'asked, A: Allocator + Copy + Send + Sync> Findings<'steps, 'asked,
         body: Body<'_, A>,
         workers: usize,
     ) -> Result<String<A>, AllocError>
-        requires on_base { AreOnBase self.now.base.now self.now.traced.patches }
-        requires closed { AreClosed self.now.traced.patches (sets_of body) }
-        ensures { IfOk result (λ text. Tells self.now.settings.now (detail_of self.now.settings.now self.now.demands)
-            self.now.base.now self.now.traced self.now.found.closed self.now.found.failing body.entry
-            (string_bytes text)) }
+        requires on_base { AreOnBase self.now.base.now self.now.traced.now.patches }
+        requires closed { AreClosed self.now.traced.now.patches (sets_of body) }
+        ensures { IfOk result (λ text. Tells self.now.settings.now
+            (detail_of self.now.settings.now self.now.demands.now) self.now.base.now self.now.traced.now
+            self.now.found.closed self.now.found.failing body.entry (string_bytes text)) }
     {
         let report = self.report(body);
         write_report(host, &report, workers)
     }
 
     /// The report with this body.
-    fn report<'found, 'body>(
-        &'found self,
-        body: Body<'body, A>,
-    ) -> Report<'found, 'steps, 'asked, 'body, A>
+    fn report<'body>(&self, body: Body<'body, A>) -> Report<'found, 'steps, 'asked, 'body, A>
         ensures base { result.base.now ≡ self.now.base.now }
-        ensures traced { result.traced.now ≡ self.now.traced }
+        ensures traced { result.traced.now ≡ self.now.traced.now }
         ensures settings { result.settings.now ≡ self.now.settings.now }
-        ensures demands { result.demands.now ≡ self.now.demands }
+        ensures demands { result.demands.now ≡ self.now.demands.now }
         ensures closed { result.closed ≡ self.now.found.closed }
         ensures failing { result.failing ≡ self.now.found.failing }
         ensures body { result.body ≡ body.entry }
     {
         Report {
             base: self.base,
-            traced: &self.traced,
+            traced: self.traced,
             settings: self.settings,
-            demands: &self.demands,
+            demands: self.demands,
             closed: self.found.closed,
             failing: self.found.failing,
             body,

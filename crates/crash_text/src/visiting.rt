@@ -24,7 +24,7 @@ pub(crate) fn visited<R, A, G>(
     host: &Host<'_, R, A>,
     request: &Request,
     gate: &G,
-    script: TracedScript<'_, A>,
+    script: &TracedScript<'_, A>,
 ) -> Result<Outcome<A>, RunFault>
 where
     R: Threads + Wait + Sync,
@@ -32,11 +32,11 @@ where
     G: Gate + Sync,
     requires limit { IsExplorable request.now.settings }
     requires workers { (1 ≤ request.now.workers) × (request.now.workers ≤ 16) }
-    requires on_base { AreOnBase script.base.now script.traced.patches }
+    requires on_base { AreOnBase script.now.base.now script.now.traced.patches }
     ensures reported { IfOk result (λ outcome.
-        IsReportOn Visit request.now.settings script.entry (string_bytes outcome.text) outcome.number) }
-    ensures too_many { IfErr result (SaysTooMany script.entry.traced.patches request.now.settings.limit) }
-    ensures safe { NoneFails script.entry → IfOk result (λ outcome. outcome.number ≡ 0) }
+        IsReportOn Visit request.now.settings script.now (string_bytes outcome.text) outcome.number) }
+    ensures too_many { IfErr result (SaysTooMany script.now.traced.patches request.now.settings.limit) }
+    ensures safe { NoneFails script.now → IfOk result (λ outcome. outcome.number ≡ 0) }
 {
     let finder = Finder {
         rt: host.rt,
@@ -53,9 +53,9 @@ where
     let found = finder.find(&crashes)?;
     let findings = Findings {
         base: script.base,
-        traced: script.traced,
+        traced: &script.traced,
         settings: &request.settings,
-        demands: script.demands,
+        demands: &script.demands,
         found,
     };
     Ok(Outcome {
@@ -68,7 +68,7 @@ where
 fn report<R, A, G>(
     host: &Host<'_, R, A>,
     finder: &Finder<'_, R, A, G>,
-    findings: &Findings<'_, '_, A>,
+    findings: &Findings<'_, '_, '_, A>,
 ) -> Result<String<A>, AllocError>
 where
     R: Threads + Wait + Sync,

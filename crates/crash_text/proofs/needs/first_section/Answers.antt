@@ -14,34 +14,34 @@ pub returns-in_default : goal.returns-in_default
 returns-in_default g c = λ sets all.
     let f = c.args.findings.now in
     let changed = c.args.changed.now in
-    let patches = f.traced.patches in
-    none_new f.demands f.base.now patches changed sets (subst
-    (λ (o : Option ℕ). IsFirstPrevented (IsFailingUnder f.demands f.base.now changed) (IsClosed (deps_of patches)) o)
-    c.in_default.is c.requires.first) all
+    let patches = f.traced.now.patches in
+    none_new f.demands.now f.base.now patches changed sets (subst
+    (λ (o : Option ℕ). IsFirstPrevented (IsFailingUnder f.demands.now f.base.now changed) (IsClosed (deps_of patches))
+    o) c.in_default.is c.requires.first) all
 
 pub returns : goal.returns
 returns g c = λ sets all.
     let f = c.args.findings.now in
     let changed = c.args.changed.now in
-    let patches = f.traced.patches in
+    let patches = f.traced.now.patches in
     let set = c.in-Some.set in
     let section = c.in_ok-section.section in
-    let first : IsFirstOut (IsFailingUnder f.demands f.base.now changed) (IsClosed (deps_of patches)) set =
-    subst (λ (o : Option ℕ). IsFirstPrevented (IsFailingUnder f.demands f.base.now changed)
+    let first : IsFirstOut (IsFailingUnder f.demands.now f.base.now changed) (IsClosed (deps_of patches)) set =
+    subst (λ (o : Option ℕ). IsFirstPrevented (IsFailingUnder f.demands.now f.base.now changed)
     (IsClosed (deps_of patches)) o) c.in-Some.is c.requires.first in
-    let is : IsSection (detail_of f.settings.now f.demands) f.base.now changed set section =
+    let is : IsSection (detail_of f.settings.now f.demands.now) f.base.now changed set section =
     subst (λ (m : Reported). IsSection m.detail m.base m.patches set section) c.in_ok-maker.ensures
     c.in_ok-section.ensures.told in
-    some_new (detail_of f.settings.now f.demands) f.base.now patches changed sets set section c.requires.earlier first all
-    is
+    some_new (detail_of f.settings.now f.demands.now) f.base.now patches changed sets set section c.requires.earlier
+    first all is
 
 pub section-requires : goal.section-requires
 section-requires g c =
     let f = c.args.findings.now in
     let changed = c.args.changed.now in
-    let first : IsFirstOut (IsFailingUnder f.demands f.base.now changed) (IsClosed (deps_of f.traced.patches))
-    c.in-Some.set = subst (λ (o : Option ℕ). IsFirstPrevented (IsFailingUnder f.demands f.base.now changed)
-    (IsClosed (deps_of f.traced.patches)) o) c.in-Some.is c.requires.first in
+    let first : IsFirstOut (IsFailingUnder f.demands.now f.base.now changed) (IsClosed (deps_of f.traced.now.patches))
+    c.in-Some.set = subst (λ (o : Option ℕ). IsFirstPrevented (IsFailingUnder f.demands.now f.base.now changed)
+    (IsClosed (deps_of f.traced.now.patches)) o) c.in-Some.is c.requires.first in
     record {
       closed = subst (λ (m : Reported). IsClosed (deps_of m.patches) c.in-Some.set) (sym c.in_ok-maker.ensures)
           first.among.closed;

@@ -10,8 +10,8 @@ use Rattle.crash_text.proofs.needs.needs.Goals as goal
 pub loop-rule-preserved : goal.loop-rule-preserved
 loop-rule-preserved g c = λ last emitted links whole.
     let f = c.args.findings.now in
-    rule_more (detail_of f.settings.now f.demands) f.settings.now.limit f.traced.rules f.base.now last f.traced.patches
-    c.rules-rule-items.result.now c.loop-rule.rule-index _ c.loop-rule.rules.items c.push.new.self.items
+    rule_more (detail_of f.settings.now f.demands.now) f.settings.now.limit f.traced.now.rules f.base.now last
+    f.traced.now.patches c.rules-rule-items.result.now c.loop-rule.rule-index _ c.loop-rule.rules.items c.push.new.self.items
     c.in_ok-usage.usage
     c.loop-rule-test.true (c.loop-rule.invariant last emitted links whole)
     (c.in_ok-usage.ensures last emitted links whole)
@@ -22,10 +22,10 @@ returns g c = λ last is.
     let f = c.args.findings.now in
     let told = map told_rule c.loop-rule.rules.items in
     let items = c.rules-rule-items.result.now in
-    let all : take c.loop-rule.rule-index items ≡ f.traced.rules =
+    let all : take c.loop-rule.rule-index items ≡ f.traced.now.rules =
     take_all c.loop-rule.rule-index items c.loop-rule-test.false ∙ c.rules-rule-items.ensures in
-    subst (λ (rules : List Rule). AreToldRules (detail_of f.settings.now f.demands) f.settings.now.limit rules f.base.now
-    last f.traced.patches rules told) is.rules
-    (subst (λ (rules : List Rule). AreToldRules (detail_of f.settings.now f.demands) f.settings.now.limit f.traced.rules
-    f.base.now last f.traced.patches rules told) all
+    subst (λ (rules : List Rule). AreToldRules (detail_of f.settings.now f.demands.now) f.settings.now.limit rules
+    f.base.now last f.traced.now.patches rules told) is.rules
+    (subst (λ (rules : List Rule). AreToldRules (detail_of f.settings.now f.demands.now) f.settings.now.limit
+    f.traced.now.rules f.base.now last f.traced.now.patches rules told) all
     (c.loop-rule.invariant last (sym is.emitted) (sym is.links) (sym is.whole)))

@@ -6,7 +6,7 @@ use Rattle.crash_text.proofs.visiting.visited.Goals as goal
 
 pub returns-clause-safe : goal.returns-clause-safe
 returns-clause-safe g c = λ none.
-    let script = c.args.script in
+    let script = c.args.script.now in
     let found = c.in_ok-found.ensures.found in
     let exactly = subst (λ ps. AreAllInOrder (IsFailingUnder script.demands script.base.now ps) found.sets) c.graph.ensures
     found.totals.exactly in

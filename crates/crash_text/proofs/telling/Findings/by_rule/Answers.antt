@@ -7,14 +7,14 @@ use Rattle.crash_text.proofs.Bodies.{by_rule}
 use Rattle.crash_text.proofs.telling.Findings.by_rule.Goals as goal
 
 pub write-requires-clause-closed : goal.write-requires-clause-closed
-write-requires-clause-closed g c = λ _ _. let f = c.args.self.now in All-nil (IsClosed (deps_of f.traced.patches))
+write-requires-clause-closed g c = λ _ _. let f = c.args.self.now in All-nil (IsClosed (deps_of f.traced.now.patches))
 
 pub returns : goal.returns
 returns g c =
     let f = c.args.self.now in
     let found = c.requires.found.found in
     IfOk-weaker c.write.result _ _
-    (λ text told. λ last is. by_rule f.settings.now f.demands f.base.now f.traced last is g.row.A.Denot f.found.closed
-    f.found.failing found.sets (string_bytes text) c.args.rules found.totals c.requires.by
+    (λ text told. λ last is. by_rule f.settings.now f.demands.now f.base.now f.traced.now last is g.row.A.Denot
+    f.found.closed f.found.failing found.sets (string_bytes text) c.args.rules found.totals c.requires.by
     (c.requires.rules last is) told)
     c.write.ensures
