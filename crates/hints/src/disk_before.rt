@@ -11,7 +11,7 @@ use std::alloc::Allocator;
 use std::str;
 
 /// What a path names.
-#[derive(Clone, Copy, Debug, PartialEq, Eq)]
+#[derive(Clone, Copy, PartialEq, Eq)]
 pub(crate) enum Named {
     Nothing,
     File,

@@ -10,7 +10,7 @@ use std::fmt;
 const MOST_NAMED: usize = 8;
 
 /// A group that a line `depend` names, and that never gets a patch.
-#[derive(Debug, Drop)]
+#[derive(Drop)]
 pub struct EmptyGroup<'a> {
     /// The number of the line, from 1.
     pub number: usize,
@@ -20,7 +20,7 @@ pub struct EmptyGroup<'a> {
 }
 
 /// The groups that get a patch: the first eight, and whether there are more.
-#[derive(Debug, Drop)]
+#[derive(Drop)]
 pub struct FullGroups<'a> {
     pub names: ArrayVec<Quoted<'a>, MOST_NAMED>,
     pub more: bool,
@@ -105,10 +105,6 @@ impl fmt::Display for FullGroups<'_> {
         for name in self.names.as_slice() {
             write!(f, " {name}")?;
         }
-        if self.more {
-            f.write_str(" ..")
-        } else {
-            Ok(())
-        }
+        f.write_str(if self.more { " .." } else { "" })
     }
 }

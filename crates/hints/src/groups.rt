@@ -1,11 +1,12 @@
 //! Why a line on groups is refused.
 
+use crate::sentences::Middle::{Nothing, Number};
+use crate::sentences::Sentence;
 use crash_model::names::GroupName;
 use crash_model::steps::{Act, Step};
-use std::fmt;
 
 /// Why a line on groups is refused.
-#[derive(Debug, Drop)]
+#[derive(Clone, Copy)]
 pub enum GroupFault {
     /// It is before the start line.
     BeforeStart,
@@ -105,36 +106,36 @@ fn opened_at(steps: &[Step], number: usize, name: &GroupName) -> Option<usize> {
     None
 }
 
-impl fmt::Display for GroupFault {
-    fn fmt<W: fmt::Write>(&self, f: &mut fmt::Formatter<W>) -> fmt::Result {
-        match self {
-            GroupFault::BeforeStart => f.write_str("the line is before `start`"),
-            GroupFault::IsOpen(line) => write!(f, "a group is open since line {line}"),
-            GroupFault::WasOpened(line) => write!(f, "line {line} opened this group already"),
-            GroupFault::NoneIsOpen => f.write_str("no group is open at this line"),
-            GroupFault::NeverOpened => f.write_str(
+impl GroupFault {
+    /// What is wrong, as a sentence.
+    pub(crate) fn sentence(self) -> Sentence<'static> {
+        let (before, middle, after) = match self {
+            GroupFault::BeforeStart => ("the line is before `start`", Nothing, ""),
+            GroupFault::IsOpen(line) => ("a group is open since line ", Number(line), ""),
+            GroupFault::WasOpened(line) => ("line ", Number(line), " opened this group already"),
+            GroupFault::NoneIsOpen => ("no group is open at this line", Nothing, ""),
+            GroupFault::NeverOpened => (
                 "no line before this one opens the earlier group",
+                Nothing,
+                "",
             ),
-            GroupFault::InPool => f.write_str("a pool has operations alone"),
-            GroupFault::NotEnded(line) => write!(f, "the earlier group is open since line {line}"),
-            GroupFault::Itself => f.write_str("the line names one group twice"),
-            GroupFault::HasPatches(line) => {
-                write!(
-                    f,
-                    "the later group was opened on line {line} and has patches already"
-                )
+            GroupFault::InPool => ("a pool has operations alone", Nothing, ""),
+            GroupFault::NotEnded(line) => {
+                ("the earlier group is open since line ", Number(line), "")
             }
-        }
+            GroupFault::Itself => ("the line names one group twice", Nothing, ""),
+            GroupFault::HasPatches(line) => (
+                "the later group was opened on line ",
+                Number(line),
+                " and has patches already",
+            ),
+        };
+        Sentence(before, middle, after)
     }
-}
 
-/// What would be right in place of such a line.
-#[derive(Clone, Copy)]
-pub(crate) struct GroupRemedy<'a>(pub &'a GroupFault);
-
-impl fmt::Display for GroupRemedy<'_> {
-    fn fmt<W: fmt::Write>(&self, f: &mut fmt::Formatter<W>) -> fmt::Result {
-        f.write_str(match self.0 {
+    /// What would be right in place of such a line.
+    pub(crate) fn remedy(self) -> &'static str {
+        match self {
             GroupFault::BeforeStart => "groups order what is traced, so they come after `start`",
             GroupFault::IsOpen(_) => "put a line `end` before this one",
             GroupFault::WasOpened(_) => "a group is opened once; give this one another name",
@@ -146,6 +147,6 @@ impl fmt::Display for GroupRemedy<'_> {
             GroupFault::NotEnded(_) => "put a line `end` before this one",
             GroupFault::Itself => "write `depend LATER EARLIER` with the names of two groups",
             GroupFault::HasPatches(_) => "write `depend` before the later group's first operation",
-        })
+        }
     }
 }

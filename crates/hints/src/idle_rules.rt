@@ -12,6 +12,7 @@ use order_modules::trace;
 use script_text::{Script, read_script};
 use std::alloc::Allocator;
 use std::fmt;
+use traced_patches::Traced;
 
 /// Each operation in each of its forms, and two blocks that become free at once.
 const EACH_OPERATION: &[u8] = b"start
@@ -33,7 +34,7 @@ const LARGE: DiskSize = DiskSize {
 };
 
 /// A rule that was put in and orders no two patches of the script.
-#[derive(Clone, Copy, Debug, PartialEq, Eq)]
+#[derive(Clone, Copy)]
 pub struct IdleRule {
     pub rule: Rule,
     pub module: Module,
@@ -41,7 +42,7 @@ pub struct IdleRule {
 }
 
 /// Why a rule orders no two patches of any script.
-#[derive(Clone, Copy, Debug, PartialEq, Eq)]
+#[derive(Clone, Copy)]
 pub enum Never {
     /// No operation has this part.
     NoPart(RulePart),
@@ -59,13 +60,18 @@ pub(crate) fn idle_rules<A: Allocator + Copy>(
     let base = base_on(alloc, script, disk_of(settings))?;
     let ordering = settings.ordering();
     let traced = trace(alloc, &base, &script.traced, &ordering)?;
+    Ok(idle_among(settings.put_in().as_slice(), &traced))
+}
+
+/// Those of the rules that order no two patches of the trace.
+fn idle_among<A: Allocator + Copy>(rules: &[Rule], traced: &Traced<'_, A>) -> RuleList {
     let mut idle = ArrayVec::new();
-    for rule in settings.put_in().as_slice() {
+    for rule in rules {
         if traced.pairs(*rule) == 0 && !idle.is_full() {
             idle.push(*rule);
         }
     }
-    Ok(idle)
+    idle
 }
 
 /// Why a rule orders no two patches of any script under the module. `None` if it orders some, or memory ran out.
@@ -78,16 +84,32 @@ pub(crate) fn why_never<A: Allocator + Copy>(
     let base = base_on(alloc, &script, LARGE).ok()?;
     let ordering = Ordering::of(module);
     let traced = trace(alloc, &base, &script.traced, &ordering).ok()?;
-    for part in [rule.later, rule.earlier] {
-        if !traced.labels().iter().any(|label| part.has(label.part)) {
-            return Some(Never::NoPart(part));
-        }
+    never_in(rule, &traced)
+}
+
+/// Why a rule orders no two patches of any script, by the trace of a script with each operation in each of its forms.
+fn never_in<A: Allocator + Copy>(rule: Rule, traced: &Traced<'_, A>) -> Option<Never> {
+    if !has_part(traced, rule.later) {
+        return Some(Never::NoPart(rule.later));
+    }
+    if !has_part(traced, rule.earlier) {
+        return Some(Never::NoPart(rule.earlier));
     }
     // Any operation can follow any other, so only the order within one operation forbids a rule.
     match rule.scope {
         Scope::Same if traced.pairs(rule) == 0 => Some(Never::NotBefore),
         _ => None,
     }
+}
+
+/// Whether a patch of the trace has this part of a rule.
+fn has_part<A: Allocator + Copy>(traced: &Traced<'_, A>, part: RulePart) -> bool {
+    for label in traced.labels() {
+        if part.has(label.part) {
+            return true;
+        }
+    }
+    false
 }
 
 impl fmt::Display for IdleRule {

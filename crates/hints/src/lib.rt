@@ -14,6 +14,7 @@ mod paths;
 mod quoted;
 mod refusals;
 mod room;
+mod sentences;
 mod sizes;
 mod verbs;
 mod warnings;

@@ -1,18 +1,21 @@
 //! What is wrong with a line that says nothing the program knows.
 
 use crate::paths::{PathFault, path_fault};
-use crate::quoted::{Quoted, line_at};
+use crate::quoted::line_at;
+use crate::sentences::Middle::{Nothing, Number, Quote};
+use crate::sentences::Sentence;
 use crate::verbs::{LIST, Verb, likely_verb, verb_of};
 use arrayvec::ArrayVec;
 use crash_model::names::GroupName;
 use std::alloc::Allocator;
+use std::fmt::Display;
 use std::{fmt, str};
 
 /// The most words of a line that are looked at: a verb, two operands, and one too many.
 const MOST_WORDS: usize = 4;
 
 /// What is wrong with a line.
-#[derive(Debug, Drop)]
+#[derive(Clone, Copy)]
 pub enum LineFault<'a> {
     NotUtf8,
     CarriageReturn,
@@ -32,7 +35,6 @@ pub enum LineFault<'a> {
     NoGroupName(&'a str),
     /// The script has a start line already, on this line.
     SecondStart(usize),
-    Path(PathFault<'a>),
 }
 
 /// What is wrong with the line of this number, which the program refused because it is not a line of a script.
@@ -87,13 +89,22 @@ fn words_fault<'a, A: Allocator + Copy>(
     if operands.len() != verb.operands {
         return LineFault::Operands(verb);
     }
-    match operands
-        .iter()
-        .find(|operand| GroupName::read(operand).is_none())
-    {
-        Some(operand) if verb.names_groups => LineFault::NoGroupName(operand),
-        _ => LineFault::SecondStart(start_line(script)),
+    if verb.names_groups {
+        if let Some(operand) = no_group_name(operands) {
+            return LineFault::NoGroupName(operand);
+        }
     }
+    LineFault::SecondStart(start_line(script))
+}
+
+/// The first of the words that is no name of a group.
+fn no_group_name<'a>(words: &[&'a str]) -> Option<&'a str> {
+    for word in words {
+        if GroupName::read(word).is_none() {
+            return Some(word);
+        }
+    }
+    None
 }
 
 /// The number of the first line that is `start`, from 1; 0 if there is none.
@@ -119,74 +130,79 @@ pub(crate) fn bad_path(script: &[u8], number: usize) -> Option<PathFault<'_>> {
     None
 }
 
-impl fmt::Display for LineFault<'_> {
-    fn fmt<W: fmt::Write>(&self, f: &mut fmt::Formatter<W>) -> fmt::Result {
+impl<'a> LineFault<'a> {
+    /// What is wrong, as a sentence.
+    pub(crate) fn sentence(self) -> Sentence<'a> {
         match self {
-            LineFault::NotUtf8 => f.write_str("the line is not UTF-8"),
-            LineFault::CarriageReturn => f.write_str("the line has a carriage return"),
-            LineFault::Tab => f.write_str("the line has a tab"),
-            LineFault::Spaces => {
-                f.write_str("the line has two spaces side by side, or one at an end")
-            }
-            LineFault::Comment => f.write_str("a comment follows the words of the line"),
+            LineFault::NotUtf8 => Sentence("the line is not UTF-8", Nothing, ""),
+            LineFault::CarriageReturn => { Sentence("the line has a carriage return", Nothing, "") }
+            LineFault::Tab => Sentence("the line has a tab", Nothing, ""),
+            LineFault::Spaces => Sentence(
+                "the line has two spaces side by side, or one at an end",
+                Nothing,
+                "",
+            ),
+            LineFault::Comment => Sentence("a comment follows the words of the line", Nothing, ""),
             LineFault::NoVerb { word, .. } => {
-                write!(f, "no line begins with {}", Quoted(word.as_bytes()))
+                Sentence("no line begins with ", Quote(word.as_bytes()), "")
             }
-            LineFault::Operands(verb) => write_count(f, verb),
+            LineFault::Operands(verb) => Sentence(
+                words_after(verb),
+                Quote(verb.word.as_bytes()),
+                " on its line",
+            ),
             LineFault::NoGroupName(word) => {
-                write!(f, "{} is no name of a group", Quoted(word.as_bytes()))
+                Sentence("", Quote(word.as_bytes()), " is no name of a group")
             }
-            LineFault::SecondStart(first) => { write!(f, "line {first} is `start` already") }
-            LineFault::Path(fault) => fault.fmt(f),
+            LineFault::SecondStart(first) => {
+                Sentence("line ", Number(first), " is `start` already")
+            }
         }
     }
-}
 
-/// Writes how many words follow a verb.
-fn write_count<W: fmt::Write>(f: &mut fmt::Formatter<W>, verb: &Verb) -> fmt::Result {
-    let word = verb.word;
-    match verb.operands {
-        0 => write!(f, "nothing follows `{word}` on its line"),
-        1 => write!(f, "one word follows `{word}` on its line"),
-        _ => write!(f, "two words follow `{word}` on its line"),
-    }
-}
-
-/// What would be right in place of such a line.
-#[derive(Clone, Copy)]
-pub(crate) struct LineRemedy<'a>(pub &'a LineFault<'a>);
-
-impl fmt::Display for LineRemedy<'_> {
-    fn fmt<W: fmt::Write>(&self, f: &mut fmt::Formatter<W>) -> fmt::Result {
-        match self.0 {
+    /// Writes what would be right in place of such a line.
+    pub(crate) fn write_remedy<W: fmt::Write>(self, f: &mut fmt::Formatter<W>) -> fmt::Result {
+        let words = match self {
             LineFault::NotUtf8 => {
-                f.write_str(
-                    "save the script as UTF-8; a name has only the letters a to z and 0 to 9",
-                )
+                "save the script as UTF-8; a name has only the letters a to z and 0 to 9"
             }
-            LineFault::CarriageReturn => f.write_str("end each line by a line feed alone"),
+            LineFault::CarriageReturn => "end each line by a line feed alone",
             LineFault::Tab | LineFault::Spaces => {
-                f.write_str("put one space between words, and none at the ends")
+                "put one space between words, and none at the ends"
             }
-            LineFault::Comment => f.write_str("put the comment on a line of its own"),
-            LineFault::NoVerb {
-                likely: Some(likely),
-                ..
-            } => { write!(f, "did you mean `{likely}`? A line begins with {LIST}") }
-            LineFault::NoVerb { .. } => write!(f, "a line begins with {LIST}"),
+            LineFault::Comment => "put the comment on a line of its own",
+            LineFault::NoVerb { likely, .. } => {
+                before_list(likely).fmt(f)?;
+                LIST
+            }
             LineFault::Operands(verb) => {
                 let form = verb.form;
-                write!(f, "write `{form}`")
+                return write!(f, "write `{form}`");
             }
-            LineFault::NoGroupName(_) => {
-                f.write_str("a group's name is 1 to 10 letters and digits")
-            }
-            LineFault::SecondStart(_) => f.write_str("a script has one line `start`"),
-            LineFault::Path(_) => {
-                f.write_str(
-                    "a path is one to four times a slash and a name of 1 to 10 of a to z and 0 to 9",
-                )
-            }
-        }
+            LineFault::NoGroupName(_) => "a group's name is 1 to 10 letters and digits",
+            LineFault::SecondStart(_) => "a script has one line `start`",
+        };
+        f.write_str(words)
+    }
+}
+
+/// How many words follow a verb.
+fn words_after(verb: &Verb) -> &'static str {
+    match verb.operands {
+        0 => "nothing follows ",
+        1 => "one word follows ",
+        _ => "two words follow ",
+    }
+}
+
+/// What precedes the list of the words that begin a line, where this one was probably meant.
+fn before_list(likely: Option<&'static str>) -> Sentence<'static> {
+    match likely {
+        Some(verb) => Sentence(
+            "did you mean ",
+            Quote(verb.as_bytes()),
+            "? A line begins with ",
+        ),
+        None => Sentence("a line begins with ", Nothing, ""),
     }
 }

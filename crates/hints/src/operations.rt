@@ -1,14 +1,14 @@
 //! Why an operation is refused.
 
 use crate::disk_before::{Named, first_not_directory, named_by};
-use crate::quoted::Quoted;
+use crate::sentences::Middle::{Nothing, Quote};
+use crate::sentences::Sentence;
 use crash_model::refusals::RunFault;
 use disk_image::Image;
 use std::alloc::Allocator;
-use std::fmt;
 
 /// Why an operation is refused.
-#[derive(Clone, Copy, Debug)]
+#[derive(Clone, Copy)]
 pub enum OperationFault<'a> {
     Missing(&'a [u8]),
     /// A file that a path goes through.
@@ -32,9 +32,9 @@ pub enum OperationFault<'a> {
 }
 
 /// A verb and its paths, as a line has them.
-#[derive(Clone, Copy, Debug)]
+#[derive(Clone, Copy)]
 pub(crate) struct Spoken<'a> {
-    pub verb: &'a str,
+    pub verb: &'a [u8],
     pub first: &'a [u8],
     /// The second path, or the first if there is only one.
     pub last: &'a [u8],
@@ -46,21 +46,12 @@ pub(crate) fn operation_fault<'a, A: Allocator + Copy>(
     spoken: Spoken<'a>,
     fault: RunFault,
 ) -> Option<OperationFault<'a>> {
-    let Spoken { verb, first, last } = spoken;
+    let Spoken { first, last, .. } = spoken;
     Some(match fault {
-        RunFault::NotFound { .. } => walk_fault(disk, first)
-            .or(missing(disk, first))
-            .or(walk_fault(disk, last))?,
-        RunFault::NotADirectory { .. } => walk_fault(disk, first)
-            .or(walk_fault(disk, last))
-            .unwrap_or(OperationFault::RmdirOfFile(first)),
-        RunFault::Exists { .. } if (verb == "link" || verb == "rename") && first == last => {
-            OperationFault::SamePath(first)
-        }
-        RunFault::Exists { .. } if verb == "rename" => OperationFault::RenameOnto(last),
-        RunFault::Exists { .. } => OperationFault::Exists(last),
-        RunFault::NotAFile { .. } if verb == "unlink" => OperationFault::UnlinkOfDirectory(first),
-        RunFault::NotAFile { .. } => OperationFault::IsDirectory(first),
+        RunFault::NotFound { .. } => return not_found(disk, first, last),
+        RunFault::NotADirectory { .. } => not_a_directory(disk, first, last),
+        RunFault::Exists { .. } => exists(spoken),
+        RunFault::NotAFile { .. } => not_a_file(spoken),
         RunFault::NotEmpty { .. } => OperationFault::NotEmpty(first),
         RunFault::NoInode { .. } => OperationFault::NoInode,
         RunFault::DirectoryFull { .. } => OperationFault::DirectoryFull(last),
@@ -68,6 +59,50 @@ pub(crate) fn operation_fault<'a, A: Allocator + Copy>(
         RunFault::LinksFull { .. } => OperationFault::LinksFull(first),
         _ => return None,
     })
+}
+
+/// Which of the paths leads to nothing.
+fn not_found<'a, A: Allocator + Copy>(
+    disk: &Image<A>,
+    first: &'a [u8],
+    last: &'a [u8],
+) -> Option<OperationFault<'a>> {
+    walk_fault(disk, first)
+        .or(missing(disk, first))
+        .or(walk_fault(disk, last))
+}
+
+/// Which file is in the place of a directory.
+fn not_a_directory<'a, A: Allocator + Copy>(
+    disk: &Image<A>,
+    first: &'a [u8],
+    last: &'a [u8],
+) -> OperationFault<'a> {
+    walk_fault(disk, first)
+        .or(walk_fault(disk, last))
+        .unwrap_or(OperationFault::RmdirOfFile(first))
+}
+
+/// What is there already.
+fn exists(spoken: Spoken<'_>) -> OperationFault<'_> {
+    let Spoken { verb, first, last } = spoken;
+    let renames = verb == b"rename".as_slice();
+    if first == last && (renames || verb == b"link".as_slice()) {
+        OperationFault::SamePath(first)
+    } else if renames {
+        OperationFault::RenameOnto(last)
+    } else {
+        OperationFault::Exists(last)
+    }
+}
+
+/// What is a directory, and no file.
+fn not_a_file(spoken: Spoken<'_>) -> OperationFault<'_> {
+    if spoken.verb == b"unlink".as_slice() {
+        OperationFault::UnlinkOfDirectory(spoken.first)
+    } else {
+        OperationFault::IsDirectory(spoken.first)
+    }
 }
 
 /// What is wrong with the directories that the path goes through.
@@ -93,42 +128,40 @@ fn missing<'a, A: Allocator + Copy>(disk: &Image<A>, path: &'a [u8]) -> Option<O
     }
 }
 
-impl fmt::Display for OperationFault<'_> {
-    fn fmt<W: fmt::Write>(&self, f: &mut fmt::Formatter<W>) -> fmt::Result {
-        match *self {
-            OperationFault::Missing(path) => {
-                write!(f, "there is no {} at this line", Quoted(path))
-            }
+impl<'a> OperationFault<'a> {
+    /// What is wrong, as a sentence.
+    pub(crate) fn sentence(self) -> Sentence<'a> {
+        let (before, path, after) = match self {
+            OperationFault::Missing(path) => ("there is no ", path, " at this line"),
             OperationFault::IsFile(path) | OperationFault::RmdirOfFile(path) => {
-                write!(f, "{} is a file", Quoted(path))
+                ("", path, " is a file")
             }
-            OperationFault::SamePath(path) => write!(f, "both paths are {}", Quoted(path)),
+            OperationFault::SamePath(path) => ("both paths are ", path, ""),
             OperationFault::Exists(path) | OperationFault::RenameOnto(path) => {
-                write!(f, "{} is there already", Quoted(path))
+                ("", path, " is there already")
             }
             OperationFault::IsDirectory(path) | OperationFault::UnlinkOfDirectory(path) => {
-                write!(f, "{} is a directory", Quoted(path))
+                ("", path, " is a directory")
             }
-            OperationFault::NotEmpty(path) => write!(f, "{} is not empty", Quoted(path)),
-            OperationFault::NoInode => f.write_str("all 16 inodes are in use at this line"),
+            OperationFault::NotEmpty(path) => ("", path, " is not empty"),
+            OperationFault::NoInode => {
+                return Sentence("all 16 inodes are in use at this line", Nothing, "");
+            }
             OperationFault::DirectoryFull(path) => {
-                write!(f, "the directory of {} has 10 names already", Quoted(path))
+                ("the directory of ", path, " has 10 names already")
             }
-            OperationFault::FileFull(path) => { write!(f, "{} has 4 blocks already", Quoted(path)) }
-            OperationFault::LinksFull(path) => write!(f, "{} has 8 names already", Quoted(path)),
-        }
+            OperationFault::FileFull(path) => ("", path, " has 4 blocks already"),
+            OperationFault::LinksFull(path) => ("", path, " has 8 names already"),
+        };
+        Sentence(before, Quote(path), after)
     }
-}
 
-/// What would be right in place of such an operation.
-#[derive(Clone, Copy)]
-pub(crate) struct OperationRemedy<'a>(pub &'a OperationFault<'a>);
-
-impl fmt::Display for OperationRemedy<'_> {
-    fn fmt<W: fmt::Write>(&self, f: &mut fmt::Formatter<W>) -> fmt::Result {
-        f.write_str(match self.0 {
-            OperationFault::Missing(_) =>
-                "`create` makes a file and `mkdir` a directory; put it before this line",
+    /// What would be right in place of such an operation.
+    pub(crate) fn remedy(self) -> &'static str {
+        match self {
+            OperationFault::Missing(_) => {
+                "`create` makes a file and `mkdir` a directory; put it before this line"
+            }
             OperationFault::IsFile(_) => "only a directory has names in it: make one by `mkdir`",
             OperationFault::RmdirOfFile(_) => "`unlink` removes a file",
             OperationFault::Exists(_) => "take another name, or remove this one first",
@@ -139,13 +172,16 @@ impl fmt::Display for OperationRemedy<'_> {
             OperationFault::IsDirectory(_) => "only a file is written, linked or renamed",
             OperationFault::UnlinkOfDirectory(_) => "`rmdir` removes a directory",
             OperationFault::NotEmpty(_) => "remove what is in it first",
-            OperationFault::NoInode =>
-                "the disk has 16 inodes, the root's among them: unlink a file first",
-            OperationFault::DirectoryFull(_) =>
-                "a directory holds at most 10 names: take another directory",
-            OperationFault::FileFull(_) =>
-                "a file holds at most 4 blocks, and each `write` adds one",
+            OperationFault::NoInode => {
+                "the disk has 16 inodes, the root's among them: unlink a file first"
+            }
+            OperationFault::DirectoryFull(_) => {
+                "a directory holds at most 10 names: take another directory"
+            }
+            OperationFault::FileFull(_) => {
+                "a file holds at most 4 blocks, and each `write` adds one"
+            }
             OperationFault::LinksFull(_) => "a file has at most 8 names: unlink one first",
-        })
+        }
     }
 }

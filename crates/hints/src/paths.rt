@@ -1,6 +1,8 @@
 //! What is wrong with a path.
 
 use crate::quoted::Quoted;
+use crate::sentences::Middle::{Nothing, Number, Quote};
+use crate::sentences::Sentence;
 use std::fmt;
 
 /// The most letters of a name.
@@ -10,7 +12,7 @@ const LONGEST_NAME: usize = 10;
 const MOST_NAMES: usize = 4;
 
 /// What is wrong with a path.
-#[derive(Clone, Copy, Debug)]
+#[derive(Clone, Copy)]
 pub enum PathFault<'a> {
     /// It is the root directory.
     Root,
@@ -60,36 +62,52 @@ fn name_fault<'a>(path: &'a str, name: &'a str) -> Option<PathFault<'a>> {
 
 /// Whether each letter is one of a to z or 0 to 9.
 fn is_spelled_right(name: &str) -> bool {
-    name.as_bytes()
-        .iter()
-        .all(|c| matches!(*c, b'a'..=b'z' | b'0'..=b'9'))
+    for letter in name.as_bytes() {
+        if !matches!(*letter, b'a'..=b'z' | b'0'..=b'9') {
+            return false;
+        }
+    }
+    true
 }
 
 impl fmt::Display for PathFault<'_> {
     fn fmt<W: fmt::Write>(&self, f: &mut fmt::Formatter<W>) -> fmt::Result {
-        match *self {
-            PathFault::Root => f.write_str("`/` is the root directory, which is always there"),
-            PathFault::Relative(path) => {
-                write!(f, "{} does not begin with a slash", Quoted(path.as_bytes()))
-            }
-            PathFault::EmptyName(path) => {
-                write!(f, "{} has an empty name", Quoted(path.as_bytes()))
-            }
+        let sentence = match *self {
+            PathFault::Root => Sentence(
+                "`/` is the root directory, which is always there",
+                Nothing,
+                "",
+            ),
+            PathFault::Relative(path) => Sentence(
+                "",
+                Quote(path.as_bytes()),
+                " does not begin with a slash",
+            ),
+            PathFault::EmptyName(path) => Sentence(
+                "",
+                Quote(path.as_bytes()),
+                " has an empty name",
+            ),
             PathFault::Letter { path, name } => {
-                let (path, name) = (Quoted(path.as_bytes()), Quoted(name.as_bytes()));
-                write!(
-                    f,
-                    "the name {name} in {path} has a letter other than a to z and 0 to 9"
-                )
+                write_name(f, path, name)?;
+                Sentence(" has a letter other than a to z and 0 to 9", Nothing, "")
             }
             PathFault::LongName { path, name } => {
-                let letters = name.len();
-                let (path, name) = (Quoted(path.as_bytes()), Quoted(name.as_bytes()));
-                write!(f, "the name {name} in {path} has {letters} letters")
+                write_name(f, path, name)?;
+                Sentence(" has ", Number(name.len()), " letters")
             }
-            PathFault::ManyNames(path) => {
-                write!(f, "{} has more than four names", Quoted(path.as_bytes()))
-            }
-        }
+            PathFault::ManyNames(path) => Sentence(
+                "",
+                Quote(path.as_bytes()),
+                " has more than four names",
+            ),
+        };
+        sentence.fmt(f)
     }
+}
+
+/// Writes which name is wrong, and the path that it is in.
+fn write_name<W: fmt::Write>(f: &mut fmt::Formatter<W>, path: &str, name: &str) -> fmt::Result {
+    let (path, name) = (Quoted(path.as_bytes()), Quoted(name.as_bytes()));
+    write!(f, "the name {name} in {path}")
 }

@@ -8,7 +8,7 @@ const MOST_SHOWN: usize = 60;
 /// A part of a script, between backquotes.
 ///
 /// A byte that a terminal would not show as itself is escaped. A part of more than 60 bytes is cut.
-#[derive(Clone, Copy, Debug, Default)]
+#[derive(Clone, Copy, Default)]
 pub struct Quoted<'a>(pub &'a [u8]);
 
 impl fmt::Display for Quoted<'_> {

@@ -5,18 +5,21 @@ ghost use Rattle.crash_model.specs.RefusalLine.{line_of};
 ghost use Rattle.hints.specs.Hints.{IsNoStart};
 
 use crate::disk_before::disk_before;
-use crate::groups::{GroupFault, GroupRemedy, group_fault};
-use crate::lines::{LineFault, LineRemedy, bad_path, line_fault, words_of};
-use crate::operations::{OperationFault, OperationRemedy, Spoken, operation_fault};
-use crate::quoted::{Quoted, line_at};
+use crate::groups::{GroupFault, group_fault};
+use crate::lines::{LineFault, bad_path, line_fault};
+use crate::operations::{OperationFault, Spoken, operation_fault};
+use crate::paths::PathFault;
+use crate::quoted::{Quoted, line_at, word_at};
 use crate::room::disk_of;
+use crate::sentences::Middle::Nothing;
+use crate::sentences::Sentence;
 use crate::sizes::{SizeFault, SizeRemedy, size_fault};
 use crash_model::refusals::RunFault;
 use crash_model::settings::Settings;
 use script_text::{Script, read_script};
 use std::alloc::Allocator;
+use std::fmt;
 use std::fmt::Display;
-use std::{fmt, str};
 
 /// What was asked: the script's bytes and the settings of the run.
 #[derive(Clone, Copy)]
@@ -27,7 +30,7 @@ pub struct Asked<'a> {
 
 /// What helps a person whose run was refused. It prints as two lines, which begin with `hint: `: the refused line of
 /// the script with what is wrong with it, and what would be right.
-#[derive(Debug, Drop)]
+#[derive(Clone, Copy)]
 pub struct Hint<'a> {
     /// The refused line of the script, if the refusal has one.
     pub line: Option<Quoted<'a>>,
@@ -35,9 +38,10 @@ pub struct Hint<'a> {
 }
 
 /// Why a run was refused.
-#[derive(Debug, Drop)]
+#[derive(Clone, Copy)]
 pub enum Cause<'a> {
     Line(LineFault<'a>),
+    Path(PathFault<'a>),
     Operation(OperationFault<'a>),
     Group(GroupFault),
     Size(SizeFault),
@@ -90,9 +94,7 @@ fn cause_of<'a, A: Allocator + Copy>(
         RunFault::BadUtf8 { line } | RunFault::BadLine { line } => {
             Some(Cause::Line(line_fault(alloc, script, line)))
         }
-        RunFault::BadPath { line } => {
-            Some(Cause::Line(LineFault::Path(bad_path(script, line)?)))
-        }
+        RunFault::BadPath { line } => Some(Cause::Path(bad_path(script, line)?)),
         RunFault::NoStart { .. } => Some(Cause::NoStart),
         RunFault::CannotWrite => Some(Cause::Output),
         RunFault::ScriptTooLong => Some(Cause::Size(SizeFault::Script)),
@@ -123,25 +125,17 @@ fn cause_in<'a, A: Allocator + Copy>(
     }
     let line = fault.line()?;
     let disk = disk_before(alloc, asked.settings, [base, traced], line)?;
-    let spoken = spoken_on(line_at(asked.script, line))?;
+    let spoken = spoken_on(line_at(asked.script, line));
     Some(Cause::Operation(operation_fault(&disk, spoken, fault)?))
 }
 
 /// The verb and the paths of a line.
-fn spoken_on(line: &[u8]) -> Option<Spoken<'_>> {
-    let words = words_of(str::from_utf8(line).ok()?);
-    match words.as_slice() {
-        [verb, path] => Some(Spoken {
-            verb,
-            first: path.as_bytes(),
-            last: path.as_bytes(),
-        }),
-        [verb, first, last] => Some(Spoken {
-            verb,
-            first: first.as_bytes(),
-            last: last.as_bytes(),
-        }),
-        _ => None,
+fn spoken_on(line: &[u8]) -> Spoken<'_> {
+    let (first, second) = (word_at(line, 1), word_at(line, 2));
+    Spoken {
+        verb: word_at(line, 0),
+        first,
+        last: if second.is_empty() { first } else { second },
     }
 }
 
@@ -160,33 +154,37 @@ impl Display for Hint<'_> {
 
 impl Display for Cause<'_> {
     fn fmt<W: fmt::Write>(&self, f: &mut fmt::Formatter<W>) -> fmt::Result {
-        match self {
-            Cause::Line(fault) => fault.fmt(f),
-            Cause::Operation(fault) => fault.fmt(f),
-            Cause::Group(fault) => fault.fmt(f),
-            Cause::Size(fault) => fault.fmt(f),
-            Cause::NoStart => f.write_str("no line of the script is `start`"),
-            Cause::Output => f.write_str("standard output did not take the whole report"),
-        }
+        let sentence = match *self {
+            Cause::Line(fault) => fault.sentence(),
+            Cause::Path(fault) => return fault.fmt(f),
+            Cause::Operation(fault) => fault.sentence(),
+            Cause::Group(fault) => fault.sentence(),
+            Cause::Size(fault) => return fault.fmt(f),
+            Cause::NoStart => Sentence("no line of the script is `start`", Nothing, ""),
+            Cause::Output => Sentence("standard output did not take the whole report", Nothing, ""),
+        };
+        sentence.fmt(f)
     }
 }
 
 impl Cause<'_> {
     /// Writes what would be right.
     fn write_remedy<W: fmt::Write>(&self, f: &mut fmt::Formatter<W>) -> fmt::Result {
-        match self {
-            Cause::Line(fault) => LineRemedy(fault).fmt(f),
-            Cause::Operation(fault) => OperationRemedy(fault).fmt(f),
-            Cause::Group(fault) => GroupRemedy(fault).fmt(f),
-            Cause::Size(fault) => SizeRemedy(*fault).fmt(f),
-            Cause::NoStart => {
-                f.write_str(
-                    "the lines before `start` build the disk, and those after it are explored",
-                )
+        let words = match *self {
+            Cause::Line(fault) => return fault.write_remedy(f),
+            Cause::Path(_) => {
+                "a path is one to four times a slash and a name of 1 to 10 of a to z and 0 to 9"
             }
-            Cause::Output => f.write_str(
-                "see that its disk has room, and that the program which reads it still runs",
-            ),
-        }
+            Cause::Operation(fault) => fault.remedy(),
+            Cause::Group(fault) => fault.remedy(),
+            Cause::Size(fault) => return SizeRemedy(fault).fmt(f),
+            Cause::NoStart => {
+                "the lines before `start` build the disk, and those after it are explored"
+            }
+            Cause::Output => {
+                "see that its disk has room, and that the program which reads it still runs"
+            }
+        };
+        f.write_str(words)
     }
 }

@@ -15,7 +15,7 @@ use script_text::Script;
 use std::alloc::{AllocError, Allocator};
 
 /// The size of a disk: all its blocks, and those of its journal.
-#[derive(Clone, Copy, Debug, PartialEq, Eq)]
+#[derive(Clone, Copy)]
 pub struct DiskSize {
     pub blocks: usize,
     pub journal: usize,
@@ -34,7 +34,7 @@ pub(crate) fn disk_of(settings: &Settings) -> DiskSize
 
 /// A disk that is large enough for a script: for all of it, or for the lines before the one of this number, which is
 /// refused for another reason.
-#[derive(Clone, Copy, Debug, PartialEq, Eq)]
+#[derive(Clone, Copy)]
 pub struct Enough {
     pub disk: DiskSize,
     pub before: Option<usize>,

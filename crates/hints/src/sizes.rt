@@ -4,12 +4,15 @@ ghost use Rattle.std.specs.Prelude.{IfSome};
 ghost use Rattle.hints.specs.Enough.{IsEnough, enough_in};
 
 use crate::room::{DiskSize, Enough, closed_sets, disk_of, enough_blocks, enough_journal};
+use crate::sentences::Middle::{Nothing, Number};
+use crate::sentences::Sentence;
 use crash_model::disk_bytes::{MOST_BLOCKS, OTHER_BLOCKS};
 use crash_model::refusals::RunFault;
 use crash_model::settings::{Explorer, MAX_BOARD, MAX_LIMIT, ReportBy, Settings};
 use script_text::Script;
 use std::alloc::Allocator;
 use std::fmt;
+use std::fmt::Display;
 
 /// The most closed sets that the board holds.
 const MOST_ON_BOARD: u128 = MAX_BOARD as u128;
@@ -18,7 +21,7 @@ const MOST_ON_BOARD: u128 = MAX_BOARD as u128;
 const LARGEST_LIMIT: u128 = MAX_LIMIT as u128;
 
 /// What does not fit.
-#[derive(Clone, Copy, Debug, PartialEq, Eq)]
+#[derive(Clone, Copy)]
 pub enum SizeFault {
     /// The journal leaves the disk too few blocks.
     Geometry(DiskSize),
@@ -38,7 +41,7 @@ pub enum SizeFault {
 }
 
 /// More closed sets than the limit, and what the run was asked for.
-#[derive(Clone, Copy, Debug, PartialEq, Eq)]
+#[derive(Clone, Copy)]
 pub struct ManySets {
     pub sets: u128,
     pub limit: usize,
@@ -77,46 +80,52 @@ pub(crate) fn size_fault<A: Allocator + Copy>(
     })
 }
 
-impl fmt::Display for SizeFault {
+impl Display for SizeFault {
     fn fmt<W: fmt::Write>(&self, f: &mut fmt::Formatter<W>) -> fmt::Result {
-        match *self {
-            SizeFault::Geometry(DiskSize { blocks, journal }) => {
-                let least = journal.saturating_add(OTHER_BLOCKS);
-                write!(
-                    f,
-                    "a journal of {journal} blocks needs a disk of at least {least}; this one has {blocks}"
-                )
-            }
-            SizeFault::Blocks { asked, .. } => {
-                let blocks = asked.blocks;
-                write!(f, "no block of the disk's {blocks} is free at this line")
-            }
-            SizeFault::Journal { asked, .. } => {
-                let journal = asked.journal;
-                write!(
-                    f,
-                    "the journal of {journal} blocks has no room for the transaction of this line"
-                )
-            }
-            SizeFault::Patches => f.write_str(
+        let sentence = match *self {
+            SizeFault::Geometry(disk) => return write_geometry(f, disk),
+            SizeFault::Blocks { asked, .. } => Sentence(
+                "no block of the disk's ",
+                Number(asked.blocks),
+                " is free at this line",
+            ),
+            SizeFault::Journal { asked, .. } => Sentence(
+                "the journal of ",
+                Number(asked.journal),
+                " blocks has no room for the transaction of this line",
+            ),
+            SizeFault::Patches => Sentence(
                 "a script makes at most 124 patches, and this line would make more",
+                Nothing,
+                "",
             ),
             SizeFault::Sets(ManySets { sets, limit, .. }) => {
-                write!(
+                return write!(
                     f,
                     "the script has {sets} closed sets, and the limit is {limit}"
-                )
+                );
             }
-            SizeFault::Script => f.write_str("a script has at most 1048576 bytes"),
-        }
+            SizeFault::Script => Sentence("a script has at most 1048576 bytes", Nothing, ""),
+        };
+        sentence.fmt(f)
     }
+}
+
+/// Writes which disk the journal of this size needs.
+fn write_geometry<W: fmt::Write>(f: &mut fmt::Formatter<W>, disk: DiskSize) -> fmt::Result {
+    let DiskSize { blocks, journal } = disk;
+    let least = journal.saturating_add(OTHER_BLOCKS);
+    write!(
+        f,
+        "a journal of {journal} blocks needs a disk of at least {least}; this one has {blocks}"
+    )
 }
 
 /// What would be right in place of such a size.
 #[derive(Clone, Copy)]
 pub(crate) struct SizeRemedy(pub SizeFault);
 
-impl fmt::Display for SizeRemedy {
+impl Display for SizeRemedy {
     fn fmt<W: fmt::Write>(&self, f: &mut fmt::Formatter<W>) -> fmt::Result {
         match self.0 {
             SizeFault::Geometry(DiskSize { journal, .. }) => {
@@ -144,24 +153,35 @@ fn write_enough<W: fmt::Write>(
     asked: DiskSize,
     enough: Option<Enough>,
 ) -> fmt::Result {
-    let Some(Enough { disk, before }) = enough else {
-        return write!(
+    match enough {
+        Some(enough) => write_disk(f, asked, enough),
+        None => write!(
             f,
             "no disk of up to {MOST_BLOCKS} blocks is enough for this script: leave lines out"
-        );
-    };
-    let DiskSize { blocks, journal } = disk;
-    if journal != asked.journal {
-        write!(f, "--journal {journal} ")?;
-    }
-    write!(f, "--blocks {blocks} is enough for ")?;
-    match before {
-        None => f.write_str("this script"),
-        Some(line) => write!(
-            f,
-            "the lines before line {line}, which is refused for another reason"
         ),
     }
+}
+
+/// Writes the options that ask for this disk in place of the one asked for, and how far it is enough.
+fn write_disk<W: fmt::Write>(
+    f: &mut fmt::Formatter<W>,
+    asked: DiskSize,
+    enough: Enough,
+) -> fmt::Result {
+    let DiskSize { blocks, journal } = enough.disk;
+    if journal != asked.journal {
+        Sentence("--journal ", Number(journal), " ").fmt(f)?;
+    }
+    Sentence("--blocks ", Number(blocks), " is enough for ").fmt(f)?;
+    let lines = match enough.before {
+        None => Sentence("this script", Nothing, ""),
+        Some(line) => Sentence(
+            "the lines before line ",
+            Number(line),
+            ", which is refused for another reason",
+        ),
+    };
+    lines.fmt(f)
 }
 
 /// Writes the options that answer a script with this number of closed sets.
@@ -169,10 +189,10 @@ fn write_answers<W: fmt::Write>(f: &mut fmt::Formatter<W>, many: ManySets) -> fm
     let sets = many.sets;
     if sets > LARGEST_LIMIT {
         f.write_str("that is more than --limit can ask for; ")?;
-    } else if many.explorer == Explorer::Board && sets > MOST_ON_BOARD {
-        write!(f, "--explorer sweep --limit {sets} explores them all, and ")?;
     } else {
-        write!(f, "--limit {sets} explores them all, and ")?;
+        let on_board = many.explorer == Explorer::Board && sets > MOST_ON_BOARD;
+        let explorer = if on_board { "--explorer sweep " } else { "" };
+        write!(f, "{explorer}--limit {sets} explores them all, and ")?;
     }
     f.write_str(match many.by {
         ReportBy::ByRule => "--enough finds which rules are needed without a limit",

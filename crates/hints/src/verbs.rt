@@ -4,7 +4,6 @@ use std::alloc::Allocator;
 use strsim::levenshtein;
 
 /// A word that a line begins with, and how the whole line is written.
-#[derive(Debug)]
 pub struct Verb {
     pub word: &'static str,
     /// How many words follow.
@@ -88,6 +87,22 @@ static VERBS: [Verb; 11] = [
     },
 ];
 
+/// Words that begin a line, each with other words that people write for it.
+static OTHER_WORDS: [(&str, &[&str]); 9] = [
+    ("create", &["touch", "open", "new", "add", "Create"]),
+    ("rename", &["mv", "move", "Rename"]),
+    ("unlink", &["rm", "remove", "delete", "del", "Unlink"]),
+    ("link", &["ln", "cp", "hardlink"]),
+    ("write", &["append", "echo", "put"]),
+    ("mkdir", &["md", "dir"]),
+    ("rmdir", &["rd"]),
+    ("start", &["begin", "go", "run"]),
+    (
+        "depend",
+        &["sync", "fsync", "fdatasync", "flush", "barrier", "after"],
+    ),
+];
+
 /// How many letters of a word may differ from the word that was meant.
 const MOST_EDITS: usize = 2;
 
@@ -98,18 +113,12 @@ pub(crate) fn verb_of(word: &str) -> Option<&'static Verb> {
 
 /// The line that was probably meant by a word that begins none.
 pub(crate) fn likely_verb<A: Allocator + Copy>(alloc: A, word: &str) -> Option<&'static str> {
-    match word {
-        "touch" | "open" | "new" | "add" | "Create" => Some("create"),
-        "mv" | "move" | "Rename" => Some("rename"),
-        "rm" | "remove" | "delete" | "del" | "Unlink" => Some("unlink"),
-        "ln" | "cp" | "hardlink" => Some("link"),
-        "append" | "echo" | "put" => Some("write"),
-        "md" | "dir" => Some("mkdir"),
-        "rd" => Some("rmdir"),
-        "begin" | "go" | "run" => Some("start"),
-        "sync" | "fsync" | "fdatasync" | "flush" | "barrier" | "after" => Some("depend"),
-        _ => nearest_verb(alloc, word),
+    for (verb, others) in &OTHER_WORDS {
+        if others.contains(&word) {
+            return Some(verb);
+        }
     }
+    nearest_verb(alloc, word)
 }
 
 /// The first of the words of the list that differ from this one by the fewest letters. They are at most two, and at

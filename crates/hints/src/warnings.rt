@@ -9,7 +9,7 @@ use std::alloc::{AllocError, Allocator};
 use std::fmt;
 
 /// Something that a run was asked for and that has no effect.
-#[derive(Debug, Drop)]
+#[derive(Drop)]
 pub enum Warning<'a> {
     /// Nothing follows the start line.
     NothingTraced,
@@ -24,15 +24,24 @@ pub fn warnings_of<'a, A: Allocator + Copy>(
     alloc: A,
     asked: Asked<'a>,
 ) -> Result<Vec<Warning<'a>, A>, AllocError> {
+    match read_script(alloc, asked.script) {
+        Ok(script) => warnings_on(alloc, asked, &script),
+        Err(_) => Ok(Vec::new(alloc)),
+    }
+}
+
+/// The warnings on a script that can be read.
+fn warnings_on<'a, A: Allocator + Copy>(
+    alloc: A,
+    asked: Asked<'a>,
+    script: &Script<A>,
+) -> Result<Vec<Warning<'a>, A>, AllocError> {
     let mut warnings = Vec::new(alloc);
-    let Ok(script) = read_script(alloc, asked.script) else {
-        return Ok(warnings);
-    };
     if !script.traced.iter().any(is_operation) {
         warnings.push(Warning::NothingTraced)?;
     }
     push_groups(&mut warnings, asked.script, &script.traced)?;
-    push_rules(&mut warnings, alloc, asked, &script)?;
+    push_rules(&mut warnings, alloc, asked, script)?;
     Ok(warnings)
 }
 
