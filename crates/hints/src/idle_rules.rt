@@ -56,17 +56,16 @@ pub(crate) fn idle_rules<A: Allocator + Copy>(
     asked: Asked<'_>,
     script: &Script<A>,
 ) -> Result<RuleList, RunFault> {
-    let settings = asked.settings;
-    let base = base_on(alloc, script, disk_of(settings))?;
-    let ordering = settings.ordering();
+    let base = base_on(alloc, script, disk_of(asked.settings))?;
+    let ordering = asked.settings.ordering();
     let traced = trace(alloc, &base, &script.traced, &ordering)?;
-    Ok(idle_among(settings.put_in().as_slice(), &traced))
+    Ok(idle_among(&asked.settings.put_in(), &traced))
 }
 
 /// Those of the rules that order no two patches of the trace.
-fn idle_among<A: Allocator + Copy>(rules: &[Rule], traced: &Traced<'_, A>) -> RuleList {
+fn idle_among<A: Allocator + Copy>(rules: &RuleList, traced: &Traced<'_, A>) -> RuleList {
     let mut idle = ArrayVec::new();
-    for rule in rules {
+    for rule in rules.as_slice() {
         if traced.pairs(*rule) == 0 && !idle.is_full() {
             idle.push(*rule);
         }
@@ -81,13 +80,23 @@ pub(crate) fn why_never<A: Allocator + Copy>(
     module: Module,
 ) -> Option<Never> {
     let script = read_script(alloc, EACH_OPERATION).ok()?;
-    let base = base_on(alloc, &script, LARGE).ok()?;
+    never_on(alloc, rule, module, &script)
+}
+
+/// Why a rule orders no two patches of any script, by a script with each operation in each of its forms.
+fn never_on<A: Allocator + Copy>(
+    alloc: A,
+    rule: Rule,
+    module: Module,
+    script: &Script<A>,
+) -> Option<Never> {
+    let base = base_on(alloc, script, LARGE).ok()?;
     let ordering = Ordering::of(module);
     let traced = trace(alloc, &base, &script.traced, &ordering).ok()?;
     never_in(rule, &traced)
 }
 
-/// Why a rule orders no two patches of any script, by the trace of a script with each operation in each of its forms.
+/// Why a rule orders no two patches of any script, by the trace of such a script.
 fn never_in<A: Allocator + Copy>(rule: Rule, traced: &Traced<'_, A>) -> Option<Never> {
     if !has_part(traced, rule.later) {
         return Some(Never::NoPart(rule.later));

@@ -102,10 +102,7 @@ fn cause_of<'a, A: Allocator + Copy>(
             let disk = disk_of(asked.settings);
             Some(Cause::Size(SizeFault::Geometry(disk)))
         }
-        _ => {
-            let steps = read_script(alloc, script).ok()?;
-            cause_in(alloc, asked, &steps, fault)
-        }
+        _ => cause_in(alloc, asked, fault),
     }
 }
 
@@ -113,19 +110,28 @@ fn cause_of<'a, A: Allocator + Copy>(
 fn cause_in<'a, A: Allocator + Copy>(
     alloc: A,
     asked: Asked<'a>,
+    fault: RunFault,
+) -> Option<Cause<'a>> {
+    let steps = read_script(alloc, asked.script).ok()?;
+    if let RunFault::GroupFault { line } = fault {
+        return Some(Cause::Group(group_fault(&steps.base, &steps.traced, line)));
+    }
+    match size_fault(alloc, &steps, asked.settings, fault) {
+        Some(size) => Some(Cause::Size(size)),
+        None => operation_cause(alloc, asked, &steps, fault),
+    }
+}
+
+/// Why an operation of the script is refused in this way.
+fn operation_cause<'a, A: Allocator + Copy>(
+    alloc: A,
+    asked: Asked<'a>,
     steps: &Script<A>,
     fault: RunFault,
 ) -> Option<Cause<'a>> {
-    let (base, traced) = (steps.base.as_slice(), steps.traced.as_slice());
-    if let RunFault::GroupFault { line } = fault {
-        return Some(Cause::Group(group_fault(base, traced, line)));
-    }
-    if let Some(size) = size_fault(alloc, steps, asked.settings, fault) {
-        return Some(Cause::Size(size));
-    }
     let line = fault.line()?;
-    let disk = disk_before(alloc, asked.settings, [base, traced], line)?;
     let spoken = spoken_on(line_at(asked.script, line));
+    let disk = disk_before(alloc, asked.settings, [&steps.base, &steps.traced], line)?;
     Some(Cause::Operation(operation_fault(&disk, spoken, fault)?))
 }
 
