@@ -50,7 +50,10 @@ fn operate<A: Allocator + Copy>(disk: &mut Image<A>, steps: &[Step], number: usi
 
 /// What the path names on the disk.
 pub(crate) fn named_by<A: Allocator + Copy>(disk: &Image<A>, path: &[u8]) -> Named {
-    let Some(path) = str::from_utf8(path).ok().and_then(Path::read) else {
+    let Ok(text) = str::from_utf8(path) else {
+        return Named::Nothing;
+    };
+    let Some(path) = Path::read(text) else {
         return Named::Nothing;
     };
     match plan(disk, &Op::Unlink(path)) {

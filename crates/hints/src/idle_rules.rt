@@ -130,12 +130,17 @@ impl fmt::Display for IdleRule {
         };
         let module = self.module.name();
         write!(f, ", and never can: under {module} no operation has ")?;
-        match never {
-            Never::NoPart(part) => f.write_str(part.name()),
-            Never::NotBefore => {
-                let (later, earlier) = (rule.later.name(), rule.earlier.name());
-                write!(f, "{earlier} before {later}")
-            }
+        write_lack(f, rule, never)
+    }
+}
+
+/// Writes what no operation has of the parts of a rule.
+fn write_lack<W: fmt::Write>(f: &mut fmt::Formatter<W>, rule: Rule, never: Never) -> fmt::Result {
+    match never {
+        Never::NoPart(part) => f.write_str(part.name()),
+        Never::NotBefore => {
+            let (later, earlier) = (rule.later.name(), rule.earlier.name());
+            write!(f, "{earlier} before {later}")
         }
     }
 }

@@ -17,10 +17,11 @@ impl fmt::Display for Quoted<'_> {
         for byte in self.0.iter().take(MOST_SHOWN) {
             write_byte(f, *byte)?;
         }
-        if self.0.len() > MOST_SHOWN {
-            f.write_str("..")?;
-        }
-        f.write_str("`")
+        f.write_str(if self.0.len() > MOST_SHOWN {
+            "..`"
+        } else {
+            "`"
+        })
     }
 }
 

@@ -24,25 +24,25 @@ pub fn warnings_of<'a, A: Allocator + Copy>(
     alloc: A,
     asked: Asked<'a>,
 ) -> Result<Vec<Warning<'a>, A>, AllocError> {
-    match read_script(alloc, asked.script) {
-        Ok(script) => warnings_on(alloc, asked, &script),
-        Err(_) => Ok(Vec::new(alloc)),
+    let mut warnings = Vec::new(alloc);
+    if let Ok(script) = read_script(alloc, asked.script) {
+        push_warnings(&mut warnings, alloc, asked, &script)?;
     }
+    Ok(warnings)
 }
 
-/// The warnings on a script that can be read.
-fn warnings_on<'a, A: Allocator + Copy>(
+/// Adds the warnings on a script that can be read.
+fn push_warnings<'a, A: Allocator + Copy>(
+    warnings: &mut Vec<Warning<'a>, A>,
     alloc: A,
     asked: Asked<'a>,
     script: &Script<A>,
-) -> Result<Vec<Warning<'a>, A>, AllocError> {
-    let mut warnings = Vec::new(alloc);
+) -> Result<(), AllocError> {
     if !script.traced.iter().any(is_operation) {
         warnings.push(Warning::NothingTraced)?;
     }
-    push_groups(&mut warnings, asked.script, &script.traced)?;
-    push_rules(&mut warnings, alloc, asked, script)?;
-    Ok(warnings)
+    push_groups(warnings, asked.script, &script.traced)?;
+    push_rules(warnings, alloc, asked, script)
 }
 
 /// Whether the step is an operation.
@@ -60,12 +60,19 @@ fn push_groups<'a, A: Allocator>(
         let Act::Depend(later, earlier) = &step.act else {
             continue;
         };
-        if let Some(empty) = empty_group(script, steps, step.line, later, 1) {
-            warnings.push(Warning::EmptyGroup(empty))?;
-        }
-        if let Some(empty) = empty_group(script, steps, step.line, earlier, 2) {
-            warnings.push(Warning::EmptyGroup(empty))?;
-        }
+        push_group(warnings, empty_group(script, steps, step.line, later, 1))?;
+        push_group(warnings, empty_group(script, steps, step.line, earlier, 2))?;
+    }
+    Ok(())
+}
+
+/// Adds a warning for the group, if it is one that never gets a patch.
+fn push_group<'a, A: Allocator>(
+    warnings: &mut Vec<Warning<'a>, A>,
+    empty: Option<EmptyGroup<'a>>,
+) -> Result<(), AllocError> {
+    if let Some(empty) = empty {
+        warnings.push(Warning::EmptyGroup(empty))?;
     }
     Ok(())
 }
