@@ -1,71 +1,111 @@
 //! Why a line on groups is refused.
 
+use crate::problems::{Advice, Problem};
 use crate::sentences::Middle::{Nothing, Number};
-use crate::sentences::Sentence;
 use crash_model::names::GroupName;
 use crash_model::steps::{Act, Step};
 
-/// Why a line on groups is refused.
-#[derive(Clone, Copy)]
-pub enum GroupFault {
-    /// It is before the start line.
-    BeforeStart,
-    /// A group is open since this line.
-    IsOpen(usize),
-    /// The group was opened on this line already.
-    WasOpened(usize),
-    /// No group is open.
-    NoneIsOpen,
-    /// The group that the line makes others wait for was not opened before it.
-    NeverOpened,
-    /// The line opens a group in a pool of operations.
-    InPool,
-    /// That group is open since this line.
-    NotEnded(usize),
-    /// The line names one group twice.
-    Itself,
-    /// The group that is to wait was opened on this line, and has patches already.
-    HasPatches(usize),
-}
+/// The line is before the start line.
+static BEFORE_START: Advice = Advice {
+    before: "the line is before `start`",
+    after: "",
+    right: "groups order what is traced, so they come after `start`",
+};
+
+/// A group is open since this line.
+static IS_OPEN: Advice = Advice {
+    before: "a group is open since line ",
+    after: "",
+    right: "put a line `end` before this one",
+};
+
+/// The group was opened on this line already.
+static WAS_OPENED: Advice = Advice {
+    before: "line ",
+    after: " opened this group already",
+    right: "a group is opened once; give this one another name",
+};
+
+/// No group is open.
+static NONE_IS_OPEN: Advice = Advice {
+    before: "no group is open at this line",
+    after: "",
+    right: "a line `group NAME` opens a group, and `end` ends it",
+};
+
+/// The group that the line makes others wait for was not opened before it.
+static NEVER_OPENED: Advice = Advice {
+    before: "no line before this one opens the earlier group",
+    after: "",
+    right: "write `depend LATER EARLIER` after the earlier group's `end`, before the later one's `group`",
+};
+
+/// The line opens a group in a pool of operations.
+static IN_POOL: Advice = Advice {
+    before: "a pool has operations alone",
+    after: "",
+    right: "leave the line out, or ask without `--search`",
+};
+
+/// The group that the line makes others wait for is open since this line.
+static NOT_ENDED: Advice = Advice {
+    before: "the earlier group is open since line ",
+    after: "",
+    right: "put a line `end` before this one",
+};
+
+/// The line names one group twice.
+static ITSELF: Advice = Advice {
+    before: "the line names one group twice",
+    after: "",
+    right: "write `depend LATER EARLIER` with the names of two groups",
+};
+
+/// The group that is to wait was opened on this line, and has patches already.
+static HAS_PATCHES: Advice = Advice {
+    before: "the later group was opened on line ",
+    after: " and has patches already",
+    right: "write `depend` before the later group's first operation",
+};
 
 /// Why the line of this number, which the program refused for its groups, is refused.
-pub(crate) fn group_fault(base: &[Step], traced: &[Step], number: usize) -> GroupFault {
+pub(crate) fn group_problem(base: &[Step], traced: &[Step], number: usize) -> Problem<'static> {
     if act_at(base, number).is_some() {
-        return GroupFault::BeforeStart;
+        return Problem(&BEFORE_START, Nothing);
     }
     match act_at(traced, number) {
         Some(Act::Group(name)) => match (open_at(traced, number), opened_at(traced, number, name)) {
-            (Some((_, since)), _) => GroupFault::IsOpen(since),
-            (None, Some(line)) => GroupFault::WasOpened(line),
+            (Some((_, since)), _) => Problem(&IS_OPEN, Number(since)),
+            (None, Some(line)) => Problem(&WAS_OPENED, Number(line)),
             // In a script such a line is right, so this is a pool.
-            (None, None) => GroupFault::InPool,
+            (None, None) => Problem(&IN_POOL, Nothing),
         },
-        Some(Act::Depend(later, earlier)) => depend_fault(traced, number, later, earlier),
-        _ => GroupFault::NoneIsOpen,
+        Some(Act::Depend(later, earlier)) => depend_problem(traced, number, later, earlier),
+        _ => Problem(&NONE_IS_OPEN, Nothing),
     }
 }
 
 /// Why a line `depend` is refused.
-fn depend_fault(
+fn depend_problem(
     traced: &[Step],
     number: usize,
     later: &GroupName,
     earlier: &GroupName,
-) -> GroupFault {
+) -> Problem<'static> {
     if later.same(earlier) {
-        return GroupFault::Itself;
+        return Problem(&ITSELF, Nothing);
     }
     if let Some((open, since)) = open_at(traced, number) {
         if open.same(earlier) {
-            return GroupFault::NotEnded(since);
+            return Problem(&NOT_ENDED, Number(since));
         }
     }
     match (
         opened_at(traced, number, earlier),
         opened_at(traced, number, later),
     ) {
-        (Some(_), Some(line)) => GroupFault::HasPatches(line),
-        _ => GroupFault::NeverOpened,
+        (Some(_), Some(line)) => Problem(&HAS_PATCHES, Number(line)),
+        _ => Problem(&NEVER_OPENED, Nothing),
     }
 }
 
@@ -104,49 +144,4 @@ fn opened_at(steps: &[Step], number: usize, name: &GroupName) -> Option<usize> {
         }
     }
     None
-}
-
-impl GroupFault {
-    /// What is wrong, as a sentence.
-    pub(crate) fn sentence(self) -> Sentence<'static> {
-        let (before, middle, after) = match self {
-            GroupFault::BeforeStart => ("the line is before `start`", Nothing, ""),
-            GroupFault::IsOpen(line) => ("a group is open since line ", Number(line), ""),
-            GroupFault::WasOpened(line) => ("line ", Number(line), " opened this group already"),
-            GroupFault::NoneIsOpen => ("no group is open at this line", Nothing, ""),
-            GroupFault::NeverOpened => (
-                "no line before this one opens the earlier group",
-                Nothing,
-                "",
-            ),
-            GroupFault::InPool => ("a pool has operations alone", Nothing, ""),
-            GroupFault::NotEnded(line) => {
-                ("the earlier group is open since line ", Number(line), "")
-            }
-            GroupFault::Itself => ("the line names one group twice", Nothing, ""),
-            GroupFault::HasPatches(line) => (
-                "the later group was opened on line ",
-                Number(line),
-                " and has patches already",
-            ),
-        };
-        Sentence(before, middle, after)
-    }
-
-    /// What would be right in place of such a line.
-    pub(crate) fn remedy(self) -> &'static str {
-        match self {
-            GroupFault::BeforeStart => "groups order what is traced, so they come after `start`",
-            GroupFault::IsOpen(_) => "put a line `end` before this one",
-            GroupFault::WasOpened(_) => "a group is opened once; give this one another name",
-            GroupFault::NoneIsOpen => "a line `group NAME` opens a group, and `end` ends it",
-            GroupFault::NeverOpened => {
-                "write `depend LATER EARLIER` after the earlier group's `end`, before the later one's `group`"
-            }
-            GroupFault::InPool => "leave the line out, or ask without `--search`",
-            GroupFault::NotEnded(_) => "put a line `end` before this one",
-            GroupFault::Itself => "write `depend LATER EARLIER` with the names of two groups",
-            GroupFault::HasPatches(_) => "write `depend` before the later group's first operation",
-        }
-    }
 }

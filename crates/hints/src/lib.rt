@@ -11,6 +11,7 @@ mod idle_rules;
 mod lines;
 mod operations;
 mod paths;
+mod problems;
 mod quoted;
 mod refusals;
 mod room;

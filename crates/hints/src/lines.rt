@@ -1,6 +1,7 @@
 //! What is wrong with a line that says nothing the program knows.
 
 use crate::paths::{PathFault, path_fault};
+use crate::problems::{Advice, Problem};
 use crate::quoted::line_at;
 use crate::sentences::Middle::{Nothing, Number, Quote};
 use crate::sentences::Sentence;
@@ -8,22 +9,64 @@ use crate::verbs::{LIST, Verb, likely_verb, verb_of};
 use arrayvec::ArrayVec;
 use crash_model::names::GroupName;
 use std::alloc::Allocator;
-use std::fmt::Display;
-use std::{fmt, str};
+use std::str;
 
 /// The most words of a line that are looked at: a verb, two operands, and one too many.
 const MOST_WORDS: usize = 4;
 
+/// The line is not UTF-8.
+static NOT_UTF8: Advice = Advice {
+    before: "the line is not UTF-8",
+    after: "",
+    right: "save the script as UTF-8; a name has only the letters a to z and 0 to 9",
+};
+
+/// The line has a carriage return.
+static CARRIAGE_RETURN: Advice = Advice {
+    before: "the line has a carriage return",
+    after: "",
+    right: "end each line by a line feed alone",
+};
+
+/// The line has a tab.
+static TAB: Advice = Advice {
+    before: "the line has a tab",
+    after: "",
+    right: "put one space between words, and none at the ends",
+};
+
+/// Two spaces are side by side, or one is at an end of the line.
+static SPACES: Advice = Advice {
+    before: "the line has two spaces side by side, or one at an end",
+    after: "",
+    right: "put one space between words, and none at the ends",
+};
+
+/// A comment follows the words.
+static COMMENT: Advice = Advice {
+    before: "a comment follows the words of the line",
+    after: "",
+    right: "put the comment on a line of its own",
+};
+
+/// The word is in the place of a group's name, but is not one.
+static NO_GROUP_NAME: Advice = Advice {
+    before: "",
+    after: " is no name of a group",
+    right: "a group's name is 1 to 10 letters and digits",
+};
+
+/// The script has a start line already, on this line.
+static SECOND_START: Advice = Advice {
+    before: "line ",
+    after: " is `start` already",
+    right: "a script has one line `start`",
+};
+
 /// What is wrong with a line.
 #[derive(Clone, Copy)]
 pub enum LineFault<'a> {
-    NotUtf8,
-    CarriageReturn,
-    Tab,
-    /// Two spaces are side by side, or one is at an end of the line.
-    Spaces,
-    /// A comment follows the words.
-    Comment,
+    Problem(Problem<'a>),
     /// The first word begins no line. Perhaps another word was meant.
     NoVerb {
         word: &'a str,
@@ -31,10 +74,6 @@ pub enum LineFault<'a> {
     },
     /// The number of words after the first is wrong.
     Operands(&'static Verb),
-    /// The word is in the place of a group's name, but is not one.
-    NoGroupName(&'a str),
-    /// The script has a start line already, on this line.
-    SecondStart(usize),
 }
 
 /// What is wrong with the line of this number, which the program refused because it is not a line of a script.
@@ -44,18 +83,18 @@ pub(crate) fn line_fault<A: Allocator + Copy>(
     number: usize,
 ) -> LineFault<'_> {
     let Ok(line) = str::from_utf8(line_at(script, number)) else {
-        return LineFault::NotUtf8;
+        return LineFault::Problem(Problem(&NOT_UTF8, Nothing));
     };
     if line.contains("\r") {
-        LineFault::CarriageReturn
+        LineFault::Problem(Problem(&CARRIAGE_RETURN, Nothing))
     } else if line.contains("\t") {
-        LineFault::Tab
+        LineFault::Problem(Problem(&TAB, Nothing))
     } else if line.starts_with(" ") {
-        LineFault::Spaces
+        LineFault::Problem(Problem(&SPACES, Nothing))
     } else if line.contains(" #") {
-        LineFault::Comment
+        LineFault::Problem(Problem(&COMMENT, Nothing))
     } else if line.ends_with(" ") || line.contains("  ") {
-        LineFault::Spaces
+        LineFault::Problem(Problem(&SPACES, Nothing))
     } else {
         words_fault(alloc, script, &words_of(line))
     }
@@ -80,7 +119,7 @@ fn words_fault<'a, A: Allocator + Copy>(
     words: &ArrayVec<&'a str, MOST_WORDS>,
 ) -> LineFault<'a> {
     let [word, operands @ ..] = words.as_slice() else {
-        return LineFault::Spaces;
+        return LineFault::Problem(Problem(&SPACES, Nothing));
     };
     let Some(verb) = verb_of(word) else {
         let likely = likely_verb(alloc, word);
@@ -91,10 +130,10 @@ fn words_fault<'a, A: Allocator + Copy>(
     }
     if verb.names_groups {
         if let Some(operand) = no_group_name(operands) {
-            return LineFault::NoGroupName(operand);
+            return LineFault::Problem(Problem(&NO_GROUP_NAME, Quote(operand.as_bytes())));
         }
     }
-    LineFault::SecondStart(start_line(script))
+    LineFault::Problem(Problem(&SECOND_START, Number(start_line(script))))
 }
 
 /// The first of the words that is no name of a group.
@@ -134,15 +173,7 @@ impl<'a> LineFault<'a> {
     /// What is wrong, as a sentence.
     pub(crate) fn sentence(self) -> Sentence<'a> {
         match self {
-            LineFault::NotUtf8 => Sentence("the line is not UTF-8", Nothing, ""),
-            LineFault::CarriageReturn => { Sentence("the line has a carriage return", Nothing, "") }
-            LineFault::Tab => Sentence("the line has a tab", Nothing, ""),
-            LineFault::Spaces => Sentence(
-                "the line has two spaces side by side, or one at an end",
-                Nothing,
-                "",
-            ),
-            LineFault::Comment => Sentence("a comment follows the words of the line", Nothing, ""),
+            LineFault::Problem(problem) => problem.sentence(),
             LineFault::NoVerb { word, .. } => {
                 Sentence("no line begins with ", Quote(word.as_bytes()), "")
             }
@@ -151,38 +182,18 @@ impl<'a> LineFault<'a> {
                 Quote(verb.word.as_bytes()),
                 " on its line",
             ),
-            LineFault::NoGroupName(word) => {
-                Sentence("", Quote(word.as_bytes()), " is no name of a group")
-            }
-            LineFault::SecondStart(first) => {
-                Sentence("line ", Number(first), " is `start` already")
-            }
         }
     }
 
-    /// Writes what would be right in place of such a line.
-    pub(crate) fn write_remedy<W: fmt::Write>(self, f: &mut fmt::Formatter<W>) -> fmt::Result {
-        let words = match self {
-            LineFault::NotUtf8 => {
-                "save the script as UTF-8; a name has only the letters a to z and 0 to 9"
-            }
-            LineFault::CarriageReturn => "end each line by a line feed alone",
-            LineFault::Tab | LineFault::Spaces => {
-                "put one space between words, and none at the ends"
-            }
-            LineFault::Comment => "put the comment on a line of its own",
-            LineFault::NoVerb { likely, .. } => {
-                before_list(likely).fmt(f)?;
-                LIST
-            }
+    /// What would be right in place of such a line, as a sentence and words that follow it.
+    pub(crate) fn remedy(self) -> (Sentence<'static>, &'static str) {
+        match self {
+            LineFault::Problem(problem) => (Sentence(problem.0.right, Nothing, ""), ""),
+            LineFault::NoVerb { likely, .. } => (before_list(likely), LIST),
             LineFault::Operands(verb) => {
-                let form = verb.form;
-                return write!(f, "write `{form}`");
+                (Sentence("write ", Quote(verb.form.as_bytes()), ""), "")
             }
-            LineFault::NoGroupName(_) => "a group's name is 1 to 10 letters and digits",
-            LineFault::SecondStart(_) => "a script has one line `start`",
-        };
-        f.write_str(words)
+        }
     }
 }
 

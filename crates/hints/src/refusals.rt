@@ -5,14 +5,14 @@ ghost use Rattle.crash_model.specs.RefusalLine.{line_of};
 ghost use Rattle.hints.specs.Hints.{IsNoStart};
 
 use crate::disk_before::disk_before;
-use crate::groups::{GroupFault, group_fault};
+use crate::groups::group_problem;
 use crate::lines::{LineFault, bad_path, line_fault};
-use crate::operations::{OperationFault, Spoken, operation_fault};
+use crate::operations::{Spoken, operation_problem};
 use crate::paths::PathFault;
+use crate::problems::{Advice, Problem};
 use crate::quoted::{Quoted, line_at, word_at};
 use crate::room::disk_of;
 use crate::sentences::Middle::Nothing;
-use crate::sentences::Sentence;
 use crate::sizes::{SizeFault, SizeRemedy, size_fault};
 use crash_model::refusals::RunFault;
 use crash_model::settings::Settings;
@@ -40,16 +40,32 @@ pub struct Hint<'a> {
 /// Why a run was refused.
 #[derive(Clone, Copy)]
 pub enum Cause<'a> {
+    Problem(Problem<'a>),
     Line(LineFault<'a>),
     Path(PathFault<'a>),
-    Operation(OperationFault<'a>),
-    Group(GroupFault),
     Size(SizeFault),
-    /// No line is `start`.
-    NoStart,
-    /// The output cannot be written.
-    Output,
 }
+
+/// No line is `start`.
+static NO_START: Advice = Advice {
+    before: "no line of the script is `start`",
+    after: "",
+    right: "the lines before `start` build the disk, and those after it are explored",
+};
+
+/// The output cannot be written.
+static OUTPUT: Advice = Advice {
+    before: "standard output did not take the whole report",
+    after: "",
+    right: "see that its disk has room, and that the program which reads it still runs",
+};
+
+/// The script is too long.
+static LONG_SCRIPT: Advice = Advice {
+    before: "a script has at most 1048576 bytes",
+    after: "",
+    right: "leave lines out; comments and empty lines count too",
+};
 
 /// The hint to a refusal of what was asked. `None` if none would help, or memory ran out, in the run or here.
 pub fn hint_of<'a, A: Allocator + Copy>(
@@ -79,7 +95,7 @@ pub fn hint_of<'a, A: Allocator + Copy>(
 pub fn output_hint() -> Hint<'static> {
     Hint {
         line: None,
-        cause: Cause::Output,
+        cause: Cause::Problem(Problem(&OUTPUT, Nothing)),
     }
 }
 
@@ -95,9 +111,9 @@ fn cause_of<'a, A: Allocator + Copy>(
             Some(Cause::Line(line_fault(alloc, script, line)))
         }
         RunFault::BadPath { line } => Some(Cause::Path(bad_path(script, line)?)),
-        RunFault::NoStart { .. } => Some(Cause::NoStart),
-        RunFault::CannotWrite => Some(Cause::Output),
-        RunFault::ScriptTooLong => Some(Cause::Size(SizeFault::Script)),
+        RunFault::NoStart { .. } => Some(Cause::Problem(Problem(&NO_START, Nothing))),
+        RunFault::CannotWrite => Some(Cause::Problem(Problem(&OUTPUT, Nothing))),
+        RunFault::ScriptTooLong => Some(Cause::Problem(Problem(&LONG_SCRIPT, Nothing))),
         RunFault::BadGeometry => {
             let disk = disk_of(asked.settings);
             Some(Cause::Size(SizeFault::Geometry(disk)))
@@ -114,7 +130,7 @@ fn cause_in<'a, A: Allocator + Copy>(
 ) -> Option<Cause<'a>> {
     let steps = read_script(alloc, asked.script).ok()?;
     if let RunFault::GroupFault { line } = fault {
-        return Some(Cause::Group(group_fault(&steps.base, &steps.traced, line)));
+        return Some(Cause::Problem(group_problem(&steps.base, &steps.traced, line)));
     }
     match size_fault(alloc, &steps, asked.settings, fault) {
         Some(size) => Some(Cause::Size(size)),
@@ -132,7 +148,7 @@ fn operation_cause<'a, A: Allocator + Copy>(
     let line = fault.line()?;
     let spoken = spoken_on(line_at(asked.script, line));
     let disk = disk_before(alloc, asked.settings, [&steps.base, &steps.traced], line)?;
-    Some(Cause::Operation(operation_fault(&disk, spoken, fault)?))
+    Some(Cause::Problem(operation_problem(&disk, spoken, fault)?))
 }
 
 /// The verb and the paths of a line.
@@ -160,37 +176,29 @@ impl Display for Hint<'_> {
 
 impl Display for Cause<'_> {
     fn fmt<W: fmt::Write>(&self, f: &mut fmt::Formatter<W>) -> fmt::Result {
-        let sentence = match *self {
-            Cause::Line(fault) => fault.sentence(),
-            Cause::Path(fault) => return fault.fmt(f),
-            Cause::Operation(fault) => fault.sentence(),
-            Cause::Group(fault) => fault.sentence(),
-            Cause::Size(fault) => return fault.fmt(f),
-            Cause::NoStart => Sentence("no line of the script is `start`", Nothing, ""),
-            Cause::Output => Sentence("standard output did not take the whole report", Nothing, ""),
-        };
-        sentence.fmt(f)
+        match *self {
+            Cause::Problem(problem) => problem.sentence().fmt(f),
+            Cause::Line(fault) => fault.sentence().fmt(f),
+            Cause::Path(fault) => fault.fmt(f),
+            Cause::Size(fault) => fault.fmt(f),
+        }
     }
 }
 
 impl Cause<'_> {
     /// Writes what would be right.
     fn write_remedy<W: fmt::Write>(&self, f: &mut fmt::Formatter<W>) -> fmt::Result {
-        let words = match *self {
-            Cause::Line(fault) => return fault.write_remedy(f),
-            Cause::Path(_) => {
-                "a path is one to four times a slash and a name of 1 to 10 of a to z and 0 to 9"
+        match *self {
+            Cause::Problem(problem) => f.write_str(problem.0.right),
+            Cause::Line(fault) => {
+                let (remedy, rest) = fault.remedy();
+                remedy.fmt(f)?;
+                f.write_str(rest)
             }
-            Cause::Operation(fault) => fault.remedy(),
-            Cause::Group(fault) => fault.remedy(),
-            Cause::Size(fault) => return SizeRemedy(fault).fmt(f),
-            Cause::NoStart => {
-                "the lines before `start` build the disk, and those after it are explored"
-            }
-            Cause::Output => {
-                "see that its disk has room, and that the program which reads it still runs"
-            }
-        };
-        f.write_str(words)
+            Cause::Path(_) => f.write_str(
+                "a path is one to four times a slash and a name of 1 to 10 of a to z and 0 to 9",
+            ),
+            Cause::Size(fault) => SizeRemedy(fault).fmt(f),
+        }
     }
 }

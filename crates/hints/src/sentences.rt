@@ -5,7 +5,7 @@ use std::fmt;
 
 /// What stands in the middle of a sentence.
 #[derive(Clone, Copy)]
-pub(crate) enum Middle<'a> {
+pub enum Middle<'a> {
     Nothing,
     /// A part of a script, or a word as a script has it.
     Quote(&'a [u8]),

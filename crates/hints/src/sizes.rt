@@ -37,7 +37,6 @@ pub enum SizeFault {
     },
     Patches,
     Sets(ManySets),
-    Script,
 }
 
 /// More closed sets than the limit, and what the run was asked for.
@@ -105,7 +104,6 @@ impl Display for SizeFault {
                     "the script has {sets} closed sets, and the limit is {limit}"
                 );
             }
-            SizeFault::Script => Sentence("a script has at most 1048576 bytes", Nothing, ""),
         };
         sentence.fmt(f)
     }
@@ -141,7 +139,6 @@ impl Display for SizeRemedy {
             SizeFault::Patches => f.write_str(
                 "leave lines out, or move the first ones before `start`, where they build the disk",
             ),
-            SizeFault::Script => f.write_str("leave lines out; comments and empty lines count too"),
             SizeFault::Sets(many) => write_answers(f, many),
         }
     }
