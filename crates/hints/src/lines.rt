@@ -85,23 +85,24 @@ pub(crate) fn line_fault<A: Allocator + Copy>(
     let Ok(line) = str::from_utf8(line_at(script, number)) else {
         return LineFault::Problem(Problem(&NOT_UTF8, Nothing));
     };
-    if line.contains("\r") {
-        LineFault::Problem(Problem(&CARRIAGE_RETURN, Nothing))
+    let advice = if line.contains("\r") {
+        &CARRIAGE_RETURN
     } else if line.contains("\t") {
-        LineFault::Problem(Problem(&TAB, Nothing))
+        &TAB
     } else if line.starts_with(" ") {
-        LineFault::Problem(Problem(&SPACES, Nothing))
+        &SPACES
     } else if line.contains(" #") {
-        LineFault::Problem(Problem(&COMMENT, Nothing))
+        &COMMENT
     } else if line.ends_with(" ") || line.contains("  ") {
-        LineFault::Problem(Problem(&SPACES, Nothing))
+        &SPACES
     } else {
-        words_fault(alloc, script, &words_of(line))
-    }
+        return words_fault(alloc, script, &words_of(line));
+    };
+    LineFault::Problem(Problem(advice, Nothing))
 }
 
 /// The first words of a line, cut at each space.
-pub(crate) fn words_of(line: &str) -> ArrayVec<&str, MOST_WORDS> {
+fn words_of(line: &str) -> ArrayVec<&str, MOST_WORDS> {
     let mut words = ArrayVec::new();
     for word in line.split(' ') {
         if words.is_full() {
@@ -161,7 +162,8 @@ fn start_line(script: &[u8]) -> usize {
 /// What is wrong with the first bad path of the line of this number, which the program refused for a path.
 pub(crate) fn bad_path(script: &[u8], number: usize) -> Option<PathFault<'_>> {
     let line = str::from_utf8(line_at(script, number)).ok()?;
-    for word in line.split(' ').skip(1) {
+    let (_, words) = line.split_once(" ")?;
+    for word in words.split(' ') {
         if let Some(fault) = path_fault(word) {
             return Some(fault);
         }

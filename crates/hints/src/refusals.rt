@@ -12,7 +12,8 @@ use crate::paths::PathFault;
 use crate::problems::{Advice, Problem};
 use crate::quoted::{Quoted, line_at, word_at};
 use crate::room::disk_of;
-use crate::sentences::Middle::Nothing;
+use crate::sentences::Middle::{Nothing, Quote};
+use crate::sentences::Sentence;
 use crate::sizes::{SizeFault, SizeRemedy, size_fault};
 use crash_model::refusals::RunFault;
 use crash_model::settings::Settings;
@@ -163,10 +164,11 @@ fn spoken_on(line: &[u8]) -> Spoken<'_> {
 
 impl Display for Hint<'_> {
     fn fmt<W: fmt::Write>(&self, f: &mut fmt::Formatter<W>) -> fmt::Result {
-        f.write_str("hint: ")?;
-        if let Some(line) = self.line {
-            write!(f, "{line}: ")?;
-        }
+        let start = match self.line {
+            Some(line) => Sentence("hint: ", Quote(line.0), ": "),
+            None => Sentence("hint: ", Nothing, ""),
+        };
+        start.fmt(f)?;
         self.cause.fmt(f)?;
         f.write_str("\nhint: ")?;
         self.cause.write_remedy(f)?;

@@ -152,10 +152,10 @@ fn write_enough<W: fmt::Write>(
 ) -> fmt::Result {
     match enough {
         Some(enough) => write_disk(f, asked, enough),
-        None => write!(
-            f,
-            "no disk of up to {MOST_BLOCKS} blocks is enough for this script: leave lines out"
-        ),
+        None => {
+            let end = " blocks is enough for this script: leave lines out";
+            Sentence("no disk of up to ", Number(MOST_BLOCKS), end).fmt(f)
+        }
     }
 }
 
