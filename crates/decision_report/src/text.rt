@@ -1,10 +1,11 @@
 //! Decisions as text.
 
-ghost use Rattle.std.specs.Prelude.{◌≡◌, ◌++◌, flat_map, length, string_bytes, IfOk, OnOk};
+ghost use Rattle.std.specs.Prelude.{◌≡◌, ◌++◌, flat_map, length, map, string_bytes, IfOk, OnOk};
 ghost use Rattle.patch_sets.specs.Closed.{IsClosed};
 ghost use Rattle.crash_model.specs.Disk.{Disk};
 ghost use Rattle.crash_model.specs.Patches.{deps_of};
 ghost use Rattle.decision_model.specs.Decision.{decided_text, text_decision};
+ghost use Rattle.report_sections.specs.Bodies.{AreClosed};
 ghost use Rattle.report_sections.specs.Sections.{section_of, IsSection};
 ghost use Rattle.report_sections.specs.declared.section.Section.{Section};
 ghost use Rattle.decision_report.specs.Written.{detail_by, CanReport, WritesDecision, WritesFaults, head_lines};
@@ -80,8 +81,23 @@ fn write_faults<A: Allocator + Copy>(
         decision.settings.explain,
         decision.demands,
     )?;
-    for decided in decision.faults {
-        write_fault(out, &mut maker, graph.len(), *decided)?;
+    write_each_fault(out, &mut maker, graph.len(), decision.faults)
+}
+
+/// The lines of each of the faults, by a maker of their sections. The graph has `patches` patches.
+fn write_each_fault<A: Allocator + Copy>(
+    out: &mut String<A>,
+    maker: &mut SectionMaker<'_, A>,
+    patches: usize,
+    faults: &[DecidedFault],
+) -> Result<(), AllocError>
+    requires number { patches ≡ length maker.old.patches }
+    requires closed { AreClosed maker.old.patches (map (λ fault. fault.first) faults.now) }
+    ensures { OnOk result (WritesFaults maker.old.detail maker.old.base maker.old.patches faults.now
+        (flat_map (decided_text (length maker.old.patches))) (string_bytes out.old) (string_bytes out.new)) }
+{
+    for decided in faults {
+        write_fault(out, maker, patches, *decided)?;
     }
     Ok(())
 }

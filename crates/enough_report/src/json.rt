@@ -1,6 +1,6 @@
 //! Reports as JSON.
 
-ghost use Rattle.std.specs.Prelude.{◌≡◌, ◌++◌, [], option_map};
+ghost use Rattle.std.specs.Prelude.{◌≡◌, ◌++◌, [], length, option_map};
 ghost use Rattle.std.specs.Prelude.{string_bytes, IfOk, OnOk};
 ghost use Rattle.report_model.specs.Answer.{ordering_rules};
 ghost use Rattle.enough_model.specs.EnoughReport.{first_fault_json, group_json, json_rules_report, set_json};
@@ -28,8 +28,9 @@ pub fn enough_json<A: Allocator + Copy>(
         string_bytes text ≡ json_rules_report found.now.settings.now (report_of found.now)) }
 {
     let ordering = found.settings.ordering();
+    let mut known = KnownTexts::new(heap, found.traced.graph().len())?;
     let mut out = String::new(alloc);
-    write_findings(&mut out, heap, &ordering, found)?;
+    write_findings(&mut out, heap, &mut known, &ordering, found)?;
     Ok(out)
 }
 
@@ -37,24 +38,25 @@ pub fn enough_json<A: Allocator + Copy>(
 fn write_findings<A: Allocator + Copy>(
     out: &mut String<A>,
     heap: Global,
+    known: &mut KnownTexts,
     ordering: &Ordering,
     found: &EnoughFindings<'_, '_, '_, A>,
 ) -> Result<(), AllocError>
     requires empty { string_bytes out.old ≡ [] }
+    requires known { known.old ≡ length found.now.traced.now.patches }
     requires ordering { ordering.now.rules.items ≡ ordering_rules found.now.settings.now }
     ensures { OnOk result (string_bytes out.new ≡ json_rules_report found.now.settings.now (report_of found.now)) }
 {
     let (closed, patches) = (found.closed, found.traced.graph().len());
-    let mut known = KnownTexts::new(heap, patches)?;
     out.push_str("{")?;
     write_first_keys(out, found.settings, found.base)?;
     write!(out, "\"closed\":\"{closed}\",\"enough\":[")?;
     write_sets(out, ordering, found.enough)?;
     out.push_str("]")?;
-    write_first(out, &mut known, found.first)?;
+    write_first(out, known, found.first)?;
     write_module_key(out, found.settings.module)?;
     out.push_str(",\"needs\":[")?;
-    write_groups(out, &mut known, ordering, found.needs)?;
+    write_groups(out, known, ordering, found.needs)?;
     write!(out, "],\"patches\":{patches}")?;
     write_from_strict(out, heap, found.settings, found.traced)?;
     out.push_str("}\n")?;
@@ -86,11 +88,9 @@ fn write_set<B: Allocator>(
     ensures { OnOk result (string_bytes out.new
         ≡ string_bytes out.old ++ set_json ordering.now.rules.items set) }
 {
-    let chosen = rules_in(ordering, set);
     out.push_str("[")?;
-    write_rule_texts(out, chosen.rules.as_slice())?;
-    out.push_str("]")?;
-    Ok(())
+    write_rule_texts(out, rules_in(ordering, set).rules.as_slice())?;
+    out.push_str("]")
 }
 
 /// The key of the first fault of all rules with a comma before it, if there is one.

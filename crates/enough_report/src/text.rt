@@ -77,11 +77,9 @@ pub fn write_set<A: Allocator>(
     ensures { OnOk result (string_bytes out.new
         ≡ string_bytes out.old ++ rules_text ordering.now.rules.items word.now set) }
 {
-    let chosen = rules_in(ordering, set);
     out.push_str(word)?;
-    write_rules(out, chosen.rules.as_slice())?;
-    out.push_str("\n")?;
-    Ok(())
+    write_rules(out, rules_in(ordering, set).rules.as_slice())?;
+    out.push_str("\n")
 }
 
 /// Each rule after a space.

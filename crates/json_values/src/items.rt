@@ -20,10 +20,9 @@ pub fn write_item<B: Allocator>(
     ensures { OnOk result (string_bytes out.new
         ≡ string_bytes out.old ++ comma_before at ++ compact_text (view value.now)) }
 {
-    let text = value.to_string(heap)?;
     write_comma(out, at)?;
-    out.push_str(text.as_str())?;
-    Ok(())
+    let text = value.to_string(heap)?;
+    out.push_str(text.as_str())
 }
 
 /// The comma before the item at this place of an array, if it is not the first. It fails only when out of memory.

@@ -116,8 +116,7 @@ pub fn push_set<B: Allocator>(
 {
     out.push_str("[")?;
     push_ids(out, patches, set)?;
-    out.push_str("]")?;
-    Ok(())
+    out.push_str("]")
 }
 
 /// The ids of the set below `patches`, ascending, with a comma between two.
@@ -176,8 +175,7 @@ fn push_replayed<B: Allocator + Copy>(
     let block = replayed.block;
     write!(out, "{{\"block\":{block},\"bytes\":")?;
     push_hex(out, replayed.bytes.as_slice())?;
-    out.push_str("}")?;
-    Ok(())
+    out.push_str("}")
 }
 
 /// Bytes as two hexadecimal digits each, in quotes. It fails only when out of memory.
@@ -185,8 +183,5 @@ pub fn push_hex<B: Allocator + Copy>(out: &mut String<B>, bytes: &[u8]) -> Resul
     ensures { OnOk result (string_bytes out.new ≡ string_bytes out.old ++ json_string (encode_lower bytes.now)) }
 {
     let text = hex::encode(*out.allocator(), bytes)?;
-    out.push_str("\"")?;
-    out.push_str(text.as_str())?;
-    out.push_str("\"")?;
-    Ok(())
+    write!(out, "\"{text}\"")
 }

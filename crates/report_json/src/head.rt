@@ -123,8 +123,7 @@ pub fn write_module_key<B: Allocator>(out: &mut String<B>, module: Module) -> Re
         ++ (codes ",\"module\":" ++ json_string (module_text «module»))) }
 {
     let name = module.name();
-    write!(out, ",\"module\":\"{name}\"")?;
-    Ok(())
+    write!(out, ",\"module\":\"{name}\"")
 }
 
 /// The key of a strict run, with a comma before it. It fails only when out of memory.
@@ -160,8 +159,7 @@ pub fn write_rule_key<B: Allocator>(
     }
     write!(out, ",\"{key}\":[")?;
     write_rule_texts(out, rules)?;
-    out.push_str("]")?;
-    Ok(())
+    out.push_str("]")
 }
 
 /// The texts of the rules, with a comma between two. It fails only when out of memory.

@@ -1,9 +1,10 @@
 //! JSON of the base and of the patches of a trace.
 
-ghost use Rattle.std.specs.Prelude.{◌≡◌, ◌++◌, length, map, string_bytes, OnOk};
+ghost use Rattle.std.specs.Prelude.{◌≡◌, ◌++◌, ◌<◌, length, map, string_bytes, OnOk, Some};
 ghost use Rattle.report_model.specs.Explain.{told_json, hex_json};
-ghost use Rattle.crash_model.specs.Reasons.{blocks_of};
+ghost use Rattle.crash_model.specs.Reasons.{ToldPatch, blocks_of};
 ghost use Rattle.crash_model.specs.Lists.{join_of, some_below};
+ghost use Rattle.json_values.specs.Items.{comma_before};
 ghost use Rattle.traced_patches.specs.Traced.{told_at};
 ghost use Rattle.report_json.specs.JsonReport.{base_key, trace_key};
 
@@ -22,8 +23,7 @@ pub(crate) fn write_base<A: Allocator + Copy, B: Allocator + Copy>(
 {
     out.push_str("\"base\":[")?;
     write_blocks(out, base)?;
-    out.push_str("],")?;
-    Ok(())
+    out.push_str("],")
 }
 
 /// The bytes of each block, with a comma between two.
@@ -52,8 +52,7 @@ pub(crate) fn write_trace<A: Allocator + Copy, B: Allocator>(
 {
     out.push_str(",\"trace\":[")?;
     write_patches(out, heap, traced)?;
-    out.push_str("]")?;
-    Ok(())
+    out.push_str("]")
 }
 
 /// The objects of the patches, with a comma between two.
@@ -67,8 +66,23 @@ fn write_patches<A: Allocator + Copy, B: Allocator>(
         (some_below (length traced.now.patches) (told_at traced.now)))) }
 {
     for id in 0..traced.len() {
-        let value = patch_value(heap, traced, id)?;
-        write_item(out, heap, id, &value)?;
+        write_patch(out, heap, traced, id)?;
     }
     Ok(())
+}
+
+/// The object of a patch, with a comma before it if it is not the first.
+fn write_patch<A: Allocator + Copy, B: Allocator>(
+    out: &mut String<B>,
+    heap: Global,
+    traced: &Traced<'_, A>,
+    id: usize,
+) -> Result<(), AllocError>
+    requires patch { id < length traced.now.patches }
+    requires emitted { length traced.now.emitted ≡ length traced.now.patches }
+    ensures { OnOk result ((told : ToldPatch) × (told_at traced.now id ≡ Some told)
+        × (string_bytes out.new ≡ string_bytes out.old ++ comma_before id ++ told_json told)) }
+{
+    let value = patch_value(heap, traced, id)?;
+    write_item(out, heap, id, &value)
 }

@@ -287,6 +287,17 @@ fn write_rules<A: Allocator + Copy>(
     ensures { OnOk result (WritesRules patches rules.now (string_bytes out.old) (string_bytes out.new)) }
 {
     let mut known = KnownTexts::new(heap, patches)?;
+    write_each_rule(out, &mut known, rules)
+}
+
+/// The objects of the rules, with a comma between two, by the cached texts.
+fn write_each_rule<A: Allocator + Copy>(
+    out: &mut String<A>,
+    known: &mut KnownTexts,
+    rules: &[ToldRule<A>],
+) -> Result<(), AllocError>
+    ensures { OnOk result (WritesRules known.old rules.now (string_bytes out.old) (string_bytes out.new)) }
+{
     for (at, rule) in rules.iter().enumerate() {
         write_comma(out, at)?;
         known.push_rule(out, rule)?;

@@ -1,6 +1,6 @@
 //! Whole reports.
 
-ghost use Rattle.std.specs.Prelude.{◌≡◌, ◌++◌, [], ◌∷◌, map, string_bytes, IfOk, OnOk};
+ghost use Rattle.std.specs.Prelude.{◌≡◌, ◌++◌, [], ◌∷◌, length, map, string_bytes, IfOk, OnOk};
 ghost use Rattle.patch_sets.specs.Closed.{IsClosed};
 ghost use Rattle.crash_model.specs.Patches.{deps_of};
 ghost use Rattle.report_model.specs.Summary.{told_fault_text};
@@ -91,7 +91,6 @@ pub(crate) fn write_sections<A: Allocator + Copy>(
         return Ok(());
     }
     let graph = report.traced.graph();
-    let mut lines = LineCache::new(graph);
     let mut maker = SectionMaker::new(
         alloc,
         report.base,
@@ -99,6 +98,7 @@ pub(crate) fn write_sections<A: Allocator + Copy>(
         report.settings.explain,
         report.demands,
     )?;
+    let mut lines = LineCache::new(graph);
     let mut outcome = Outcome::new(alloc);
     write_each(out, &mut lines, &mut maker, &mut outcome, sets)
 }
@@ -164,8 +164,23 @@ fn write_faults<A: Allocator + Copy>(
         report.settings.explain,
         report.demands,
     )?;
+    write_each_fault(out, &mut maker, graph.len(), rows)
+}
+
+/// The lines of each of the faults, by one maker of sections. The graph has `patches` patches.
+fn write_each_fault<A: Allocator + Copy>(
+    out: &mut String<A>,
+    maker: &mut SectionMaker<'_, A>,
+    patches: usize,
+    rows: &[FaultRow],
+) -> Result<(), AllocError>
+    requires number { patches ≡ length maker.old.patches }
+    requires closed { AreClosed maker.old.patches (map (λ row. row.first) rows.now) }
+    ensures { OnOk result (WritesFaults maker.old.detail maker.old.base maker.old.patches rows.now
+        (string_bytes out.old) (string_bytes out.new)) }
+{
     for row in rows {
-        write_fault(out, &mut maker, graph.len(), row)?;
+        write_fault(out, maker, patches, row)?;
     }
     Ok(())
 }

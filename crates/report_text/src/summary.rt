@@ -23,6 +23,5 @@ pub(crate) fn write_told_fault<A: Allocator + Copy, B: Allocator>(
     let fault = row.fault;
     let sets = row.sets;
     write!(out, "fault {fault}\nsets {sets}\n")?;
-    write_crash(out, patches, first)?;
-    Ok(())
+    write_crash(out, patches, first)
 }

@@ -1,5 +1,6 @@
 -- The lines of block writes, a part of them after another.
 use Rattle.std.proofs.Common.{◌≡◌, ℕ, List, [], ◌++◌, length, sym, subst, ap, ◌∙◌, append_assoc}
+use Rattle.std.specs.Prelude.{if◌then◌else◌, is_ok, OnOk, Result, Ok, Err}
 use Rattle.std.specs.List.{flat_map}
 use Rattle.std.proofs.lemmas.List.{append-nil}
 use Rattle.std.proofs.lemmas.List.Concat.{flat_map-append}
@@ -47,3 +48,10 @@ module _ (patches : List Patch) where
     runs = kept.runs;
     whole = more ∙ ap (λ (t : List ℕ). old ++ t) kept.whole;
   }
+
+  -- the same of a push that may fail
+  pub runs_pushed : {T E : Type 0} (r : Result T E) (ids : ℕ) (text old new : List ℕ)
+      → WritesRuns patches ids [] text → new ≡ (if is_ok r then old ++ text else old)
+      → OnOk r (WritesRuns patches ids old new)
+  runs_pushed (Ok x) ids text old new kept more = runs_added ids text old new kept more
+  runs_pushed (Err e) ids text old new kept more = tt

@@ -74,13 +74,11 @@ impl<'a, A: Allocator + Copy> LineCache<'a, A> {
         ensures kept { self.new ≡ self.old }
     {
         if let Some(lines) = self.writes.get(ids) {
-            out.push_str(lines)?;
-            return Ok(());
+            return out.push_str(lines);
         }
         let lines = self.lines_to(*out.allocator(), ids)?;
         self.writes.keep(ids, lines.as_str());
-        out.push_str(lines.as_str())?;
-        Ok(())
+        out.push_str(lines.as_str())
     }
 
     /// A line for each block write that leads to the ids.

@@ -27,8 +27,7 @@ pub fn write_section<A: Allocator + Copy, B: Allocator>(
         ≡ string_bytes out.old ++ section_text patches (section_of section.now)) }
 {
     write_crash(out, patches, section)?;
-    write_faults(out, &section.faults)?;
-    Ok(())
+    write_faults(out, &section.faults)
 }
 
 /// The lines of a crash: its set, a line for each block write that leads to it, and one for each block that replay
@@ -43,8 +42,7 @@ pub fn write_crash<A: Allocator + Copy, B: Allocator>(
 {
     write_set(out, patches, section.set)?;
     write_writes(out, patches, &section.writes)?;
-    write_replay(out, &section.replay)?;
-    Ok(())
+    write_replay(out, &section.replay)
 }
 
 /// The line of a set. It fails only when out of memory.
@@ -58,8 +56,7 @@ pub fn write_set<A: Allocator + Copy>(
 {
     out.push_str("set")?;
     write_ids(out, patches, set)?;
-    out.push_str("\n")?;
-    Ok(())
+    out.push_str("\n")
 }
 
 /// A line for each block that replay changes, if that is reported. It fails only when out of memory.
@@ -110,8 +107,7 @@ fn write_hex<A: Allocator + Copy>(out: &mut String<A>, bytes: &[u8]) -> Result<(
     ensures { OnOk result (string_bytes out.new ≡ string_bytes out.old ++ encode_lower bytes.now) }
 {
     let text = hex::encode(*out.allocator(), bytes)?;
-    out.push_str(text.as_str())?;
-    Ok(())
+    out.push_str(text.as_str())
 }
 
 /// A line for each block write.

@@ -6,7 +6,7 @@ pub returns : goal.returns
 returns g c =
     let found = c.args.found.now in
     let number : c.len-patches.result ≡ length found.traced.now.patches = cc in
-    let known = c.in_ok-known.ensures ∙ number in
+    let known = c.requires.known in
     json_pieces found c.args.ordering.now.rules.items c.len-patches.result _ _ _ _ _ _ _ _ _ _ _ _ _ _ _
     c.requires.ordering number known (c.in_ok-write_first.ensures.known ∙ known) c.requires.empty
     c.in_ok-push_str.ensures.bytes (c.in_ok-write_first_keys.ensures found.traced.now)

@@ -9,12 +9,8 @@ use Rattle.report_json.proofs.patches.write_patches.Goals as goal
 pub loop-id-init : goal.loop-id-init
 loop-id-init g c = record { whole = rw (some_below-zero, append-nil) refl; number = rw some_below-zero refl }
 
-pub write_item-requires : goal.write_item-requires
-write_item-requires g c = c.in_ok-value.ensures.2.plain
-
 pub loop-id-preserved : goal.loop-id-preserved
 loop-id-preserved g c =
-    let told = c.in_ok-value.ensures in
-    tells_more told_json c.loop-id.id (told_at c.args.traced.now) told.0 (string_bytes c.args.out.now)
-    (string_bytes c.loop-id.out) (string_bytes c.write_item.new.out) _ c.loop-id.invariant told.1 told.2.whole
-    c.in_ok-write_item.ensures
+    let wrote = c.in_ok-write_patch.ensures in
+    tells_more told_json c.loop-id.id (told_at c.args.traced.now) wrote.0 (string_bytes c.args.out.now)
+    (string_bytes c.loop-id.out) (string_bytes c.write_patch.new.out) _ c.loop-id.invariant wrote.1 refl wrote.2

@@ -5,11 +5,11 @@ use Rattle.report_model.specs.Needs.{told_rule_json}
 use Rattle.report_sections.specs.ToldRules.{told_rule}
 use Rattle.report_sections.specs.declared.rules.ToldRule.{ToldRule}
 use Rattle.json_values.proofs.Commas.{taken_more}
-use Rattle.report_json.proofs.report.write_rules.Goals as goal
+use Rattle.report_json.proofs.report.write_each_rule.Goals as goal
 
 pub loop-at-preserved : goal.loop-at-preserved
 loop-at-preserved g c =
-    let form : ToldRule g.row.A.Denot → List ℕ = λ rule. told_rule_json c.args.patches (told_rule rule) in
+    let form : ToldRule g.row.A.Denot → List ℕ = λ rule. told_rule_json c.args.known.now (told_rule rule) in
     let before = c.loop-at.invariant in
     let comma = string_bytes c.write_comma.new.out in
     let rule = c.index-rules-at.result in
@@ -25,5 +25,5 @@ loop-at-preserved g c =
 pub returns : goal.returns
 returns g c =
     c.loop-at.invariant.text ∙ ap (λ rs. string_bytes c.args.out.now
-    ++ join_of 44 (map (λ rule. told_rule_json c.args.patches (told_rule rule)) rs))
+    ++ join_of 44 (map (λ rule. told_rule_json c.args.known.now (told_rule rule)) rs))
     (take_all c.loop-at.at c.args.rules.now c.loop-at-test.false)
