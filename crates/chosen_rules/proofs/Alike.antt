@@ -11,8 +11,8 @@ use Rattle.crash_model.specs.Disk.{Disk}
 use Rattle.crash_model.specs.Lists.{some_below}
 use Rattle.crash_model.specs.Trace.{Tracing}
 use Rattle.crash_model.specs.declared.rules.Rule.{Rule}
-use Rattle.enough_model.specs.Enough as model
-use Rattle.enough_model.specs.Enough.{rules_in, rules_but, AreEnough}
+use Rattle.question_model.specs.Enough as model
+use Rattle.question_model.specs.Enough.{rules_in, rules_but, AreEnough}
 use Rattle.enough_rules.specs.Enough.{IsMinimalEnough, IsNeeded}
 use Rattle.enough_rules.proofs.Groups.{difference_of}
 use Rattle.chosen_rules.specs.Sublists.{EnoughOf}

@@ -16,7 +16,7 @@ use Rattle.crash_model.proofs.EachBelow.{some_below-zero, some_below-step}
 use Rattle.crash_model.specs.Lists.{some_below}
 use Rattle.crash_model.specs.RuleFacts.{AreAmong}
 use Rattle.crash_model.specs.declared.rules.Rule.{Rule}
-use Rattle.enough_model.specs.Enough.{rules_in}
+use Rattle.question_model.specs.Enough.{rules_in}
 
 module _ {X : Type 0} (at : ℕ → Option X) where
   in_option : (o : Option X) (x : X) → o ≡ Some x → Contains (option_to_list o) x

@@ -11,7 +11,7 @@ use Rattle.crash_model.specs.Trace.{Tracing, IsGraphOf}
 use Rattle.crash_model.specs.declared.patches.Patch.{Patch}
 use Rattle.crash_model.specs.declared.rules.Rule.{Rule}
 use Rattle.rule_laws.proofs.Closed.{failing_under_more}
-use Rattle.enough_model.specs.Enough.{rules_in}
+use Rattle.question_model.specs.Enough.{rules_in}
 use Rattle.enough_rules.specs.Asked.{IsFound, IsInEach}
 use Rattle.enough_rules.specs.Enough.{MoreAreEnough}
 use Rattle.chosen_rules.specs.Excluded.{ExcludesAt}

@@ -4,7 +4,7 @@ use Rattle.crash_model.specs.Checker.{Demands}
 use Rattle.crash_model.specs.Disk.{Disk}
 use Rattle.crash_model.specs.Trace.{Tracing}
 use Rattle.crash_model.specs.declared.rules.Rule.{Rule}
-use Rattle.enough_model.specs.Enough.{rules_in, AreEnough}
+use Rattle.question_model.specs.Enough.{rules_in, AreEnough}
 
 -- the rules of the set are enough
 abbrev pub EnoughOf : Demands → Disk → Tracing → List Rule → ℕ → Type 0

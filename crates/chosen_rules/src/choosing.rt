@@ -1,7 +1,7 @@
 //! Orderings with some of the rules of another.
 
 ghost use Rattle.std.specs.Prelude.{◌≡◌};
-ghost use Rattle.enough_model.specs.Enough.{rules_in};
+ghost use Rattle.question_model.specs.Enough.{rules_in};
 ghost use Rattle.chosen_rules.specs.Sublists.{all_of};
 
 use arrayvec::ArrayVec;

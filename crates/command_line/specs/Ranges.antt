@@ -4,7 +4,7 @@ use Rattle.crash_model.specs.declared.disk_bytes.TheConstants.{LEAST_BLOCKS, MOS
 use Rattle.crash_model.specs.declared.settings.TheConstants.{MAX_BOARD, MAX_LIMIT}
 use Rattle.crash_model.specs.declared.settings.Explorer.{Explorer}
 use Rattle.crash_model.specs.declared.settings.Explorer.TheVariants.{Board}
-use Rattle.questions.specs.declared.Request.{Request}
+use Rattle.question_model.specs.declared.question.Request.{Request}
 
 abbrev pub IsWithin : ℕ → ℕ → ℕ → Type 0
 IsWithin from until n = (from ≤ n) × (n ≤ until)

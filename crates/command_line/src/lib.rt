@@ -20,12 +20,12 @@ use crate::given_rules::{check_with, check_without, given_rules};
 use crate::numbers::{BLOCKS, JOURNAL, WORKERS};
 use crate::rule_words::rules_page;
 use crate::values::{explorer_of, limit_under, module_of, number_of, question_of, report_by};
-use clap::error::ErrorKind;
 use clap::{ArgMatches, Command, Error};
+use clap::error::ErrorKind;
 use crash_model::modules::Module;
 use crash_model::rule_lists::RuleList;
 use crash_model::settings::Settings;
-use questions::Request;
+use question_model::Request;
 use std::alloc::{AllocError, Global};
 
 /// What the words of a command line ask for.

@@ -9,8 +9,7 @@ use crate::rule_words::Why;
 use clap::ArgMatches;
 use crash_model::modules::Module;
 use crash_model::settings::{Explorer, MAX_BOARD, ReportBy};
-use questions::Question;
-use search_model::Most;
+use question_model::{Most, Question};
 
 /// The number given, which the parser has kept among those that the option takes.
 pub(crate) fn number_of(matches: &ArgMatches<'_>, name: &str, numbers: Numbers) -> usize

@@ -14,11 +14,11 @@ use Rattle.crash_model.specs.declared.refusals.TraceFault.{TraceFault}
 use Rattle.crash_model.specs.declared.refusals.TraceFault.TheVariants as trace
 use Rattle.crash_model.specs.declared.settings.Settings.{Settings}
 use Rattle.crash_model.specs.declared.steps.Step.{Step}
-use Rattle.questions.specs.Answers.{IsAnswerTo}
-use Rattle.questions.specs.declared.Question.{Question}
-use Rattle.questions.specs.declared.Question.TheVariants.{Visit, Decide, Enough, Search, SearchRules}
-use Rattle.search_model.specs.declared.most.Most.{Most}
-use Rattle.search_model.specs.SearchReport.{IsSearchRefusal, before_the_pool, no_operation}
+use Rattle.question_model.specs.Answers.{IsAnswerTo}
+use Rattle.question_model.specs.declared.question.Question.{Question}
+use Rattle.question_model.specs.declared.question.Question.TheVariants.{Visit, Decide, Enough, Search, SearchRules}
+use Rattle.question_model.specs.declared.most.Most.{Most}
+use Rattle.question_model.specs.SearchReport.{IsSearchRefusal, before_the_pool, no_operation}
 use Rattle.worked_example_laws.proofs.Scripts.{read_or_refused, script_one}
 use Rattle.crash_text.specs.BaseRefusal.{IsBaseRefusal}
 use Rattle.crash_text.specs.Searching.{IsNoPool, IsSearchOf}

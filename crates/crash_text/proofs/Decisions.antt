@@ -16,9 +16,9 @@ use Rattle.crash_model.specs.Trace.{Tracing}
 use Rattle.crash_model.specs.declared.patches.Patch.{Patch}
 use Rattle.crash_model.specs.declared.settings.Settings.{Settings}
 use Rattle.report_model.proofs.Leading.{sections_lead}
-use Rattle.decision_model.specs.Decided.{AreDecided}
-use Rattle.decision_model.specs.Decision.{IsDecision, ToldDecided, AreToldDecided, decision_bytes}
-use Rattle.decision_model.specs.declared.decided_fault.DecidedFault.{DecidedFault}
+use Rattle.question_model.specs.Decided.{AreDecided}
+use Rattle.question_model.specs.Decision.{IsDecision, ToldDecided, AreToldDecided, decision_bytes}
+use Rattle.question_model.specs.declared.decided_fault.DecidedFault.{DecidedFault}
 use Rattle.traced_patches.specs.Traced.{TracedPatches}
 use Rattle.report_sections.specs.Bodies.{AreClosed, explanation_by}
 use Rattle.crash_text.proofs.Bodies.{all_of, same_explanation}

@@ -12,11 +12,11 @@ use Rattle.crash_model.specs.declared.modules.Module.{Module}
 use Rattle.crash_model.specs.declared.rules.Rule.{Rule}
 use Rattle.crash_model.specs.declared.settings.Settings.{Settings}
 use Rattle.crash_model.specs.declared.steps.Step.{Step}
-use Rattle.search_model.specs.Found.{AreFound}
-use Rattle.search_model.specs.SearchReport.{IsSearchReport, IsToldKind, ToldKind, search_of, search_bytes}
-use Rattle.search_model.specs.Workloads.{Search, steps_at}
-use Rattle.search_model.specs.declared.found.Found.{Found}
-use Rattle.search_model.specs.declared.found.ShownKind.{ShownKind}
+use Rattle.question_model.specs.Found.{AreFound}
+use Rattle.question_model.specs.SearchReport.{IsSearchReport, IsToldKind, ToldKind, search_of, search_bytes}
+use Rattle.question_model.specs.Workloads.{Search, steps_at}
+use Rattle.question_model.specs.declared.found.Found.{Found}
+use Rattle.question_model.specs.declared.found.ShownKind.{ShownKind}
 use Rattle.search_report.specs.Findings.{told_kind}
 use Rattle.search_report.specs.declared.findings.KindCrash.{KindCrash}
 

@@ -8,7 +8,7 @@ use Rattle.crash_model.specs.Script.{IsAct, AreSteps, IsScript}
 use Rattle.crash_model.specs.declared.refusals.RunFault.{RunFault}
 use Rattle.crash_model.specs.declared.refusals.RunFault.TheVariants.{GroupFault}
 use Rattle.crash_model.specs.declared.steps.Step.{Step}
-use Rattle.search_model.specs.Workloads.{IsOperation}
+use Rattle.question_model.specs.Workloads.{IsOperation}
 use Rattle.crash_text.specs.Searching.{IsNoPool}
 
 -- ---- operations

@@ -14,8 +14,8 @@ use Rattle.crash_model.specs.declared.patches.Patch.{Patch}
 use Rattle.crash_model.specs.declared.rules.Rule.{Rule}
 use Rattle.crash_model.specs.declared.settings.Settings.{Settings}
 use Rattle.crash_model.proofs.PutIn.{put_in_among}
-use Rattle.decision_model.specs.Decided.{AreDecided}
-use Rattle.decision_model.specs.declared.decided_fault.DecidedFault.{DecidedFault}
+use Rattle.question_model.specs.Decided.{AreDecided}
+use Rattle.question_model.specs.declared.decided_fault.DecidedFault.{DecidedFault}
 
 -- no set is listed
 pub none_listed : (P : ℕ → Type 0) (sets : List ℕ) → ((set : ℕ) → ¬ (P set)) → AreAllInOrder P sets → length sets ≡ 0

@@ -16,11 +16,11 @@ use Rattle.crash_model.specs.declared.refusals.TraceFault.{TraceFault}
 use Rattle.crash_model.specs.declared.refusals.TraceFault.TheVariants as trace
 use Rattle.crash_model.specs.declared.settings.Settings.{Settings}
 use Rattle.byte_io.specs.Counted.{IsReadFault}
-use Rattle.questions.specs.Answers.{IsAnswerTo}
-use Rattle.questions.specs.declared.Question.{Question}
-use Rattle.questions.specs.declared.Question.TheVariants.{Visit, Decide, Enough, Search, SearchRules}
-use Rattle.questions.specs.declared.Request.{Request}
-use Rattle.search_model.specs.SearchReport.{IsSearchRefusal, before_the_pool, no_operation}
+use Rattle.question_model.specs.Answers.{IsAnswerTo}
+use Rattle.question_model.specs.declared.question.Question.{Question}
+use Rattle.question_model.specs.declared.question.Question.TheVariants.{Visit, Decide, Enough, Search, SearchRules}
+use Rattle.question_model.specs.declared.question.Request.{Request}
+use Rattle.question_model.specs.SearchReport.{IsSearchRefusal, before_the_pool, no_operation}
 use Rattle.crash_text.specs.Served.{IsWhole, IsRefusedBy}
 
 -- a source that was read to its end had these bytes

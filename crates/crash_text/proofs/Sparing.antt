@@ -13,8 +13,8 @@ use Rattle.crash_model.specs.Patches.{CountsClosed}
 use Rattle.crash_model.specs.Trace.{Tracing}
 use Rattle.crash_model.specs.declared.rules.Rule.{Rule}
 use Rattle.crash_model.specs.declared.settings.Settings.{Settings}
-use Rattle.enough_model.specs.Enough.{IsMinimalEnough, IsNeeded}
-use Rattle.enough_model.specs.EnoughReport.{IsEnoughReport, IsToldAny, IsToldGroup, ToldGroup, rules_report_bytes}
+use Rattle.question_model.specs.Enough.{IsMinimalEnough, IsNeeded}
+use Rattle.question_model.specs.EnoughReport.{IsEnoughReport, IsToldAny, IsToldGroup, ToldGroup, rules_report_bytes}
 use Rattle.enough_report.specs.Found.{told_first, told_group}
 use Rattle.enough_report.specs.declared.findings.FirstFault.{FirstFault}
 use Rattle.enough_report.specs.declared.findings.NeededGroup.{NeededGroup}

@@ -6,12 +6,12 @@ use Rattle.crash_model.specs.declared.refusals.RunFault.{RunFault}
 use Rattle.crash_model.specs.declared.refusals.RunFault.TheVariants.{GroupFault}
 use Rattle.crash_model.specs.declared.settings.Settings.{Settings}
 use Rattle.crash_model.specs.declared.steps.Step.{Step}
-use Rattle.search_model.specs.Most.{number_of_most}
-use Rattle.search_model.specs.SearchReport.{IsSearchReport, IsToldKind, ToldKind, search_bytes}
-use Rattle.search_model.specs.Workloads.{Search, IsOperation}
-use Rattle.search_model.specs.declared.found.Found.{Found}
-use Rattle.search_model.specs.declared.found.ShownKind.{ShownKind}
-use Rattle.search_model.specs.declared.most.Most.{Most}
+use Rattle.question_model.specs.Most.{number_of_most}
+use Rattle.question_model.specs.SearchReport.{IsSearchReport, IsToldKind, ToldKind, search_bytes}
+use Rattle.question_model.specs.Workloads.{Search, IsOperation}
+use Rattle.question_model.specs.declared.found.Found.{Found}
+use Rattle.question_model.specs.declared.found.ShownKind.{ShownKind}
+use Rattle.question_model.specs.declared.most.Most.{Most}
 use Rattle.pool_judging.specs.Judging.{search_by}
 use Rattle.pool_judging.specs.declared.judge.PoolJudge.{PoolJudge}
 use Rattle.search_report.specs.Findings.{told_kind}

@@ -5,12 +5,12 @@ use Rattle.patch_sets.specs.Sets.{AreAllInOrder}
 use Rattle.crash_model.specs.Disk.{Disk}
 use Rattle.crash_model.specs.declared.settings.Settings.{Settings}
 use Rattle.crash_model.specs.declared.steps.Step.{Step}
-use Rattle.search_model.specs.Most.{number_of_most}
-use Rattle.search_model.specs.Workloads.{IsOperation}
-use Rattle.search_model.specs.declared.found.Found.{Found}
-use Rattle.search_model.specs.declared.most.Most.{Most}
-use Rattle.search_rules_model.specs.EnoughFor.{IsMinimalInSearch, IsNeededInSearch}
-use Rattle.search_rules_model.specs.SearchRulesReport.{IsSearchRulesReport, IsToldNeed, ToldNeed, search_rules_bytes}
+use Rattle.question_model.specs.Most.{number_of_most}
+use Rattle.question_model.specs.Workloads.{IsOperation}
+use Rattle.question_model.specs.declared.found.Found.{Found}
+use Rattle.question_model.specs.declared.most.Most.{Most}
+use Rattle.question_model.specs.EnoughFor.{IsMinimalInSearch, IsNeededInSearch}
+use Rattle.question_model.specs.SearchRulesReport.{IsSearchRulesReport, IsToldNeed, ToldNeed, search_rules_bytes}
 use Rattle.pool_judging.specs.Judging.{search_by}
 use Rattle.pool_judging.specs.declared.judge.PoolJudge.{PoolJudge}
 

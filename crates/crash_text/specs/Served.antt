@@ -5,8 +5,8 @@ use Rattle.report_model.specs.Answer.{Reported, Refused}
 use Rattle.crash_model.specs.declared.refusals.RunFault.{RunFault}
 use Rattle.crash_model.specs.declared.refusals.RunFault.TheVariants.{CannotRead, CannotWrite, ScriptTooLong}
 use Rattle.crash_model.specs.declared.refusals.RunFault.TheVariants.{OutOfMemory}
-use Rattle.questions.specs.Answers.{IsAnswerTo}
-use Rattle.questions.specs.declared.Request.{Request}
+use Rattle.question_model.specs.Answers.{IsAnswerTo}
+use Rattle.question_model.specs.declared.question.Request.{Request}
 
 -- all bytes that were still to come, where those are known
 abbrev pub IsWhole : Option (List ℕ) → List ℕ → Type 0

@@ -2,7 +2,7 @@
 use Rattle.std.specs.Prelude.{ℕ, ◌<◌, List, Option, Some, None}
 use Rattle.command_line.specs.declared.Call.{Call}
 use Rattle.crash_text.specs.Served.{IsServed}
-use Rattle.questions.specs.declared.Request.{Request}
+use Rattle.question_model.specs.declared.question.Request.{Request}
 
 -- the bytes of the call's script, where they are known: those of the source, and none of a file
 abbrev pub script_of : Call → Option (List ℕ) → Option (List ℕ)

@@ -17,10 +17,10 @@ use Rattle.crash_model.specs.declared.refusals.RunFault.TheVariants.{OutOfMemory
 use Rattle.crash_model.specs.declared.refusals.TraceFault.{TraceFault}
 use Rattle.crash_model.specs.declared.settings.Settings.{Settings}
 use Rattle.crash_model.specs.declared.steps.Step.{Step}
-use Rattle.decision_model.specs.Decision.{IsDecision}
-use Rattle.enough_model.specs.EnoughReport.{IsEnoughReport}
-use Rattle.questions.specs.declared.Question.{Question}
-use Rattle.questions.specs.declared.Question.TheVariants.{Visit, Decide, Enough, Search, SearchRules}
+use Rattle.question_model.specs.Decision.{IsDecision}
+use Rattle.question_model.specs.EnoughReport.{IsEnoughReport}
+use Rattle.question_model.specs.declared.question.Question.{Question}
+use Rattle.question_model.specs.declared.question.Question.TheVariants.{Visit, Decide, Enough, Search, SearchRules}
 use Rattle.traced_patches.specs.Traced.{TracedPatches}
 use Rattle.report_sections.specs.Bodies.{AreOnBase, TellsBody, explanation_by}
 use Rattle.report_sections.specs.declared.report.Body as code

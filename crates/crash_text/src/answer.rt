@@ -16,7 +16,7 @@ use command_line::{Call, settings_of};
 use crash_model::refusals::RunFault;
 use explorers::{Gate, OpenGate};
 use hints::{Asked, hint_of, output_hint, warnings_of};
-use questions::Question;
+use question_model::Question;
 use std::alloc::Allocator;
 use std::fs::File;
 use std::io::{self, Read, Write};

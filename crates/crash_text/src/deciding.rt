@@ -1,7 +1,7 @@
 //! A traced script, answered by a decision on each fault that a crash can leave.
 
 ghost use Rattle.std.specs.Prelude.{◌≡◌, ◌≤◌, IfOk, string_bytes};
-ghost use Rattle.questions.specs.declared.Question.TheVariants.{Decide};
+ghost use Rattle.question_model.specs.declared.question.Question.TheVariants.{Decide};
 ghost use Rattle.report_sections.specs.Bodies.{AreOnBase};
 ghost use Rattle.crash_text.specs.Telling.{IsReportOn, NoneFails};
 
@@ -10,7 +10,7 @@ use crate::run::Outcome;
 use crate::traced_script::TracedScript;
 use decision_report::{Decision, decision_report};
 use fault_deciding::{Decider, closed_number};
-use questions::Request;
+use question_model::Request;
 use std::alloc::{AllocError, Allocator};
 use std::thread::Threads;
 

@@ -1,7 +1,7 @@
 //! A traced script, answered by which rules are enough.
 
 ghost use Rattle.std.specs.Prelude.{◌≡◌, string_bytes, IfOk};
-ghost use Rattle.questions.specs.declared.Question.TheVariants.{Enough};
+ghost use Rattle.question_model.specs.declared.question.Question.TheVariants.{Enough};
 ghost use Rattle.report_sections.specs.Bodies.{AreOnBase};
 ghost use Rattle.crash_text.specs.Telling.{IsReportOn, NoneFails};
 

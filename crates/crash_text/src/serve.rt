@@ -13,7 +13,7 @@ use byte_io::sink::{Sink, write_all};
 use byte_io::source::{MAX_SCRIPT_BYTES, Source, read_to_end};
 use crash_model::refusals::RunFault;
 use explorers::Gate;
-use questions::Request;
+use question_model::Request;
 use std::alloc::Allocator;
 use std::sync::Wait;
 use std::thread::Threads;

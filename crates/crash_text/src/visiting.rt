@@ -2,7 +2,7 @@
 
 ghost use Rattle.std.specs.Prelude.{◌≡◌, ◌≤◌, IfOk, IfErr, string_bytes};
 ghost use Rattle.failing_sets.specs.Limits.{IsExplorable, SaysTooMany};
-ghost use Rattle.questions.specs.declared.Question.TheVariants.{Visit};
+ghost use Rattle.question_model.specs.declared.question.Question.TheVariants.{Visit};
 ghost use Rattle.report_sections.specs.Bodies.{AreOnBase};
 ghost use Rattle.crash_text.specs.Telling.{AreFindings, IsReportOf, IsReportOn, NoneFails};
 
@@ -14,7 +14,7 @@ use crate::traced_script::TracedScript;
 use crash_model::refusals::RunFault;
 use explorers::Gate;
 use failing_sets::{Crashes, Finder, Retained};
-use questions::Request;
+use question_model::Request;
 use std::alloc::{AllocError, Allocator};
 use std::sync::Wait;
 use std::thread::Threads;

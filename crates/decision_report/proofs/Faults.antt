@@ -7,8 +7,8 @@ use Rattle.report_model.specs.Report.{Detail}
 use Rattle.crash_model.specs.Disk.{Disk}
 use Rattle.crash_model.specs.declared.fault.Fault.TheVariants.{Dangling}
 use Rattle.crash_model.specs.declared.patches.Patch.{Patch}
-use Rattle.decision_model.specs.Decision.{ToldDecided, decided_text, decided_json}
-use Rattle.decision_model.specs.declared.decided_fault.DecidedFault.{DecidedFault}
+use Rattle.question_model.specs.Decision.{ToldDecided, decided_text, decided_json}
+use Rattle.question_model.specs.declared.decided_fault.DecidedFault.{DecidedFault}
 use Rattle.report_sections.specs.declared.section.Section.{Section}
 use Rattle.report_sections.specs.Sections.{section_of, IsSection}
 use Rattle.report_sections.proofs.Joined.{rows_more, firsts_more}

@@ -10,9 +10,9 @@ use Rattle.report_model.specs.Report.{Section, ids_json, json_string, replay_jso
 use Rattle.crash_model.specs.Texts.{fault_text, module_text}
 use Rattle.report_model.specs.Whole.{first_json, rules_json, told_with, told_without}
 use Rattle.crash_model.specs.declared.settings.Settings.{Settings}
-use Rattle.decision_model.specs.Decision.{ToldDecided, decided_text, decided_json, text_decision, json_decision}
-use Rattle.decision_model.specs.Decision.{decision_bytes, ordering_text}
-use Rattle.decision_model.specs.declared.decided_fault.DecidedFault.{DecidedFault}
+use Rattle.question_model.specs.Decision.{ToldDecided, decided_text, decided_json, text_decision, json_decision}
+use Rattle.question_model.specs.Decision.{decision_bytes, ordering_text}
+use Rattle.question_model.specs.declared.decided_fault.DecidedFault.{DecidedFault}
 use Rattle.json_values.specs.Items.{crash_json}
 use Rattle.report_json.specs.JsonReport.{module_key, strict_key, whole_key, from_strict}
 use Rattle.report_sections.specs.Bodies.{explanation_by}

@@ -8,9 +8,9 @@ use Rattle.crash_model.specs.Lists.{join_of, when}
 use Rattle.report_model.specs.Report.{Detail, AreSections, line}
 use Rattle.crash_model.specs.declared.patches.Patch.{Patch}
 use Rattle.crash_model.specs.declared.settings.Settings.{Settings}
-use Rattle.decision_model.specs.Decision as model
-use Rattle.decision_model.specs.Decision.{ToldDecided, ordering_text, decided_json}
-use Rattle.decision_model.specs.declared.decided_fault.DecidedFault.{DecidedFault}
+use Rattle.question_model.specs.Decision as model
+use Rattle.question_model.specs.Decision.{ToldDecided, ordering_text, decided_json}
+use Rattle.question_model.specs.declared.decided_fault.DecidedFault.{DecidedFault}
 use Rattle.traced_patches.specs.Traced.{TracedPatches}
 use Rattle.report_sections.specs.Bodies.{AreOnBase, AreClosed, explanation_by}
 use Rattle.decision_report.specs.declared.decision.Decision.{Decision}

@@ -1,8 +1,8 @@
 //! What a decision reports.
 
 use crash_model::settings::Settings;
-use decision_model::DecidedFault;
 use disk_image::{Demands, Image};
+use question_model::DecidedFault;
 use std::alloc::Allocator;
 use traced_patches::Traced;
 

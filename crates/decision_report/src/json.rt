@@ -3,7 +3,7 @@
 ghost use Rattle.std.specs.Prelude.{◌≡◌, ◌++◌, [], length, map, string_bytes, IfOk, OnOk};
 ghost use Rattle.patch_sets.specs.Closed.{IsClosed};
 ghost use Rattle.crash_model.specs.Patches.{deps_of};
-ghost use Rattle.decision_model.specs.Decision.{decided_json, json_decision};
+ghost use Rattle.question_model.specs.Decision.{decided_json, json_decision};
 ghost use Rattle.report_sections.specs.Bodies.{AreClosed};
 ghost use Rattle.report_sections.specs.Sections.{section_of, IsSection};
 ghost use Rattle.report_sections.specs.declared.section.Section.{Section};
@@ -11,8 +11,8 @@ ghost use Rattle.json_values.specs.Items.{comma_before};
 ghost use Rattle.decision_report.specs.Written.{detail_by, CanReport, WritesDecision, WritesFaults, fault_items};
 
 use crate::decision::Decision;
-use decision_model::DecidedFault;
 use json_values::{KnownTexts, write_comma};
+use question_model::DecidedFault;
 use report_json::{write_first_keys, write_from_strict, write_module};
 use report_sections::Section;
 use section_maker::SectionMaker;

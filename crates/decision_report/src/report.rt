@@ -1,7 +1,7 @@
 //! Reports in the form that the settings ask for.
 
 ghost use Rattle.std.specs.Prelude.{string_bytes, IfOk};
-ghost use Rattle.decision_model.specs.Decision.{decision_bytes};
+ghost use Rattle.question_model.specs.Decision.{decision_bytes};
 ghost use Rattle.decision_report.specs.Written.{CanReport, WritesDecision};
 
 use crate::decision::Decision;

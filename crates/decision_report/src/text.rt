@@ -4,7 +4,7 @@ ghost use Rattle.std.specs.Prelude.{◌≡◌, ◌++◌, flat_map, length, map, 
 ghost use Rattle.patch_sets.specs.Closed.{IsClosed};
 ghost use Rattle.crash_model.specs.Disk.{Disk};
 ghost use Rattle.crash_model.specs.Patches.{deps_of};
-ghost use Rattle.decision_model.specs.Decision.{decided_text, text_decision};
+ghost use Rattle.question_model.specs.Decision.{decided_text, text_decision};
 ghost use Rattle.report_sections.specs.Bodies.{AreClosed};
 ghost use Rattle.report_sections.specs.Sections.{section_of, IsSection};
 ghost use Rattle.report_sections.specs.declared.section.Section.{Section};
@@ -12,7 +12,7 @@ ghost use Rattle.decision_report.specs.Written.{detail_by, CanReport, WritesDeci
 
 use crate::decision::Decision;
 use crash_model::settings::Settings;
-use decision_model::DecidedFault;
+use question_model::DecidedFault;
 use report_sections::Section;
 use report_text::{write_explanation, write_ordering};
 use section_lines::lines::write_crash;

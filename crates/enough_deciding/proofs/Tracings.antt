@@ -8,7 +8,7 @@ use Rattle.crash_model.specs.Patches.{deps_of}
 use Rattle.crash_model.specs.Trace.{Emitted, Tracing, IsGraphOf, depends}
 use Rattle.crash_model.specs.declared.patches.Patch.{Patch}
 use Rattle.crash_model.specs.declared.rules.Rule.{Rule}
-use Rattle.enough_model.specs.Enough.{AreEnough, IsMinimalEnough, IsNeeded, rules_in, rules_but}
+use Rattle.question_model.specs.Enough.{AreEnough, IsMinimalEnough, IsNeeded, rules_in, rules_but}
 use Rattle.enough_deciding.specs.Rules.{IsTracingOf, tracing_of}
 use Rattle.traced_patches.specs.Traced.{TracedPatches}
 

@@ -4,17 +4,17 @@ ghost use Rattle.std.specs.Prelude.{◌<◌, IfOk};
 ghost use Rattle.std.specs.List.{All};
 ghost use Rattle.patch_sets.specs.Sets.{AreAllInOrder};
 ghost use Rattle.crash_model.specs.Trace.{Tracing};
-ghost use Rattle.enough_model.specs.Enough.{rules_in, rules_but, IsMinimalEnough, IsNeeded};
+ghost use Rattle.question_model.specs.Enough.{rules_in, rules_but, IsMinimalEnough, IsNeeded};
 ghost use Rattle.enough_deciding.specs.Rules.{IsFirstBy, IsGraphBy, IsTracingOf};
 
 use chosen_rules::{all_rules, excluding_rules, rules_in};
-use decision_model::DecidedFault;
 use disk_image::{Demands, Image};
 use enough_rules::{EnoughSets, Oracle, enough_sets};
 use fault_deciding::Decider;
 use order_modules::graph_by;
 use patch_graph::Graph;
 use patch_sets::ends::difference;
+use question_model::DecidedFault;
 use std::alloc::{AllocError, Allocator};
 use traced_patches::Traced;
 

@@ -12,10 +12,10 @@ use Rattle.crash_model.specs.Texts.{fault_text, module_text}
 use Rattle.report_model.specs.Report.{ids_json, json_string, line, replay_json, writes_json}
 use Rattle.report_model.specs.Whole.{first_json, rules_json, told_with, told_without}
 use Rattle.crash_model.specs.declared.rules.Rule.{Rule}
-use Rattle.decision_model.specs.Decision.{ToldDecided, decided_text}
+use Rattle.question_model.specs.Decision.{ToldDecided, decided_text}
 use Rattle.decision_report.specs.Written.{head_lines}
-use Rattle.enough_model.specs.EnoughReport.{ToldGroup, first_fault_json, group_json, group_text, json_rules_report}
-use Rattle.enough_model.specs.EnoughReport.{rules_report_bytes, rules_text, set_json, text_rules_report}
+use Rattle.question_model.specs.EnoughReport.{ToldGroup, first_fault_json, group_json, group_text, json_rules_report}
+use Rattle.question_model.specs.EnoughReport.{rules_report_bytes, rules_text, set_json, text_rules_report}
 use Rattle.json_values.specs.Items.{leading_json}
 use Rattle.report_json.specs.JsonReport.{strict_key, whole_key, from_strict}
 use Rattle.report_sections.specs.Bodies.{explanation_by}

@@ -5,8 +5,8 @@ use Rattle.crash_model.specs.Lists.{join_of, when}
 use Rattle.crash_model.specs.Texts.{fault_text}
 use Rattle.report_model.specs.Report.{json_string, replay_json}
 use Rattle.crash_model.specs.declared.rules.Rule.{Rule}
-use Rattle.decision_model.specs.Decision.{ToldDecided}
-use Rattle.enough_model.specs.EnoughReport.{RulesReport, ToldGroup, set_json, group_json, group_text}
+use Rattle.question_model.specs.Decision.{ToldDecided}
+use Rattle.question_model.specs.EnoughReport.{RulesReport, ToldGroup, set_json, group_json, group_text}
 use Rattle.report_sections.specs.Bodies.{explanation_by}
 use Rattle.report_sections.specs.Sections.{section_of}
 use Rattle.enough_report.specs.declared.findings.EnoughFindings.{EnoughFindings}

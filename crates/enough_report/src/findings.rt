@@ -1,8 +1,8 @@
 //! What is found of the rules that a script needs.
 
 use crash_model::settings::Settings;
-use decision_model::DecidedFault;
 use disk_image::Image;
+use question_model::DecidedFault;
 use report_sections::Section;
 use std::alloc::Allocator;
 use traced_patches::Traced;

@@ -1,7 +1,7 @@
 //! Reports in the form that the settings ask for.
 
 ghost use Rattle.std.specs.Prelude.{◌≡◌, string_bytes, IfOk};
-ghost use Rattle.enough_model.specs.EnoughReport.{rules_report_bytes};
+ghost use Rattle.question_model.specs.EnoughReport.{rules_report_bytes};
 ghost use Rattle.enough_report.specs.Found.{report_of};
 
 use crate::findings::EnoughFindings;

@@ -4,8 +4,8 @@ ghost use Rattle.std.specs.Prelude.{◌≡◌, ◌++◌, codes, decimal, flat_ma
 ghost use Rattle.std.specs.Prelude.{string_bytes, IfOk, OnOk};
 ghost use Rattle.report_model.specs.Report.{line};
 ghost use Rattle.crash_model.specs.Rules.{rule_text};
-ghost use Rattle.decision_model.specs.Decision.{decided_text};
-ghost use Rattle.enough_model.specs.EnoughReport.{rules_text, group_text, text_rules_report};
+ghost use Rattle.question_model.specs.Decision.{decided_text};
+ghost use Rattle.question_model.specs.EnoughReport.{rules_text, group_text, text_rules_report};
 ghost use Rattle.enough_report.specs.Found.{group_lines, report_of, told_first, told_group};
 
 use crate::findings::{EnoughFindings, FirstFault, NeededGroup};

@@ -8,8 +8,8 @@ use Rattle.std.proofs.lemmas.List.Elements.{All-weaker, All-contains, Contains-g
 use Rattle.std.proofs.lemmas.List.Sorted.{IsPermutation-map, All-permutation, Contains-permutation}
 use Rattle.crash_model.specs.FaultRows.{IsFirst}
 use Rattle.crash_model.specs.declared.fault.Fault.{Fault}
-use Rattle.decision_model.specs.Decided.{AreDecided}
-use Rattle.decision_model.specs.declared.decided_fault.DecidedFault.{DecidedFault}
+use Rattle.question_model.specs.Decided.{AreDecided}
+use Rattle.question_model.specs.declared.decided_fault.DecidedFault.{DecidedFault}
 use Rattle.fault_deciding.specs.declared.sharing.Trial.{Trial}
 use Rattle.fault_deciding.specs.Asked.{AreAllOf}
 use Rattle.fault_deciding.specs.Trials.{fault_of, trial_of, IsTried, AreFound, HaveSameFaults}

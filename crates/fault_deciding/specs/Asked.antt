@@ -6,7 +6,7 @@ use Rattle.crash_model.specs.Patches.{image_of}
 use Rattle.crash_model.specs.Replay.{image_after_replay}
 use Rattle.crash_model.specs.FaultRows.{IsFaultBefore, HasFault, IsFirst}
 use Rattle.crash_model.specs.declared.fault.Fault.{Fault}
-use Rattle.decision_model.specs.declared.decided_fault.DecidedFault.{DecidedFault}
+use Rattle.question_model.specs.declared.decided_fault.DecidedFault.{DecidedFault}
 use Rattle.known_bytes.specs.Chains.{Change}
 use Rattle.known_bytes.specs.Texts.{has_fault}
 

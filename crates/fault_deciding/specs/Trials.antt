@@ -3,7 +3,7 @@ use Rattle.std.specs.Prelude.{◌≡◌, ◌≢◌, ℕ, ◌+◌, ◌<◌, ◌�
 use Rattle.std.specs.List.{All, AllPairs, Contains}
 use Rattle.crash_model.specs.FaultRows.{IsFaultBefore}
 use Rattle.crash_model.specs.declared.fault.Fault.{Fault}
-use Rattle.decision_model.specs.declared.decided_fault.DecidedFault.{DecidedFault}
+use Rattle.question_model.specs.declared.decided_fault.DecidedFault.{DecidedFault}
 use Rattle.fault_deciding.specs.Asked.{IsFirstWith}
 use Rattle.fault_deciding.specs.declared.sharing.Trial.{Trial}
 

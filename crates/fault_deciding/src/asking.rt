@@ -8,9 +8,9 @@ ghost use Rattle.crash_model.specs.Checker.{IsFailingUnder};
 
 use crate::question::FaultQuestion;
 use crash_model::fault::Fault;
-use decision_model::DecidedFault;
 use disk_image::Demands;
 use known_bytes::Chains;
+use question_model::DecidedFault;
 use set_families::ClosedSets;
 use std::alloc::Allocator;
 

@@ -4,7 +4,7 @@ ghost use Rattle.std.specs.Prelude.{◌<◌, ◌≤◌, ◌↔◌, ℕ, IfOk, Is
 ghost use Rattle.std.specs.List.{All};
 ghost use Rattle.crash_model.specs.Checker.{IsFailingUnder};
 ghost use Rattle.crash_model.specs.FaultRows.{HasFault};
-ghost use Rattle.decision_model.specs.Decided.{AreDecided};
+ghost use Rattle.question_model.specs.Decided.{AreDecided};
 ghost use Rattle.fault_deciding.specs.Asked.{IsFirstFault};
 
 use crate::asking::Asking;
@@ -12,10 +12,10 @@ use crate::dependencies::dependencies;
 use crate::listing::candidates;
 use crate::ordering::{found, sort_faults, sort_trials};
 use crate::sharing::{spread, untried};
-use decision_model::DecidedFault;
 use disk_image::{Demands, Image};
 use known_bytes::Chains;
 use patch_graph::Graph;
+use question_model::DecidedFault;
 use set_families::ClosedSets;
 use std::alloc::{AllocError, Allocator};
 use std::thread::Threads;

@@ -15,10 +15,10 @@ use Rattle.report_model.proofs.Leading.{sections_lead}
 use Rattle.report_sections.specs.Sections.{section_of, IsSection}
 use Rattle.report_sections.specs.declared.section.Section.{Section}
 use Rattle.report_sections.proofs.Pushed.{is_told}
-use Rattle.search_model.specs.Found.{IsShown}
-use Rattle.search_model.specs.SearchReport.{IsToldKind}
-use Rattle.search_model.specs.Workloads.{Search, HasPatches, steps_at}
-use Rattle.search_model.specs.declared.found.ShownKind.{ShownKind}
+use Rattle.question_model.specs.Found.{IsShown}
+use Rattle.question_model.specs.SearchReport.{IsToldKind}
+use Rattle.question_model.specs.Workloads.{Search, HasPatches, steps_at}
+use Rattle.question_model.specs.declared.found.ShownKind.{ShownKind}
 use Rattle.kind_sections.specs.Told.{IsTraced, HaveGraph}
 
 -- steps that are traced are not refused

@@ -4,9 +4,9 @@ use Rattle.crash_model.specs.Trace.{Tracing, trace_start, trace_from, IsGraphOf}
 use Rattle.crash_model.specs.declared.patches.Patch.{Patch}
 use Rattle.crash_model.specs.declared.steps.Step.{Step}
 use Rattle.report_sections.specs.Sections.{section_of}
-use Rattle.search_model.specs.SearchReport.{ToldKind}
-use Rattle.search_model.specs.Workloads.{Search}
-use Rattle.search_model.specs.declared.found.ShownKind.{ShownKind}
+use Rattle.question_model.specs.SearchReport.{ToldKind}
+use Rattle.question_model.specs.Workloads.{Search}
+use Rattle.question_model.specs.declared.found.ShownKind.{ShownKind}
 use Rattle.kind_sections.specs.declared.sections.KindSection.{KindSection}
 
 abbrev pub told_kind : {A : Type 0} → ShownKind → KindSection A → ToldKind

@@ -2,8 +2,8 @@
 
 ghost use Rattle.std.specs.Prelude.{◌<◌, IfOk};
 ghost use Rattle.std.specs.List.{All};
-ghost use Rattle.search_model.specs.Found.{IsShown};
-ghost use Rattle.search_model.specs.SearchReport.{IsToldKind};
+ghost use Rattle.question_model.specs.Found.{IsShown};
+ghost use Rattle.question_model.specs.SearchReport.{IsToldKind};
 ghost use Rattle.pool_judging.specs.Judging.{search_by};
 ghost use Rattle.kind_sections.specs.Told.{told_kind, IsTraced, HaveGraph};
 
@@ -12,8 +12,8 @@ use crash_model::steps::Step;
 use order_modules::trace;
 use patch_graph::Graph;
 use pool_judging::PoolJudge;
+use question_model::ShownKind;
 use report_sections::Section;
-use search_model::ShownKind;
 use section_maker::SectionMaker;
 use std::alloc::{AllocError, Allocator};
 

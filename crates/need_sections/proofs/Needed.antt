@@ -5,9 +5,9 @@ use Rattle.std.proofs.lemmas.List.{map_push, take_more}
 use Rattle.std.proofs.lemmas.List.Elements.{All-push, Contains-get_or}
 use Rattle.patch_sets.specs.Sets.{AreAllInOrder}
 use Rattle.crash_model.specs.declared.steps.Step.{Step}
-use Rattle.search_model.specs.Workloads.{Search}
-use Rattle.search_rules_model.specs.EnoughFor.{IsNeededInSearch}
-use Rattle.search_rules_model.specs.SearchRulesReport.{ToldNeed}
+use Rattle.question_model.specs.Workloads.{Search}
+use Rattle.question_model.specs.EnoughFor.{IsNeededInSearch}
+use Rattle.question_model.specs.SearchRulesReport.{ToldNeed}
 use Rattle.search_rules_report.specs.Findings.{told_need}
 use Rattle.search_rules_report.specs.declared.findings.NeededWorkload.{NeededWorkload}
 

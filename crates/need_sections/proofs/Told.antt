@@ -7,8 +7,8 @@ use Rattle.crash_model.specs.Checker.{Demands, AreDemands}
 use Rattle.crash_model.specs.declared.patches.Patch.{Patch}
 use Rattle.crash_model.specs.declared.steps.Step.{Step}
 use Rattle.enough_deciding.specs.Rules.{IsGraphBy}
-use Rattle.enough_model.specs.Enough.{rules_but}
-use Rattle.enough_model.specs.EnoughReport.{IsToldAny, IsToldFirst}
+use Rattle.question_model.specs.Enough.{rules_but}
+use Rattle.question_model.specs.EnoughReport.{IsToldAny, IsToldFirst}
 use Rattle.enough_report.specs.Found.{told_first}
 use Rattle.enough_report.specs.declared.findings.FirstFault.{FirstFault}
 use Rattle.fault_deciding.proofs.Firsts.{some_fault}
@@ -16,10 +16,10 @@ use Rattle.pool_judging.specs.Judging.{SomeFails}
 use Rattle.pool_judging.proofs.Verdicts.{of_each}
 use Rattle.pool_rules.specs.Traces.{IsTraceOf, IsTraced}
 use Rattle.pool_rules.proofs.Workloads.{patches_but}
-use Rattle.search_model.specs.Sequences.{IsFirstSequence}
-use Rattle.search_model.specs.Workloads.{Search, Fails, HasPatches, steps_at}
-use Rattle.search_rules_model.specs.EnoughFor.{FailsBy}
-use Rattle.search_rules_model.specs.SearchRulesReport.{IsToldNeed, search_but}
+use Rattle.question_model.specs.Sequences.{IsFirstSequence}
+use Rattle.question_model.specs.Workloads.{Search, Fails, HasPatches, steps_at}
+use Rattle.question_model.specs.EnoughFor.{FailsBy}
+use Rattle.question_model.specs.SearchRulesReport.{IsToldNeed, search_but}
 use Rattle.search_rules_report.specs.Findings.{told_need}
 use Rattle.traced_patches.specs.Traced.{TracedPatches}
 

@@ -2,16 +2,16 @@
 
 ghost use Rattle.std.specs.Prelude.{◌≡◌, map, IfOk};
 ghost use Rattle.std.specs.List.{All};
-ghost use Rattle.search_model.specs.Sequences.{AreAllSequences};
-ghost use Rattle.search_rules_model.specs.EnoughFor.{IsPassing, IsNeededInSearch};
-ghost use Rattle.search_rules_model.specs.SearchRulesReport.{IsToldNeed};
+ghost use Rattle.question_model.specs.Sequences.{AreAllSequences};
+ghost use Rattle.question_model.specs.EnoughFor.{IsPassing, IsNeededInSearch};
+ghost use Rattle.question_model.specs.SearchRulesReport.{IsToldNeed};
 ghost use Rattle.search_rules_report.specs.Findings.{told_need};
 ghost use Rattle.workload_search.specs.Tries.{items_of};
 ghost use Rattle.pool_judging.specs.Judging.{search_by};
 
 use needed_groups::first_fault;
 use pool_rules::{PoolRules, graph_but, traced_of};
-use search_model::Places;
+use question_model::Places;
 use search_rules_report::NeededWorkload;
 use std::alloc::{AllocError, Allocator};
 use workload_rules::first_without;

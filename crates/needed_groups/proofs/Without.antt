@@ -15,11 +15,11 @@ use Rattle.crash_model.specs.Trace.{Tracing}
 use Rattle.crash_model.specs.declared.patches.Patch.{Patch}
 use Rattle.crash_model.specs.declared.rules.Rule.{Rule}
 use Rattle.report_model.proofs.Leading.{sections_lead}
-use Rattle.decision_model.specs.declared.decided_fault.DecidedFault.{DecidedFault}
+use Rattle.question_model.specs.declared.decided_fault.DecidedFault.{DecidedFault}
 use Rattle.fault_deciding.specs.Asked.{IsFirstDecided}
 use Rattle.fault_deciding.proofs.Firsts.{some_fault}
-use Rattle.enough_model.specs.Enough.{AreEnough, IsNeeded, rules_but}
-use Rattle.enough_model.specs.EnoughReport.{IsToldAny, IsToldFirst, ToldGroup}
+use Rattle.question_model.specs.Enough.{AreEnough, IsNeeded, rules_but}
+use Rattle.question_model.specs.EnoughReport.{IsToldAny, IsToldFirst, ToldGroup}
 use Rattle.enough_deciding.specs.Rules.{IsGraphBy, tracing_of}
 use Rattle.enough_deciding.proofs.Tracings.{one_tracing}
 use Rattle.enough_report.specs.Found.{told_first, told_group}

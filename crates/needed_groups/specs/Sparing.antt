@@ -2,7 +2,7 @@
 use Rattle.std.specs.Prelude.{ℕ, Bool}
 use Rattle.crash_model.specs.Checker.{Demands}
 use Rattle.report_model.specs.Report.{Detail}
-use Rattle.enough_model.specs.Enough.{AreEnough, rules_but}
+use Rattle.question_model.specs.Enough.{AreEnough, rules_but}
 use Rattle.enough_deciding.specs.Rules.{tracing_of}
 use Rattle.enough_deciding.specs.declared.oracle.RuleOracle.{RuleOracle}
 

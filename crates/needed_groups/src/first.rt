@@ -4,7 +4,7 @@ ghost use Rattle.std.specs.Prelude.{◌≡◌, ℕ, None, option_map, IfOk};
 ghost use Rattle.patch_sets.specs.Closed.{AreEarlier};
 ghost use Rattle.crash_model.specs.Patches.{deps_of};
 ghost use Rattle.crash_model.specs.Checker.{IsFailingUnder};
-ghost use Rattle.enough_model.specs.EnoughReport.{IsToldAny};
+ghost use Rattle.question_model.specs.EnoughReport.{IsToldAny};
 ghost use Rattle.enough_report.specs.Found.{told_first};
 ghost use Rattle.report_sections.specs.Bodies.{AreOnBase};
 ghost use Rattle.needed_groups.specs.Sparing.{detail_with};

@@ -3,7 +3,7 @@
 ghost use Rattle.std.specs.Prelude.{◌≡◌, map, IfOk};
 ghost use Rattle.std.specs.List.{All};
 ghost use Rattle.crash_model.specs.Trace.{Tracing};
-ghost use Rattle.enough_model.specs.EnoughReport.{IsToldGroup};
+ghost use Rattle.question_model.specs.EnoughReport.{IsToldGroup};
 ghost use Rattle.enough_deciding.specs.Rules.{IsTracingOf};
 ghost use Rattle.enough_report.specs.Found.{told_first, told_group};
 ghost use Rattle.needed_groups.specs.Sparing.{CannotSpare, detail_with};

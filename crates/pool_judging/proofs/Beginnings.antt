@@ -16,8 +16,8 @@ use Rattle.crash_model.specs.declared.steps.Step.{Step}
 use Rattle.inode_fs.specs.Demanding.{SoFar, IsSoFar, TakesStep}
 use Rattle.order_modules.specs.Tracer.{Trace, GivesNames, GivesNameIfAny, Moves}
 use Rattle.order_modules.proofs.Steps.{trace_one_more}
-use Rattle.search_model.specs.Verdict.{IsAccepted}
-use Rattle.search_model.specs.Workloads.{Search, HasPatches, steps_at, trace_at}
+use Rattle.question_model.specs.Verdict.{IsAccepted}
+use Rattle.question_model.specs.Workloads.{Search, HasPatches, steps_at, trace_at}
 use Rattle.workload_search.proofs.Accepted.{accepted_front}
 use Rattle.pool_judging.specs.Beginnings.{IsBegun, IsTraceAt, IsSoFarAt, AreDemandsAt}
 use Rattle.pool_judging.specs.declared.begun.Begun.{Begun}

@@ -19,9 +19,9 @@ use Rattle.inode_fs.specs.Inside.{GivesName}
 use Rattle.full_journal_laws.specs.Full.{ops_at, ops_of, IsFullSafe}
 use Rattle.full_journal_laws.proofs.Failing.{none_fails}
 use Rattle.full_journal_laws.proofs.Final.{recovered}
-use Rattle.search_model.specs.Found.{AreFound}
-use Rattle.search_model.specs.Workloads.{Search, Fails, steps_at}
-use Rattle.search_model.specs.declared.found.Found.{Found}
+use Rattle.question_model.specs.Found.{AreFound}
+use Rattle.question_model.specs.Workloads.{Search, Fails, steps_at}
+use Rattle.question_model.specs.declared.found.Found.{Found}
 use Rattle.pool_judging.specs.Judging.{IsFullJournal}
 
 abbrev IsStep : Step → Type 0

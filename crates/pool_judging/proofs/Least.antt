@@ -14,11 +14,11 @@ use Rattle.crash_model.specs.Disk.{Disk}
 use Rattle.crash_model.specs.FaultRows.{HasFault, IsFirst}
 use Rattle.crash_model.specs.declared.fault.Fault.{Fault}
 use Rattle.crash_model.specs.declared.patches.Patch.{Patch}
-use Rattle.decision_model.specs.Decided.{AreDecided}
-use Rattle.decision_model.specs.declared.decided_fault.DecidedFault.{DecidedFault}
-use Rattle.search_model.specs.Kinds.{kind_of}
-use Rattle.search_model.specs.Verdict.{IsFirstOfKind}
-use Rattle.search_model.specs.declared.fault_kind.FaultKind.{FaultKind}
+use Rattle.question_model.specs.Decided.{AreDecided}
+use Rattle.question_model.specs.declared.decided_fault.DecidedFault.{DecidedFault}
+use Rattle.question_model.specs.Kinds.{kind_of}
+use Rattle.question_model.specs.Verdict.{IsFirstOfKind}
+use Rattle.question_model.specs.declared.fault_kind.FaultKind.{FaultKind}
 use Rattle.pool_judging.specs.Firsts.{IsOfKind, IsLeast, IsLeastOfKind}
 
 -- of two sets one is before the other, or they are the same

@@ -9,7 +9,7 @@ use Rattle.std.proofs.lemmas.List.Concat.{flat_map-append}
 use Rattle.std.proofs.lemmas.Option.{slice_get-get_or}
 use Rattle.crash_model.specs.declared.steps.Act.TheVariants.{End}
 use Rattle.crash_model.specs.declared.steps.Step.{Step}
-use Rattle.search_model.specs.Workloads.{steps_at}
+use Rattle.question_model.specs.Workloads.{steps_at}
 
 some_step : Step
 some_step = record { line = 0; act = End }

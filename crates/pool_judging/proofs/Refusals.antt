@@ -16,9 +16,9 @@ use Rattle.crash_model.specs.declared.refusals.TraceFault.TheVariants as trace
 use Rattle.crash_model.specs.declared.steps.Act.{Act}
 use Rattle.crash_model.specs.declared.steps.Act.TheVariants.{Do}
 use Rattle.crash_model.specs.declared.steps.Step.{Step}
-use Rattle.search_model.specs.Refused.{refusal_of}
-use Rattle.search_model.specs.Workloads.{IsOperation}
-use Rattle.search_model.specs.declared.refusal.Refusal.{Refusal}
+use Rattle.question_model.specs.Refused.{refusal_of}
+use Rattle.question_model.specs.Workloads.{IsOperation}
+use Rattle.question_model.specs.declared.refusal.Refusal.{Refusal}
 
 -- an answer that, where it is a refusal, is one of an operation
 abbrev RefusesOperation : {X : Type 0} → Result X TraceFault → Type 0

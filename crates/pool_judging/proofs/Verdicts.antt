@@ -9,10 +9,10 @@ use Rattle.crash_model.specs.declared.refusals.TraceFault.{TraceFault}
 use Rattle.crash_model.specs.declared.steps.Step.{Step}
 use Rattle.full_journal_laws.specs.Full.{IsFullSafe}
 use Rattle.full_journal_laws.proofs.Failing.{none_fails}
-use Rattle.search_model.specs.Verdict.{IsVerdict}
-use Rattle.search_model.specs.Workloads.{Search, HasPatches, steps_at, trace_at}
-use Rattle.search_model.specs.declared.verdict.Verdict.{Verdict}
-use Rattle.search_model.specs.declared.verdict.Verdict.TheVariants.{Refused, Passes, Fails}
+use Rattle.question_model.specs.Verdict.{IsVerdict}
+use Rattle.question_model.specs.Workloads.{Search, HasPatches, steps_at, trace_at}
+use Rattle.question_model.specs.declared.verdict.Verdict.{Verdict}
+use Rattle.question_model.specs.declared.verdict.Verdict.TheVariants.{Refused, Passes, Fails}
 use Rattle.worked_example_laws.proofs.Keeping.{one_demands}
 use Rattle.worked_example_laws.proofs.OneGraph.{graph_one}
 use Rattle.pool_judging.specs.Firsts.{AreFirstOfKinds}

@@ -4,7 +4,7 @@ use Rattle.std.specs.List.{All}
 use Rattle.crash_model.specs.Checker.{Demands, AreDemands}
 use Rattle.inode_fs.specs.Demanding.{SoFar, IsSoFar}
 use Rattle.order_modules.specs.Tracer.{Trace, GivesNames}
-use Rattle.search_model.specs.Workloads.{Search, steps_at, trace_at}
+use Rattle.question_model.specs.Workloads.{Search, steps_at, trace_at}
 use Rattle.pool_judging.specs.declared.begun.Begun.{Begun}
 
 -- the trace of the operations at these places

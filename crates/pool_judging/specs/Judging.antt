@@ -7,9 +7,9 @@ use Rattle.crash_model.specs.Checker.{Demands, IsFailingUnder}
 use Rattle.crash_model.specs.declared.modules.Module.TheVariants.{Full}
 use Rattle.crash_model.specs.declared.patches.Patch.{Patch}
 use Rattle.pool_judging.specs.Firsts.{AreFirstOfKinds}
-use Rattle.search_model.specs.Workloads.{Search}
-use Rattle.search_model.specs.declared.verdict.Verdict.{Verdict}
-use Rattle.search_model.specs.declared.verdict.Verdict.TheVariants.{Refused, Passes, Fails}
+use Rattle.question_model.specs.Workloads.{Search}
+use Rattle.question_model.specs.declared.verdict.Verdict.{Verdict}
+use Rattle.question_model.specs.declared.verdict.Verdict.TheVariants.{Refused, Passes, Fails}
 use Rattle.pool_judging.specs.declared.judge.PoolJudge.{PoolJudge}
 
 -- the search whose sequences are judged

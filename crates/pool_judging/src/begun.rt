@@ -4,7 +4,7 @@ ghost use Rattle.std.specs.Prelude.{◌≡◌, ◌<◌, ◌^◌, length, Ok, IfO
 ghost use Rattle.std.specs.List.{All};
 ghost use Rattle.crash_model.specs.Trace.{Tracing, step as step_of};
 ghost use Rattle.order_modules.specs.Tracer.{GivesNameIfAny, Moves};
-ghost use Rattle.search_model.specs.Verdict.{IsAccepted};
+ghost use Rattle.question_model.specs.Verdict.{IsAccepted};
 ghost use Rattle.pool_judging.specs.Beginnings.{IsBegun};
 ghost use Rattle.pool_judging.specs.Judging.{search_by};
 
@@ -13,7 +13,7 @@ use crash_model::refusals::TraceFault;
 use crash_model::steps::Step;
 use inode_fs::Demanding;
 use order_modules::Tracer;
-use search_model::Places;
+use question_model::Places;
 use std::alloc::{AllocError, Allocator};
 
 /// A beginning of sequences: the trace of its operations, and what they demand of an image that they leave.

@@ -1,7 +1,7 @@
 //! Copies of operations.
 
 ghost use Rattle.std.specs.Prelude.{◌≡◌};
-ghost use Rattle.search_model.specs.Workloads.{IsOperation};
+ghost use Rattle.question_model.specs.Workloads.{IsOperation};
 
 use arrayvec::ArrayVec;
 use crash_model::names::{Name, Path};

@@ -6,12 +6,11 @@ ghost use Rattle.crash_model.specs.Checker.{Demands};
 ghost use Rattle.crash_model.specs.Disk.{Disk};
 ghost use Rattle.crash_model.specs.FaultRows.{HasFault};
 ghost use Rattle.crash_model.specs.declared.patches.Patch.{Patch};
-ghost use Rattle.decision_model.specs.Decided.{AreDecided};
+ghost use Rattle.question_model.specs.Decided.{AreDecided};
 ghost use Rattle.pool_judging.specs.Firsts.{AreFirstOfKinds, IsLeastOfKind};
 
-use decision_model::DecidedFault;
 use patch_sets::order::is_before;
-use search_model::{FaultKind, KINDS};
+use question_model::{DecidedFault, FaultKind, KINDS};
 
 /// The first set, in canonical order, that has a fault of each kind, by the faults that sets have and the first set of
 /// each: that of the kind with number n at place n - 1, and `None` if no set has such a fault.

@@ -2,7 +2,7 @@
 
 ghost use Rattle.std.specs.List.{All};
 ghost use Rattle.crash_model.specs.Sound.{IsSound, HasZeroJournal};
-ghost use Rattle.search_model.specs.Workloads.{IsOperation};
+ghost use Rattle.question_model.specs.Workloads.{IsOperation};
 
 use crash_model::orderings::Ordering;
 use crash_model::steps::Step;

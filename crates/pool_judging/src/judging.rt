@@ -3,9 +3,9 @@
 ghost use Rattle.std.specs.Prelude.{◌≡◌, ◌≢◌, ◌<◌, ◌++◌, ◌∷◌, ℕ, [], Err, IfOk, None, List, length};
 ghost use Rattle.std.specs.List.{All};
 ghost use Rattle.crash_model.specs.Checker.{AreDemands};
-ghost use Rattle.search_model.specs.Verdict.{IsVerdict};
-ghost use Rattle.search_model.specs.Refused.{refusal_of};
-ghost use Rattle.search_model.specs.Workloads.{Search, steps_at, trace_at};
+ghost use Rattle.question_model.specs.Verdict.{IsVerdict};
+ghost use Rattle.question_model.specs.Refused.{refusal_of};
+ghost use Rattle.question_model.specs.Workloads.{Search, steps_at, trace_at};
 ghost use Rattle.pool_judging.specs.Beginnings.{IsBegun, IsTraceAt, AreDemandsAt};
 ghost use Rattle.pool_judging.specs.Judging.{search_by, IsVerdictOn, IsNoFailure, IsFullJournal};
 
@@ -20,7 +20,7 @@ use fault_deciding::Decider;
 use inode_fs::demands;
 use order_modules::Tracer;
 use patch_graph::Graph;
-use search_model::{Places, Refusal, Verdict};
+use question_model::{Places, Refusal, Verdict};
 use std::alloc::{AllocError, Allocator};
 use workload_search::Judge;
 

@@ -5,9 +5,9 @@ ghost use Rattle.std.specs.List.{All};
 ghost use Rattle.crash_model.specs.Disk.{IsDisk};
 ghost use Rattle.crash_model.specs.Script.{IsAct};
 ghost use Rattle.crash_model.specs.Sound.{IsSound, HasZeroJournal};
-ghost use Rattle.search_model.specs.Found.{AreFound};
-ghost use Rattle.search_model.specs.Workloads.{Search, Fails};
-ghost use Rattle.search_model.specs.declared.found.Found.{Found};
+ghost use Rattle.question_model.specs.Found.{AreFound};
+ghost use Rattle.question_model.specs.Workloads.{Search, Fails};
+ghost use Rattle.question_model.specs.declared.found.Found.{Found};
 ghost use Rattle.pool_judging.specs.Judging.{IsFullJournal};
 
 /// From a sound disk with a zero journal, under the full journal with all its rules and with any others put in, no

@@ -9,14 +9,14 @@ use Rattle.crash_model.specs.declared.patches.Patch.{Patch}
 use Rattle.crash_model.specs.declared.refusals.TraceFault.{TraceFault}
 use Rattle.crash_model.specs.declared.rules.Rule.{Rule}
 use Rattle.crash_model.specs.declared.steps.Step.{Step}
-use Rattle.enough_model.specs.Enough.{rules_in, rules_but}
+use Rattle.question_model.specs.Enough.{rules_in, rules_but}
 use Rattle.enough_rules.specs.Asked.{IsFound}
 use Rattle.chosen_rules.specs.Sublists.{EnoughOf, all_of}
 use Rattle.chosen_rules.proofs.Graphs.{less_or_not}
 use Rattle.enough_deciding.specs.Rules.{IsGraphBy, tracing_of}
 use Rattle.enough_deciding.proofs.Tracings.{one_tracing, same_enough}
-use Rattle.search_model.specs.Workloads.{Search, Fails, HasPatches, steps_at, trace_at}
-use Rattle.search_rules_model.specs.EnoughFor.{IsPassing, search_with}
+use Rattle.question_model.specs.Workloads.{Search, Fails, HasPatches, steps_at, trace_at}
+use Rattle.question_model.specs.EnoughFor.{IsPassing, search_with}
 use Rattle.traced_patches.specs.Traced.{TracedPatches}
 use Rattle.workload_rules.specs.Asked.{IsEnoughAt}
 use Rattle.workload_rules.proofs.OneSequence.{found_at}

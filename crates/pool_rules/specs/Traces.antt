@@ -8,7 +8,7 @@ use Rattle.crash_model.specs.declared.rules.Rule.{Rule}
 use Rattle.crash_model.specs.declared.steps.Step.{Step}
 use Rattle.enough_deciding.specs.Rules.{IsTracingOf, IsGraphBy}
 use Rattle.pool_judging.specs.Judging.{SomeFails}
-use Rattle.search_model.specs.Workloads.{Search}
+use Rattle.question_model.specs.Workloads.{Search}
 use Rattle.traced_patches.specs.Traced.{TracedPatches}
 
 -- none of the steps is refused

@@ -2,7 +2,7 @@
 
 use crate::traces::{blocking_in, fails_in, traced_of};
 use pool_judging::PoolJudge;
-use search_model::Places;
+use question_model::Places;
 use std::alloc::{AllocError, Allocator};
 use workload_rules::RuleJudge;
 

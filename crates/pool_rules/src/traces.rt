@@ -3,7 +3,7 @@
 ghost use Rattle.std.specs.Prelude.{◌<◌, IfOk};
 ghost use Rattle.std.specs.List.{All};
 ghost use Rattle.patch_sets.specs.Sets.{IsSubset};
-ghost use Rattle.enough_model.specs.Enough.{rules_but};
+ghost use Rattle.question_model.specs.Enough.{rules_but};
 ghost use Rattle.enough_rules.specs.Asked.{IsFound};
 ghost use Rattle.chosen_rules.specs.Sublists.{EnoughOf, all_of};
 ghost use Rattle.enough_deciding.specs.Rules.{IsGraphBy, tracing_of};

@@ -10,7 +10,7 @@ use Rattle.std.proofs.lemmas.Option.{slice_get_read}
 use Rattle.std.proofs.lemmas.Simd.{map-map}
 use Rattle.crash_model.specs.declared.steps.Act.{Act}
 use Rattle.crash_model.specs.declared.steps.Step.{Step}
-use Rattle.search_model.specs.Workloads.{IsOperation, steps_at}
+use Rattle.question_model.specs.Workloads.{IsOperation, steps_at}
 use Rattle.search_report.specs.Findings.{acts_at}
 
 abbrev act_of : Step → Act

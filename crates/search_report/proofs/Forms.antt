@@ -1,7 +1,7 @@
 -- A report in one form, if the settings ask for that.
 use Rattle.std.proofs.Common.{◌≡◌, ℕ, List, length, Bool, true, false, sym, ap}
 use Rattle.std.specs.Prelude.{if◌then◌else◌}
-use Rattle.search_model.specs.SearchReport.{json_search, search_bytes, text_search}
+use Rattle.question_model.specs.SearchReport.{json_search, search_bytes, text_search}
 use Rattle.search_report.specs.Findings.{told_kinds}
 use Rattle.search_report.specs.declared.findings.SearchFindings.{SearchFindings}
 

@@ -10,11 +10,11 @@ use Rattle.crash_model.specs.declared.settings.Settings.{Settings}
 use Rattle.crash_model.specs.declared.steps.Step.{Step}
 use Rattle.report_json.specs.JsonReport.{strict_key, whole_key}
 use Rattle.report_sections.specs.Replay.{told_replay}
-use Rattle.search_model.specs.Kinds.{kind_number, kind_name}
-use Rattle.search_model.specs.Refused.{refusal_number, refusal_text}
-use Rattle.search_model.specs.SearchReport.{json_search, kind_json, refused_json, step_text}
-use Rattle.search_model.specs.declared.found.Found.{Found}
-use Rattle.search_model.specs.declared.found.RefusedCount.{RefusedCount}
+use Rattle.question_model.specs.Kinds.{kind_number, kind_name}
+use Rattle.question_model.specs.Refused.{refusal_number, refusal_text}
+use Rattle.question_model.specs.SearchReport.{json_search, kind_json, refused_json, step_text}
+use Rattle.question_model.specs.declared.found.Found.{Found}
+use Rattle.question_model.specs.declared.found.RefusedCount.{RefusedCount}
 use Rattle.search_report.specs.Findings.{kind_head, kind_items, last_keys, ordering_keys, told_kind, told_kinds}
 use Rattle.search_report.specs.declared.findings.KindCrash.{KindCrash}
 use Rattle.search_report.specs.declared.findings.SearchFindings.{SearchFindings}

@@ -11,10 +11,10 @@ use Rattle.crash_model.specs.declared.steps.Step.{Step}
 use Rattle.report_json.specs.JsonReport.{strict_key, whole_key}
 use Rattle.report_sections.specs.Replay.{told_replay}
 use Rattle.report_sections.specs.Sections.{section_of}
-use Rattle.search_model.specs.Kinds.{kind_number, kind_name}
-use Rattle.search_model.specs.SearchReport.{ToldKind, kind_json, kind_text, refused_json}
-use Rattle.search_model.specs.Workloads.{steps_at}
-use Rattle.search_model.specs.declared.found.Found.{Found}
+use Rattle.question_model.specs.Kinds.{kind_number, kind_name}
+use Rattle.question_model.specs.SearchReport.{ToldKind, kind_json, kind_text, refused_json}
+use Rattle.question_model.specs.Workloads.{steps_at}
+use Rattle.question_model.specs.declared.found.Found.{Found}
 use Rattle.search_report.specs.declared.findings.KindCrash.{KindCrash}
 use Rattle.search_report.specs.declared.findings.SearchFindings.{SearchFindings}
 

@@ -2,8 +2,8 @@
 
 use crash_model::settings::Settings;
 use crash_model::steps::Step;
+use question_model::{Found, ShownKind};
 use report_sections::Section;
-use search_model::{Found, ShownKind};
 use std::alloc::Allocator;
 
 /// A kind of fault, and the crash that shows it first: what was found of the kind, how many patches the first workload

@@ -5,8 +5,8 @@ ghost use Rattle.std.specs.List.{All};
 ghost use Rattle.crash_model.specs.Lists.{join_of};
 ghost use Rattle.crash_model.specs.Texts.{op_text};
 ghost use Rattle.report_model.specs.Report.{json_string};
-ghost use Rattle.search_model.specs.SearchReport.{json_search, kind_json, refused_json, step_text};
-ghost use Rattle.search_model.specs.Workloads.{IsOperation, steps_at};
+ghost use Rattle.question_model.specs.SearchReport.{json_search, kind_json, refused_json, step_text};
+ghost use Rattle.question_model.specs.Workloads.{IsOperation, steps_at};
 ghost use Rattle.search_report.specs.Findings.{kind_head, kind_items, last_keys, ordering_keys, told_kind};
 ghost use Rattle.search_report.specs.Findings.{told_kinds};
 
@@ -20,7 +20,7 @@ use json_values::{KnownTexts, push_replay, push_set, write_comma};
 use report_json::{
     write_atomic_key, write_module_key, write_rule_key, write_strict_key, write_whole_key,
 };
-use search_model::{Found, RefusedCount};
+use question_model::{Found, RefusedCount};
 use std::alloc::{AllocError, Allocator, Global};
 
 /// A report of a search as JSON: one compact object, its keys in ascending order, and a line feed. The numbers of

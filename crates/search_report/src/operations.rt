@@ -3,7 +3,7 @@
 ghost use Rattle.std.specs.Prelude.{◌≡◌, map, option_map, slice_get, IfOk};
 ghost use Rattle.std.specs.List.{All};
 ghost use Rattle.crash_model.specs.declared.steps.Act.TheVariants.{Do};
-ghost use Rattle.search_model.specs.Workloads.{IsOperation};
+ghost use Rattle.question_model.specs.Workloads.{IsOperation};
 ghost use Rattle.search_report.specs.Findings.{acts_at};
 
 use crash_model::operations::Op;

@@ -2,8 +2,8 @@
 
 ghost use Rattle.std.specs.Prelude.{◌≡◌, length, string_bytes, IfOk};
 ghost use Rattle.std.specs.List.{All};
-ghost use Rattle.search_model.specs.SearchReport.{search_bytes};
-ghost use Rattle.search_model.specs.Workloads.{IsOperation};
+ghost use Rattle.question_model.specs.SearchReport.{search_bytes};
+ghost use Rattle.question_model.specs.Workloads.{IsOperation};
 ghost use Rattle.search_report.specs.Findings.{told_kinds};
 
 use crate::findings::SearchFindings;

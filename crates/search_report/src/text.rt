@@ -4,9 +4,9 @@ ghost use Rattle.std.specs.Prelude.{◌≡◌, ◌++◌, codes, flat_map, length
 ghost use Rattle.std.specs.List.{All};
 ghost use Rattle.crash_model.specs.Texts.{op_text};
 ghost use Rattle.report_model.specs.Report.{line};
-ghost use Rattle.search_model.specs.SearchReport.{kind_text, refused_text, search_text as head_text, step_text};
-ghost use Rattle.search_model.specs.SearchReport.{text_search};
-ghost use Rattle.search_model.specs.Workloads.{IsOperation, steps_at};
+ghost use Rattle.question_model.specs.SearchReport.{kind_text, refused_text, search_text as head_text, step_text};
+ghost use Rattle.question_model.specs.SearchReport.{text_search};
+ghost use Rattle.question_model.specs.Workloads.{IsOperation, steps_at};
 ghost use Rattle.search_report.specs.Findings.{kind_lines, told_kind, told_kinds};
 
 use crate::findings::{KindCrash, SearchFindings};
@@ -14,8 +14,8 @@ use crate::operations::operations_at;
 use crash_model::operations::Op;
 use crash_model::settings::Settings;
 use crash_model::steps::Step;
+use question_model::{Found, RefusedCount};
 use report_text::write_ordering;
-use search_model::{Found, RefusedCount};
 use section_lines::lines::write_section;
 use std::alloc::{AllocError, Allocator};
 

@@ -1,7 +1,7 @@
 -- A report in one form, where the settings ask for that.
 use Rattle.std.proofs.Common.{◌≡◌, ℕ, List, length, Bool, true, false, sym, ap}
 use Rattle.std.specs.Prelude.{if◌then◌else◌}
-use Rattle.search_rules_model.specs.SearchRulesReport.{json_search_rules, search_rules_bytes, text_search_rules}
+use Rattle.question_model.specs.SearchRulesReport.{json_search_rules, search_rules_bytes, text_search_rules}
 use Rattle.search_rules_report.specs.Findings.{told_needs}
 use Rattle.search_rules_report.specs.declared.findings.SearchRulesFindings.{SearchRulesFindings}
 

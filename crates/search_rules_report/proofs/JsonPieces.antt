@@ -10,10 +10,10 @@ use Rattle.crash_model.specs.declared.rules.Rule.{Rule}
 use Rattle.crash_model.specs.declared.steps.Step.{Step}
 use Rattle.enough_report.specs.Found.{group_head, set_items, told_first}
 use Rattle.report_json.specs.JsonReport.{strict_key, whole_key}
-use Rattle.search_model.specs.SearchReport.{refused_json, step_text}
-use Rattle.search_model.specs.Workloads.{steps_at}
+use Rattle.question_model.specs.SearchReport.{refused_json, step_text}
+use Rattle.question_model.specs.Workloads.{steps_at}
 use Rattle.search_report.specs.Findings.{last_keys}
-use Rattle.search_rules_model.specs.SearchRulesReport.{json_search_rules, need_json}
+use Rattle.question_model.specs.SearchRulesReport.{json_search_rules, need_json}
 use Rattle.search_rules_report.specs.Findings.{need_items, told_need, told_needs}
 use Rattle.search_rules_report.specs.declared.findings.NeededWorkload.{NeededWorkload}
 use Rattle.search_rules_report.specs.declared.findings.SearchRulesFindings.{SearchRulesFindings}

@@ -5,10 +5,10 @@ use Rattle.std.proofs.lemmas.List.Folds.{flat_map-map}
 use Rattle.report_model.specs.Answer.{ordering_rules}
 use Rattle.report_model.specs.Report.{line}
 use Rattle.crash_model.specs.declared.rules.Rule.{Rule}
-use Rattle.decision_model.specs.Decision.{decided_text}
-use Rattle.enough_model.specs.EnoughReport.{rules_text}
-use Rattle.search_model.specs.SearchReport.{search_text, step_text}
-use Rattle.search_rules_model.specs.SearchRulesReport.{ToldNeed, need_text, text_search_rules}
+use Rattle.question_model.specs.Decision.{decided_text}
+use Rattle.question_model.specs.EnoughReport.{rules_text}
+use Rattle.question_model.specs.SearchReport.{search_text, step_text}
+use Rattle.question_model.specs.SearchRulesReport.{ToldNeed, need_text, text_search_rules}
 use Rattle.search_rules_report.specs.Findings.{need_lines, told_need, told_needs}
 use Rattle.search_rules_report.specs.declared.findings.SearchRulesFindings.{SearchRulesFindings}
 

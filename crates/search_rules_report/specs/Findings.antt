@@ -5,8 +5,8 @@ use Rattle.crash_model.specs.Lists.{join_of}
 use Rattle.crash_model.specs.declared.rules.Rule.{Rule}
 use Rattle.crash_model.specs.declared.steps.Step.{Step}
 use Rattle.enough_report.specs.Found.{told_first}
-use Rattle.search_model.specs.Workloads.{steps_at}
-use Rattle.search_rules_model.specs.SearchRulesReport.{ToldNeed, need_json, need_text}
+use Rattle.question_model.specs.Workloads.{steps_at}
+use Rattle.question_model.specs.SearchRulesReport.{ToldNeed, need_json, need_text}
 use Rattle.search_rules_report.specs.declared.findings.NeededWorkload.{NeededWorkload}
 use Rattle.search_rules_report.specs.declared.findings.SearchRulesFindings.{SearchRulesFindings}
 

@@ -3,7 +3,7 @@
 use crash_model::settings::Settings;
 use crash_model::steps::Step;
 use enough_report::FirstFault;
-use search_model::{Found, Places};
+use question_model::{Found, Places};
 use std::alloc::Allocator;
 
 /// A group of rules of which one is needed, the first workload that fails without it, how many patches that has, and

@@ -3,8 +3,8 @@
 ghost use Rattle.std.specs.Prelude.{◌≡◌, ◌++◌, [], length, string_bytes, IfOk, OnOk};
 ghost use Rattle.std.specs.List.{All};
 ghost use Rattle.report_model.specs.Answer.{ordering_rules};
-ghost use Rattle.search_model.specs.Workloads.{IsOperation};
-ghost use Rattle.search_rules_model.specs.SearchRulesReport.{json_search_rules, need_json};
+ghost use Rattle.question_model.specs.Workloads.{IsOperation};
+ghost use Rattle.question_model.specs.SearchRulesReport.{json_search_rules, need_json};
 ghost use Rattle.search_rules_report.specs.Findings.{need_items, told_need, told_needs};
 
 use crate::findings::{NeededWorkload, SearchRulesFindings};

@@ -2,8 +2,8 @@
 
 ghost use Rattle.std.specs.Prelude.{◌≡◌, length, string_bytes, IfOk};
 ghost use Rattle.std.specs.List.{All};
-ghost use Rattle.search_model.specs.Workloads.{IsOperation};
-ghost use Rattle.search_rules_model.specs.SearchRulesReport.{search_rules_bytes};
+ghost use Rattle.question_model.specs.Workloads.{IsOperation};
+ghost use Rattle.question_model.specs.SearchRulesReport.{search_rules_bytes};
 ghost use Rattle.search_rules_report.specs.Findings.{told_needs};
 
 use crate::findings::SearchRulesFindings;

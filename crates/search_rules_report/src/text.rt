@@ -2,8 +2,8 @@
 
 ghost use Rattle.std.specs.Prelude.{◌≡◌, ◌++◌, length, string_bytes, IfOk, OnOk};
 ghost use Rattle.std.specs.List.{All};
-ghost use Rattle.search_model.specs.Workloads.{IsOperation};
-ghost use Rattle.search_rules_model.specs.SearchRulesReport.{need_text, text_search_rules};
+ghost use Rattle.question_model.specs.Workloads.{IsOperation};
+ghost use Rattle.question_model.specs.SearchRulesReport.{need_text, text_search_rules};
 ghost use Rattle.search_rules_report.specs.Findings.{need_lines, told_need, told_needs};
 
 use crate::findings::{NeededWorkload, SearchRulesFindings};

@@ -6,7 +6,7 @@ use crash_model::refusals::RunFault;
 use crash_text::host::Host;
 use crash_text::run::{Outcome, run};
 use explorers::OpenGate;
-use questions::{Question, Request};
+use question_model::{Question, Request};
 use std::alloc::{Allocator, Global};
 use std::process::Abort;
 use std::sync::Wait;

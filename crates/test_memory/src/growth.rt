@@ -15,7 +15,7 @@ use crash_model::settings::{Explorer, ReportBy, Settings};
 use crash_text::host::Host;
 use crash_text::run::run;
 use explorers::OpenGate;
-use questions::{Question, Request};
+use question_model::{Question, Request};
 use std::alloc::Global;
 use std::process::Abort;
 use std::sync::Wait;

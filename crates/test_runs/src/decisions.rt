@@ -4,7 +4,7 @@ use crash_model::modules::Module;
 use crash_text::host::Host;
 use crash_text::run::run;
 use explorers::OpenGate;
-use questions::{Question, Request};
+use question_model::{Question, Request};
 use std::test::Fail;
 use test_support::settings::plain_settings;
 

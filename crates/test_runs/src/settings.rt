@@ -3,8 +3,7 @@
 use clap::error::ErrorKind;
 use command_line::settings_of;
 use crash_model::settings::Explorer;
-use questions::Question;
-use search_model::Most;
+use question_model::{Most, Question};
 use std::test::Fail;
 
 /// Words, the question that they ask.

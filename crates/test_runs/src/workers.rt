@@ -6,7 +6,7 @@ use crash_model::modules::Module;
 use crash_text::host::Host;
 use crash_text::run::run;
 use explorers::Gate;
-use questions::{Question, Request};
+use question_model::{Question, Request};
 use std::process::Abort;
 use std::sync::Wait;
 use std::test::Fail;

@@ -5,7 +5,7 @@ ghost use Rattle.std.specs.Prelude.{◌≤◌};
 use crash_text::host::Host;
 use crash_text::run::{Outcome, run};
 use explorers::{Gate, OpenGate};
-use questions::{Question, Request};
+use question_model::{Question, Request};
 use std::alloc::Global;
 use std::process::Abort;
 use std::sync::Wait;

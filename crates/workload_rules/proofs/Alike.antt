@@ -2,15 +2,15 @@
 use Rattle.std.proofs.Common.{◌≡◌, ℕ, None, sym, subst}
 use Rattle.std.specs.Prelude.{◌↔◌}
 use Rattle.crash_model.specs.Trace.{trace_start}
-use Rattle.enough_model.specs.Enough.{rules_in, rules_but}
+use Rattle.question_model.specs.Enough.{rules_in, rules_but}
 use Rattle.enough_rules.specs.Enough.{IsMinimalEnough, IsNeeded}
 use Rattle.enough_rules.proofs.Groups.{difference_of}
 use Rattle.patch_sets.specs.Ends.{IsDifference}
 use Rattle.chosen_rules.specs.Sublists.{all_of}
 use Rattle.chosen_rules.proofs.Alike.{rest_rules}
 use Rattle.chosen_rules.proofs.Oracles.{all_places}
-use Rattle.search_model.specs.Workloads.{Search}
-use Rattle.search_rules_model.specs.EnoughFor.{AreEnoughFor, IsMinimalInSearch, IsNeededInSearch}
+use Rattle.question_model.specs.Workloads.{Search}
+use Rattle.question_model.specs.EnoughFor.{AreEnoughFor, IsMinimalInSearch, IsNeededInSearch}
 use Rattle.workload_rules.specs.Asked.{IsEnoughInSearch}
 
 module _ (s : Search) where

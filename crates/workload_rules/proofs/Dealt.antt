@@ -10,9 +10,9 @@ use Rattle.enough_rules.specs.Enough.{AreEnoughSets}
 use Rattle.enough_rules.specs.declared.sets.EnoughSets.{EnoughSets}
 use Rattle.enough_rules.proofs.Found.{found_alike}
 use Rattle.hitting_sets.specs.Hitting.{Hits}
-use Rattle.search_model.specs.Sequences.{AreAllSequences}
-use Rattle.search_model.specs.Workloads.{Search}
-use Rattle.search_rules_model.specs.EnoughFor.{IsPassing}
+use Rattle.question_model.specs.Sequences.{AreAllSequences}
+use Rattle.question_model.specs.Workloads.{Search}
+use Rattle.question_model.specs.EnoughFor.{IsPassing}
 use Rattle.workload_rules.specs.Asked.{IsEnoughAt, IsEnoughForEach, IsEnoughForPart, IsEnoughInSearch, AreGroupsOfPart}
 
 -- the rules of the set are enough for what the parts from number n on get

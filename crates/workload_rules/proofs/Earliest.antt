@@ -3,7 +3,7 @@ use Rattle.std.proofs.Common.{◌≡◌, ℕ, ◌<◌, List, length, get_or, ari
 use Rattle.std.proofs.lemmas.List.{get_or_default}
 use Rattle.std.proofs.lemmas.List.Elements.{Contains-get_or}
 use Rattle.chosen_rules.proofs.Graphs.{less_or_not}
-use Rattle.search_model.specs.Sequences.{IsSequenceBefore, AreAllSequences, IsFirstSequence}
+use Rattle.question_model.specs.Sequences.{IsSequenceBefore, AreAllSequences, IsFirstSequence}
 use Rattle.workload_search.proofs.Order.{before_asymmetric, before_irreflexive}
 use Rattle.workload_rules.specs.Asked.{IsFirstAt}
 

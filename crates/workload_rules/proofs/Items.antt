@@ -3,9 +3,9 @@ use Rattle.std.proofs.Common.{◌≡◌, ℕ, ◌+◌, ◌<◌, List, length, ma
 use Rattle.std.specs.List.{All}
 use Rattle.std.proofs.lemmas.List.{get_or-map}
 use Rattle.arrayvec.specs.ArrayVec.{ArrayVec}
-use Rattle.search_model.specs.Sequences.{AreAllSequences}
-use Rattle.search_model.specs.Workloads.{Search}
-use Rattle.search_rules_model.specs.EnoughFor.{IsPassing}
+use Rattle.question_model.specs.Sequences.{AreAllSequences}
+use Rattle.question_model.specs.Workloads.{Search}
+use Rattle.question_model.specs.EnoughFor.{IsPassing}
 use Rattle.workload_search.specs.Tries.{items_of}
 use Rattle.workload_search.proofs.Lists.{all_from, in_map}
 

@@ -10,12 +10,12 @@ use Rattle.crash_model.specs.declared.rules.Rule.{Rule}
 use Rattle.rule_laws.proofs.Closed.{failing_under_more}
 use Rattle.worked_example_laws.proofs.Keeping.{one_demands}
 use Rattle.worked_example_laws.proofs.OneGraph.{graph_one}
-use Rattle.enough_model.specs.Enough.{AreEnough, rules_in}
+use Rattle.question_model.specs.Enough.{AreEnough, rules_in}
 use Rattle.enough_rules.specs.Asked.{IsFound}
 use Rattle.chosen_rules.specs.Sublists.{EnoughOf}
 use Rattle.chosen_rules.proofs.Graphs.{graph_by_others}
-use Rattle.search_model.specs.Workloads.{Search, Fails, steps_at, trace_at}
-use Rattle.search_rules_model.specs.EnoughFor.{search_with}
+use Rattle.question_model.specs.Workloads.{Search, Fails, steps_at, trace_at}
+use Rattle.question_model.specs.EnoughFor.{search_with}
 use Rattle.workload_rules.specs.Asked.{IsEnoughAt}
 
 one_ok : (r : Result Tracing TraceFault) (a b : Tracing) → r ≡ Ok a → r ≡ Ok b → a ≡ b

@@ -1,12 +1,12 @@
 -- What is found of one workload is found of all that are asked with it.
 use Rattle.std.proofs.Common.{◌≡◌, ℕ, ◌%◌, ◌<◌, List, length, get_or}
 use Rattle.std.specs.Prelude.{Some}
-use Rattle.enough_model.specs.Enough.{rules_in}
+use Rattle.question_model.specs.Enough.{rules_in}
 use Rattle.enough_rules.specs.Asked.{IsFound}
 use Rattle.enough_rules.specs.Enough.{MoreAreEnough}
 use Rattle.chosen_rules.specs.Sublists.{all_of}
 use Rattle.chosen_rules.proofs.Lists.{fewer_among}
-use Rattle.search_model.specs.Workloads.{Search}
+use Rattle.question_model.specs.Workloads.{Search}
 use Rattle.workload_rules.specs.Asked.{IsEnoughAt, IsEnoughForPart}
 use Rattle.workload_rules.proofs.OneSequence.{fails_by_fewer}
 

@@ -1,11 +1,11 @@
 -- What is asked of workloads about the rules of a set.
 use Rattle.std.specs.Prelude.{◌≡◌, ℕ, ◌%◌, ◌<◌, List, length, Result, IfOk, Vec, get_or, slice_index_or}
 use Rattle.std.specs.List.{All}
-use Rattle.enough_model.specs.Enough.{rules_in}
+use Rattle.question_model.specs.Enough.{rules_in}
 use Rattle.enough_rules.specs.Asked.{AreBlockingGroups}
 use Rattle.chosen_rules.specs.Sublists.{all_of}
-use Rattle.search_model.specs.Workloads.{Search, Fails}
-use Rattle.search_rules_model.specs.EnoughFor.{AreEnoughFor, search_with}
+use Rattle.question_model.specs.Workloads.{Search, Fails}
+use Rattle.question_model.specs.EnoughFor.{AreEnoughFor, search_with}
 
 -- the rules of the set are enough for the sequence: it does not fail by them
 abbrev pub IsEnoughAt : Search → List ℕ → ℕ → Type 0

@@ -4,12 +4,12 @@ ghost use Rattle.std.specs.List.{All};
 ghost use Rattle.patch_sets.specs.Sets.{IsSubset};
 ghost use Rattle.chosen_rules.specs.Sublists.{all_of};
 ghost use Rattle.enough_rules.specs.Asked.{IsFound};
-ghost use Rattle.search_rules_model.specs.EnoughFor.{IsPassing};
+ghost use Rattle.question_model.specs.EnoughFor.{IsPassing};
 ghost use Rattle.workload_search.specs.Tries.{items_of};
 ghost use Rattle.workload_rules.specs.Asked.{IsEnoughForPart};
 
 use crate::judge::RuleJudge;
-use search_model::Places;
+use question_model::Places;
 use std::alloc::AllocError;
 
 /// What a judge says about the first workload for which the set is not enough, or `None` if it is enough for each. The

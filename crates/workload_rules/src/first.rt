@@ -1,12 +1,12 @@
 //! The first workload that fails without a group of rules.
 ghost use Rattle.std.specs.Prelude.{map, IfOk};
-ghost use Rattle.enough_model.specs.Enough.{rules_but};
-ghost use Rattle.search_model.specs.Sequences.{AreAllSequences, IsFirstSequence};
-ghost use Rattle.search_rules_model.specs.EnoughFor.{IsPassing, FailsBy, AreEnoughFor};
+ghost use Rattle.question_model.specs.Enough.{rules_but};
+ghost use Rattle.question_model.specs.Sequences.{AreAllSequences, IsFirstSequence};
+ghost use Rattle.question_model.specs.EnoughFor.{IsPassing, FailsBy, AreEnoughFor};
 ghost use Rattle.workload_search.specs.Tries.{items_of};
 
 use crate::judge::RuleJudge;
-use search_model::Places;
+use question_model::Places;
 use std::alloc::AllocError;
 
 /// The first workload that does not fail by all rules of a judge's search, and fails by all but those of a group, which

@@ -1,14 +1,14 @@
 //! Judging sets of rules by a workload.
 ghost use Rattle.std.specs.Prelude.{◌↔◌, ℕ, IfOk, IsTrue};
 ghost use Rattle.patch_sets.specs.Sets.{IsSubset};
-ghost use Rattle.enough_model.specs.Enough.{rules_but};
+ghost use Rattle.question_model.specs.Enough.{rules_but};
 ghost use Rattle.enough_rules.specs.Asked.{IsFound};
 ghost use Rattle.chosen_rules.specs.Sublists.{all_of};
-ghost use Rattle.search_model.specs.Workloads.{Search, Fails};
-ghost use Rattle.search_rules_model.specs.EnoughFor.{IsPassing, search_with};
+ghost use Rattle.question_model.specs.Workloads.{Search, Fails};
+ghost use Rattle.question_model.specs.EnoughFor.{IsPassing, search_with};
 ghost use Rattle.workload_rules.specs.Asked.{IsEnoughAt};
 
-use search_model::Places;
+use question_model::Places;
 use std::alloc::AllocError;
 
 /// Judges sets of a search's rules by its workloads that do not fail.

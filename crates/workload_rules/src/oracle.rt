@@ -1,14 +1,14 @@
 //! The groups of rules that a part of the workloads needs.
 ghost use Rattle.std.specs.Prelude.{◌<◌, map, IfOk};
 ghost use Rattle.std.specs.List.{All};
-ghost use Rattle.search_rules_model.specs.EnoughFor.{IsPassing};
+ghost use Rattle.question_model.specs.EnoughFor.{IsPassing};
 ghost use Rattle.workload_search.specs.Tries.{items_of};
 ghost use Rattle.workload_rules.specs.Asked.{AreGroupsOfPart};
 
 use crate::asking::blocking_of;
 use crate::judge::RuleJudge;
 use enough_rules::{Oracle, blocking_groups};
-use search_model::Places;
+use question_model::Places;
 use std::alloc::{AllocError, Allocator};
 
 /// A judge, and workloads of its search that do not fail, of which those are asked that part number `part` gets, where

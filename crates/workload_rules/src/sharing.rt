@@ -4,15 +4,15 @@ ghost use Rattle.std.specs.List.{All};
 ghost use Rattle.patch_sets.specs.Sets.{AreAllInOrder};
 ghost use Rattle.chosen_rules.specs.Sublists.{all_of};
 ghost use Rattle.enough_rules.specs.Asked.{AreBlockingGroups};
-ghost use Rattle.search_model.specs.Sequences.{AreAllSequences};
-ghost use Rattle.search_rules_model.specs.EnoughFor.{IsPassing, IsMinimalInSearch, IsNeededInSearch};
+ghost use Rattle.question_model.specs.Sequences.{AreAllSequences};
+ghost use Rattle.question_model.specs.EnoughFor.{IsPassing, IsMinimalInSearch, IsNeededInSearch};
 ghost use Rattle.workload_search.specs.Tries.{items_of};
 ghost use Rattle.workload_rules.specs.Asked.{IsEnoughForEach, AreGroupsOfParts};
 
 use crate::judge::RuleJudge;
 use crate::oracle::groups_of;
 use enough_rules::{EnoughSets, sets_of};
-use search_model::Places;
+use question_model::Places;
 use set_sweep::Workers;
 use std::alloc::{AllocError, Allocator};
 use std::thread;

@@ -7,8 +7,8 @@ use Rattle.crash_model.specs.Trace.{Tracing, trace_start, trace_from, step}
 use Rattle.crash_model.specs.declared.modules.Module.{Module}
 use Rattle.crash_model.specs.declared.refusals.TraceFault.{TraceFault}
 use Rattle.crash_model.specs.declared.steps.Step.{Step}
-use Rattle.search_model.specs.Workloads.{Search, steps_at, trace_at}
-use Rattle.search_model.specs.Verdict.{IsAccepted}
+use Rattle.question_model.specs.Workloads.{Search, steps_at, trace_at}
+use Rattle.question_model.specs.Verdict.{IsAccepted}
 
 -- what goes on well began well
 began : (r : Result Tracing TraceFault) (next : Tracing → Result Tracing TraceFault) (last : Tracing)

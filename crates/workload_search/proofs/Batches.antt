@@ -6,12 +6,12 @@ use Rattle.std.specs.List.{filter}
 use Rattle.std.proofs.lemmas.List.{length-map, map-append}
 use Rattle.std.proofs.lemmas.List.Elements.{All-append, All-push, filter-append}
 use Rattle.arrayvec.specs.ArrayVec.{ArrayVec}
-use Rattle.search_model.specs.Workloads.{Search}
-use Rattle.search_model.specs.Verdict.{IsVerdict}
+use Rattle.question_model.specs.Workloads.{Search}
+use Rattle.question_model.specs.Verdict.{IsVerdict}
 use Rattle.workload_search.specs.Tallies.{Tried, tried_as, IsTally, HasRoom, HaveRoom, is_passing}
 use Rattle.workload_search.specs.Tries.{IsBatch, BatchHasRoom, HaveRoomFor, items_of, passing_of}
 use Rattle.workload_search.specs.declared.batch.Batch.{Batch}
-use Rattle.search_model.specs.declared.verdict.Verdict.{Verdict}
+use Rattle.question_model.specs.declared.verdict.Verdict.{Verdict}
 use Rattle.workload_search.proofs.Counted.{places_of, IsRight}
 
 pub passing_join : (tried others : List Tried) → passing_of (tried ++ others) ≡ passing_of tried ++ passing_of others

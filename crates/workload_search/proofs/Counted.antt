@@ -8,15 +8,15 @@ use Rattle.std.proofs.lemmas.List.Elements.{All-contains}
 use Rattle.std.proofs.lemmas.List.Kept.{AllPairs-filter}
 use Rattle.std.proofs.lemmas.List.Sums.{length-filter}
 use Rattle.std.proofs.lemmas.Option.{some_pair_parts}
-use Rattle.search_model.specs.Sequences.{IsSequenceBefore, AreAllSequences, CountsSequences}
-use Rattle.search_model.specs.Workloads.{Search, IsWorkload, IsFailingWorkload, IsRefusedFor, ShowsKind}
-use Rattle.search_model.specs.declared.fault_kind.FaultKind.{FaultKind}
-use Rattle.search_model.specs.declared.refusal.Refusal.{Refusal}
+use Rattle.question_model.specs.Sequences.{IsSequenceBefore, AreAllSequences, CountsSequences}
+use Rattle.question_model.specs.Workloads.{Search, IsWorkload, IsFailingWorkload, IsRefusedFor, ShowsKind}
+use Rattle.question_model.specs.declared.fault_kind.FaultKind.{FaultKind}
+use Rattle.question_model.specs.declared.refusal.Refusal.{Refusal}
 use Rattle.patch_sets.proofs.Lists.{front_or_rest, in_front, in_rest}
-use Rattle.search_model.specs.Verdict.{IsVerdict}
+use Rattle.question_model.specs.Verdict.{IsVerdict}
 use Rattle.workload_search.specs.Tallies.{Tried, is_accepted, is_failing, is_refused_at, shows_at, first_at}
 use Rattle.workload_search.specs.Tallies.{first_shown, number_of, reason_place, kind_place, or_else, with_places}
-use Rattle.search_model.specs.declared.verdict.Verdict.{Verdict}
+use Rattle.question_model.specs.declared.verdict.Verdict.{Verdict}
 use Rattle.workload_search.proofs.Lists.{pairs_map, pairs_unmap, front_all, rest_pairs, in_map, from_map, in_filter}
 use Rattle.workload_search.proofs.Lists.{from_filter}
 use Rattle.workload_search.proofs.Order.{before_asymmetric, before_irreflexive}

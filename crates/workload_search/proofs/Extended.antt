@@ -10,8 +10,8 @@ use Rattle.std.proofs.lemmas.List.Elements.{Contains-append_cases}
 use Rattle.std.proofs.lemmas.List.FromFn.{length-map-range_with_len}
 use Rattle.std.proofs.lemmas.List.Kept.{AllPairs-filter}
 use Rattle.patch_sets.proofs.Lists.{in_front, in_none}
-use Rattle.search_model.specs.Sequences.{IsSequenceBefore}
-use Rattle.search_model.specs.Workloads.{Search, IsBeginning, IsWorkload, Fails}
+use Rattle.question_model.specs.Sequences.{IsSequenceBefore}
+use Rattle.question_model.specs.Workloads.{Search, IsBeginning, IsWorkload, Fails}
 use Rattle.workload_search.specs.Tallies.{Tried, is_passing}
 use Rattle.workload_search.specs.Tries.{extensions_of, extensions, passing_of}
 use Rattle.workload_search.proofs.Counted.{places_of, IsRight, AreAllTried}

@@ -7,21 +7,21 @@ use Rattle.std.proofs.lemmas.List.Elements.{All-weaker, All-contains}
 use Rattle.crash_model.specs.Checker.{Demands}
 use Rattle.crash_model.specs.FaultRows.{IsFirst}
 use Rattle.crash_model.specs.declared.patches.Patch.{Patch}
-use Rattle.search_model.specs.Found.{AreFound, IsCounted, IsShown}
-use Rattle.search_model.specs.Sequences.{IsSequenceBefore, CountsSequences}
-use Rattle.search_model.specs.Workloads.{Search, IsWorkload, IsFailingWorkload, IsRefusedFor, ShowsKind, HasPatches}
-use Rattle.search_model.specs.Workloads.{HasKind}
-use Rattle.search_model.specs.declared.fault_kind.FaultKind.{FaultKind}
-use Rattle.search_model.specs.declared.found.Found.{Found}
-use Rattle.search_model.specs.declared.found.RefusedCount.{RefusedCount}
-use Rattle.search_model.specs.declared.found.ShownKind.{ShownKind}
-use Rattle.search_model.specs.declared.refusal.Refusal.{Refusal}
-use Rattle.search_model.specs.Verdict.{IsVerdict, IsFirstOfKind}
+use Rattle.question_model.specs.Found.{AreFound, IsCounted, IsShown}
+use Rattle.question_model.specs.Sequences.{IsSequenceBefore, CountsSequences}
+use Rattle.question_model.specs.Workloads.{Search, IsWorkload, IsFailingWorkload, IsRefusedFor, ShowsKind, HasPatches}
+use Rattle.question_model.specs.Workloads.{HasKind}
+use Rattle.question_model.specs.declared.fault_kind.FaultKind.{FaultKind}
+use Rattle.question_model.specs.declared.found.Found.{Found}
+use Rattle.question_model.specs.declared.found.RefusedCount.{RefusedCount}
+use Rattle.question_model.specs.declared.found.ShownKind.{ShownKind}
+use Rattle.question_model.specs.declared.refusal.Refusal.{Refusal}
+use Rattle.question_model.specs.Verdict.{IsVerdict, IsFirstOfKind}
 use Rattle.workload_search.specs.Tallies.{Tried, IsTally, is_accepted, is_failing, is_refused_at, shows_at, first_at}
 use Rattle.workload_search.specs.Tallies.{reason_place, kind_place, told_first}
 use Rattle.workload_search.specs.Told.{IsToldTally, IsToldReason, IsToldKindTally}
-use Rattle.search_model.specs.declared.verdict.Verdict.{Verdict}
-use Rattle.search_model.specs.declared.verdict.Verdict.TheVariants as verdict
+use Rattle.question_model.specs.declared.verdict.Verdict.{Verdict}
+use Rattle.question_model.specs.declared.verdict.Verdict.TheVariants as verdict
 use Rattle.workload_search.specs.declared.kinds.KindTally.{KindTally}
 use Rattle.workload_search.specs.declared.tally.Tally.{Tally}
 use Rattle.workload_search.proofs.Counted.{AreAllTried, IsRight, IsFirstOf, places_of, counts_with, some_with}

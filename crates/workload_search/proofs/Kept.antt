@@ -4,7 +4,7 @@ use Rattle.std.proofs.Common.{sym, subst, ap, ap₂, ◌∙◌}
 use Rattle.std.specs.List.{remove}
 use Rattle.std.proofs.lemmas.List.{map-append}
 use Rattle.arrayvec.specs.ArrayVec.{ArrayVec}
-use Rattle.search_model.specs.Workloads.{Search, IsWorkload, Fails}
+use Rattle.question_model.specs.Workloads.{Search, IsWorkload, Fails}
 use Rattle.workload_search.specs.Passing.{AreAllPassing}
 use Rattle.workload_search.specs.Tallies.{Tried, IsTally, is_passing}
 use Rattle.workload_search.specs.Tries.{IsBatch, extensions, items_of, passing_of}

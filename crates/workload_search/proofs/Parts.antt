@@ -10,7 +10,7 @@ use Rattle.std.proofs.lemmas.List.Concat.{flat_map-append}
 use Rattle.std.proofs.lemmas.List.FromFn.{length-map-range_with_len, map-range_with_len_more}
 use Rattle.std.proofs.lemmas.Nat.{div-add-mod'}
 use Rattle.arrayvec.specs.ArrayVec.{ArrayVec}
-use Rattle.search_model.specs.Workloads.{Search}
+use Rattle.question_model.specs.Workloads.{Search}
 use Rattle.workload_search.specs.Tries.{IsBatch, BatchHasRoom, HaveRoomFor, ArePartsOf, extensions_of}
 use Rattle.workload_search.specs.Tries.{extensions, items_of}
 use Rattle.workload_search.specs.declared.batch.Batch.{Batch}

@@ -5,7 +5,7 @@ use Rattle.std.specs.Prelude.{if◌then◌else◌}
 use Rattle.std.specs.List.{All}
 use Rattle.std.proofs.lemmas.List.{length-map}
 use Rattle.arrayvec.specs.ArrayVec.{ArrayVec}
-use Rattle.search_model.specs.Workloads.{Search}
+use Rattle.question_model.specs.Workloads.{Search}
 use Rattle.workload_search.specs.Tallies.{Tried, IsTally, HaveRoom}
 use Rattle.workload_search.specs.Tries.{IsBatch, IsExtendable, extensions, items_of, passing_of}
 use Rattle.workload_search.specs.declared.batch.Batch.{Batch}

@@ -11,7 +11,7 @@ use Rattle.workload_search.specs.Tallies.{Tried, tried_as, is_accepted, is_faili
 use Rattle.workload_search.specs.Tallies.{number_of, or_else, with_places, first_shown, told_first, IsKindTally}
 use Rattle.workload_search.specs.Tallies.{IsTally, HasRoom, HaveRoom, IsKindAdded, IsKindJoined}
 use Rattle.workload_search.specs.Tallies.{AreKindsJoined, AreCountsJoined, AreNoKinds, KindsHaveRoomFor}
-use Rattle.search_model.specs.declared.verdict.Verdict.{Verdict}
+use Rattle.question_model.specs.declared.verdict.Verdict.{Verdict}
 use Rattle.workload_search.specs.declared.kinds.KindTally.{KindTally}
 use Rattle.workload_search.specs.declared.tally.Tally.{Tally}
 

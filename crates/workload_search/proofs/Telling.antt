@@ -7,12 +7,12 @@ use Rattle.std.proofs.lemmas.List.{length-append, map-append}
 use Rattle.std.proofs.lemmas.List.Elements.{All-nil, All-push, All-weaker, Contains-push, Contains-append_left}
 use Rattle.std.proofs.lemmas.List.Quantifiers.{all_pairs_push}
 use Rattle.patch_sets.proofs.Bits.{eq_or_not}
-use Rattle.search_model.specs.Kinds.{kind_number}
-use Rattle.search_model.specs.Refused.{refusal_number}
-use Rattle.search_model.specs.declared.fault_kind.FaultKind.{FaultKind}
-use Rattle.search_model.specs.declared.found.RefusedCount.{RefusedCount}
-use Rattle.search_model.specs.declared.found.ShownKind.{ShownKind}
-use Rattle.search_model.specs.declared.refusal.Refusal.{Refusal}
+use Rattle.question_model.specs.Kinds.{kind_number}
+use Rattle.question_model.specs.Refused.{refusal_number}
+use Rattle.question_model.specs.declared.fault_kind.FaultKind.{FaultKind}
+use Rattle.question_model.specs.declared.found.RefusedCount.{RefusedCount}
+use Rattle.question_model.specs.declared.found.ShownKind.{ShownKind}
+use Rattle.question_model.specs.declared.refusal.Refusal.{Refusal}
 use Rattle.workload_search.specs.Tallies.{reason_place, kind_place, told_first}
 use Rattle.workload_search.specs.Told.{IsToldReason, AreToldReasons, IsToldKindTally, AreToldKinds}
 use Rattle.workload_search.specs.declared.kinds.KindTally.{KindTally}

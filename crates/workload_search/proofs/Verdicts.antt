@@ -6,18 +6,18 @@ use Rattle.crash_model.specs.Checker.{Demands}
 use Rattle.crash_model.specs.Trace.{Tracing}
 use Rattle.crash_model.specs.declared.refusals.TraceFault.{TraceFault}
 use Rattle.crash_model.specs.declared.patches.Patch.{Patch}
-use Rattle.search_model.specs.Refused.{refusal_of}
-use Rattle.search_model.specs.Workloads.{Search, ShowsKind, HasPatches}
-use Rattle.search_model.specs.Workloads.{Fails, HasKind}
-use Rattle.search_model.specs.declared.fault_kind.FaultKind.{FaultKind}
-use Rattle.search_model.specs.declared.fault_kind.FaultKind.TheVariants as kind
-use Rattle.search_model.specs.declared.refusal.Refusal.{Refusal}
-use Rattle.search_model.specs.declared.refusal.Refusal.TheVariants as refused
-use Rattle.search_model.specs.Verdict.{IsVerdict, IsRefusal, IsAccepted, IsFirstOfKind}
+use Rattle.question_model.specs.Refused.{refusal_of}
+use Rattle.question_model.specs.Workloads.{Search, ShowsKind, HasPatches}
+use Rattle.question_model.specs.Workloads.{Fails, HasKind}
+use Rattle.question_model.specs.declared.fault_kind.FaultKind.{FaultKind}
+use Rattle.question_model.specs.declared.fault_kind.FaultKind.TheVariants as kind
+use Rattle.question_model.specs.declared.refusal.Refusal.{Refusal}
+use Rattle.question_model.specs.declared.refusal.Refusal.TheVariants as refused
+use Rattle.question_model.specs.Verdict.{IsVerdict, IsRefusal, IsAccepted, IsFirstOfKind}
 use Rattle.workload_search.specs.Tallies.{is_accepted, is_passing, is_failing, is_refused_at, shows_at}
 use Rattle.workload_search.specs.Tallies.{reason_place, kind_place}
-use Rattle.search_model.specs.declared.verdict.Verdict.{Verdict}
-use Rattle.search_model.specs.declared.verdict.Verdict.TheVariants as verdict
+use Rattle.question_model.specs.declared.verdict.Verdict.{Verdict}
+use Rattle.question_model.specs.declared.verdict.Verdict.TheVariants as verdict
 use Rattle.workload_search.proofs.Accepted.{not_both}
 use Rattle.workload_search.proofs.Sequences.{IsTriedSequence, tried_workload}
 

@@ -2,12 +2,12 @@
 use Rattle.std.specs.Prelude.{◌≡◌, ℕ, ◌+◌, ◌-◌, ◌<◌, ◌^◌, ◌==◌, List, [], ◌∷◌, length, Bool, true, false, Option, Some}
 use Rattle.std.specs.Prelude.{None, is_some, slice_index, slice_index_or}
 use Rattle.std.specs.List.{count_by}
-use Rattle.search_model.specs.Kinds.{kind_number}
-use Rattle.search_model.specs.Refused.{refusal_number}
-use Rattle.search_model.specs.declared.fault_kind.FaultKind.{FaultKind}
-use Rattle.search_model.specs.declared.refusal.Refusal.{Refusal}
-use Rattle.search_model.specs.declared.verdict.Verdict.{Verdict}
-use Rattle.search_model.specs.declared.verdict.Verdict.TheVariants as verdict
+use Rattle.question_model.specs.Kinds.{kind_number}
+use Rattle.question_model.specs.Refused.{refusal_number}
+use Rattle.question_model.specs.declared.fault_kind.FaultKind.{FaultKind}
+use Rattle.question_model.specs.declared.refusal.Refusal.{Refusal}
+use Rattle.question_model.specs.declared.verdict.Verdict.{Verdict}
+use Rattle.question_model.specs.declared.verdict.Verdict.TheVariants as verdict
 use Rattle.workload_search.specs.declared.kinds.First.{First}
 use Rattle.workload_search.specs.declared.kinds.KindTally.{KindTally}
 use Rattle.workload_search.specs.declared.tally.Tally.{Tally}

@@ -1,13 +1,13 @@
 -- From what is counted to what is found.
 use Rattle.std.specs.Prelude.{◌≡◌, ℕ, ◌<◌, ◌≤◌, List, map, Some, slice_index, slice_index_or}
 use Rattle.std.specs.List.{All, AllPairs, Contains}
-use Rattle.search_model.specs.Kinds.{kind_number}
-use Rattle.search_model.specs.Refused.{refusal_number}
-use Rattle.search_model.specs.declared.fault_kind.FaultKind.{FaultKind}
-use Rattle.search_model.specs.declared.found.Found.{Found}
-use Rattle.search_model.specs.declared.found.RefusedCount.{RefusedCount}
-use Rattle.search_model.specs.declared.found.ShownKind.{ShownKind}
-use Rattle.search_model.specs.declared.refusal.Refusal.{Refusal}
+use Rattle.question_model.specs.Kinds.{kind_number}
+use Rattle.question_model.specs.Refused.{refusal_number}
+use Rattle.question_model.specs.declared.fault_kind.FaultKind.{FaultKind}
+use Rattle.question_model.specs.declared.found.Found.{Found}
+use Rattle.question_model.specs.declared.found.RefusedCount.{RefusedCount}
+use Rattle.question_model.specs.declared.found.ShownKind.{ShownKind}
+use Rattle.question_model.specs.declared.refusal.Refusal.{Refusal}
 use Rattle.workload_search.specs.Tallies.{reason_place, kind_place, told_first}
 use Rattle.workload_search.specs.declared.kinds.KindTally.{KindTally}
 use Rattle.workload_search.specs.declared.tally.Tally.{Tally}

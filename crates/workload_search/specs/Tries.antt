@@ -4,8 +4,8 @@ use Rattle.std.specs.Prelude.{IfOk, slice_index_or}
 use Rattle.std.specs.Fork.{slice_chunk}
 use Rattle.std.specs.List.{All, filter, flat_map, range_with_len}
 use Rattle.arrayvec.specs.ArrayVec.{ArrayVec}
-use Rattle.search_model.specs.Workloads.{Search}
-use Rattle.search_model.specs.Verdict.{IsAccepted, IsVerdict}
+use Rattle.question_model.specs.Workloads.{Search}
+use Rattle.question_model.specs.Verdict.{IsAccepted, IsVerdict}
 use Rattle.workload_search.specs.Tallies.{Tried, IsTally, is_passing}
 use Rattle.workload_search.specs.declared.batch.Batch.{Batch}
 

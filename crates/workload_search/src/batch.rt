@@ -1,10 +1,10 @@
 //! What is found of sequences that are tried one after another.
 ghost use Rattle.std.specs.Prelude.{◌++◌, List, ℕ, Bool, [], IfOk, OnOk};
-ghost use Rattle.search_model.specs.Workloads.{Search};
+ghost use Rattle.question_model.specs.Workloads.{Search};
 ghost use Rattle.workload_search.specs.Tries.{IsBatch, HaveRoomFor};
 
 use crate::tally::Tally;
-use search_model::Places;
+use question_model::Places;
 use std::alloc::{AllocError, Allocator};
 
 /// What is counted of the sequences, and those of them that pass, in order, if they will be made longer.

@@ -4,7 +4,7 @@ ghost use Rattle.workload_search.specs.Tallies.{AreNoKinds, AreKindsAdded, AreKi
 ghost use Rattle.workload_search.specs.Tallies.{KindsHaveRoomFor, AreCountsJoined};
 
 use crate::kinds::KindTally;
-use search_model::{KINDS, Places, REFUSALS};
+use question_model::{KINDS, Places, REFUSALS};
 use std::alloc::{AllocError, Allocator};
 
 /// For each kind that no workload shows it.

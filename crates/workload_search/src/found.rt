@@ -7,7 +7,7 @@ use crate::kinds::KindTally;
 use crate::places::copied;
 use crate::tally::Tally;
 use arrayvec::ArrayVec;
-use search_model::{FaultKind, Found, KINDS, REFUSALS, Refusal, RefusedCount, ShownKind};
+use question_model::{FaultKind, Found, KINDS, REFUSALS, Refusal, RefusedCount, ShownKind};
 use std::alloc::Allocator;
 
 impl<A: Allocator> Tally<A> {

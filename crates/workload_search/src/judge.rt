@@ -1,10 +1,10 @@
 //! Judging sequences of operations.
 ghost use Rattle.std.specs.Prelude.{ℕ, List, ◌<◌, ◌++◌, ◌∷◌, [], length, IfOk};
 ghost use Rattle.std.specs.List.{All};
-ghost use Rattle.search_model.specs.Workloads.{Search};
-ghost use Rattle.search_model.specs.Verdict.{IsAccepted, IsVerdict};
+ghost use Rattle.question_model.specs.Workloads.{Search};
+ghost use Rattle.question_model.specs.Verdict.{IsAccepted, IsVerdict};
 
-use search_model::{Places, Verdict};
+use question_model::{Places, Verdict};
 use std::alloc::AllocError;
 
 /// Judges the sequences of a search.

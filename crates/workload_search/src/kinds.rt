@@ -3,7 +3,7 @@ ghost use Rattle.std.specs.Prelude.{◌≡◌, ◌+◌, ◌<◌, ◌^◌, Some};
 ghost use Rattle.workload_search.specs.Tallies.{told_first, or_else};
 
 use crate::places::copied;
-use search_model::Places;
+use question_model::Places;
 
 /// The first workload that shows a kind of fault, and its first failing set that has such a fault.
 #[derive(Drop)]

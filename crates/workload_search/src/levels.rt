@@ -6,7 +6,7 @@ ghost use Rattle.workload_search.specs.Tries.{IsBatch, IsExtendable, ArePartsOf,
 use crate::batch::Batch;
 use crate::judge::Judge;
 use crate::trying::Trying;
-use search_model::Places;
+use question_model::Places;
 use set_sweep::Watch;
 use std::alloc::{AllocError, Allocator};
 use std::thread::Threads;

@@ -1,6 +1,6 @@
 //! The search that keeps the workloads that do not fail.
 ghost use Rattle.std.specs.Prelude.{◌≡◌, ◌<◌, ◌≤◌, ◌^◌, length, map, IfOk};
-ghost use Rattle.search_model.specs.Found.{AreFound};
+ghost use Rattle.question_model.specs.Found.{AreFound};
 ghost use Rattle.workload_search.specs.Passing.{AreAllPassing};
 ghost use Rattle.workload_search.specs.Tries.{items_of};
 
@@ -8,7 +8,7 @@ use crate::judge::Judge;
 use crate::searching::empty_beginning;
 use crate::tally::Tally;
 use crate::trying::Trying;
-use search_model::{Found, Places};
+use question_model::{Found, Places};
 use set_sweep::{Watch, Workers};
 use std::alloc::{AllocError, Allocator};
 use std::thread::Threads;

@@ -1,7 +1,7 @@
 //! Lists of places in a pool.
 ghost use Rattle.std.specs.Prelude.{◌≡◌, ◌<◌, ◌∷◌, ◌++◌, [], length};
 
-use search_model::Places;
+use question_model::Places;
 
 /// The same places.
 pub fn copied(places: &Places) -> Places

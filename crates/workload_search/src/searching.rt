@@ -1,13 +1,13 @@
 //! The search.
 ghost use Rattle.std.specs.Prelude.{◌≡◌, ◌<◌, ◌≤◌, ◌^◌, [], ◌∷◌, length, map, IfOk};
-ghost use Rattle.search_model.specs.Found.{AreFound};
+ghost use Rattle.question_model.specs.Found.{AreFound};
 ghost use Rattle.workload_search.specs.Tries.{items_of};
 
 use crate::batch::Batch;
 use crate::judge::Judge;
 use crate::tally::Tally;
 use crate::trying::Trying;
-use search_model::{Found, Places};
+use question_model::{Found, Places};
 use set_sweep::{Watch, Workers};
 use std::alloc::{AllocError, Allocator};
 use std::thread::Threads;

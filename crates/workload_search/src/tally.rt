@@ -4,7 +4,7 @@ ghost use Rattle.workload_search.specs.Tallies.{Tried, tried_as, IsTally, HasRoo
 
 use crate::counts::{add_kinds, join_counts, join_kinds, no_kinds};
 use crate::kinds::KindTally;
-use search_model::{Places, REFUSALS, Refusal, Verdict};
+use question_model::{Places, REFUSALS, Refusal, Verdict};
 use std::alloc::{AllocError, Allocator};
 
 /// How many sequences are workloads, how many fail, and how many are refused for each reason, in the order of their

@@ -8,7 +8,7 @@ ghost use Rattle.workload_search.specs.Tries.{items_of};
 use crate::batch::Batch;
 use crate::judge::Judge;
 use crate::places::extended;
-use search_model::{Places, Verdict};
+use question_model::{Places, Verdict};
 use set_sweep::Watch;
 use std::alloc::{AllocError, Allocator};
 

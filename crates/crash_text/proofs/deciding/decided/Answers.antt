@@ -3,8 +3,8 @@ use Rattle.report_model.specs.Answer.{detail_of}
 use Rattle.crash_model.specs.Patches.{CountsClosed}
 use Rattle.report_model.specs.Report.{AreSections}
 use Rattle.crash_model.specs.FaultRows.{HasFault}
-use Rattle.decision_model.specs.Decided.{AreDecided}
-use Rattle.decision_model.specs.Decision.{IsDecision}
+use Rattle.question_model.specs.Decided.{AreDecided}
+use Rattle.question_model.specs.Decision.{IsDecision}
 use Rattle.report_sections.specs.Bodies.{AreClosed}
 use Rattle.crash_text.proofs.Decisions.{decided_closed, is_decision}
 use Rattle.crash_text.proofs.Safe.{none_decided}

@@ -6,8 +6,8 @@ use Rattle.report_model.specs.Answer.{detail_of}
 use Rattle.crash_model.specs.Lists.{when}
 use Rattle.crash_model.specs.Patches.{CountsClosed, deps_of}
 use Rattle.crash_model.specs.Checker.{IsFailingUnder}
-use Rattle.enough_model.specs.Enough.{AreEnough, rules_but}
-use Rattle.enough_model.specs.EnoughReport.{IsToldAny, rules_report_bytes}
+use Rattle.question_model.specs.Enough.{AreEnough, rules_but}
+use Rattle.question_model.specs.EnoughReport.{IsToldAny, rules_report_bytes}
 use Rattle.enough_deciding.specs.Rules.{IsTracingOf, tracing_of}
 use Rattle.enough_deciding.proofs.Tracings.{one_tracing}
 use Rattle.enough_report.specs.Found.{told_first, told_group}

@@ -6,7 +6,7 @@ use Rattle.crash_model.specs.Refusals.{run_of_script}
 use Rattle.crash_model.specs.Script.{IsAct}
 use Rattle.crash_model.specs.declared.refusals.RunFault.TheVariants.{OutOfMemory}
 use Rattle.crash_model.specs.declared.steps.Step.{Step}
-use Rattle.questions.specs.Answers.{IsAnswerTo}
+use Rattle.question_model.specs.Answers.{IsAnswerTo}
 use Rattle.crash_text.specs.BaseRefusal.{IsBaseRefusal}
 use Rattle.crash_text.specs.Searching.{IsNoPool, IsSearchOf}
 use Rattle.crash_text.specs.SearchingRules.{IsRuleSearchOf}

@@ -3,7 +3,7 @@ use Rattle.std.specs.Prelude.{All}
 use Rattle.std.proofs.lemmas.List.{take_all}
 use Rattle.crash_model.specs.declared.refusals.RunFault.TheVariants.{GroupFault}
 use Rattle.crash_model.specs.declared.steps.Step.{Step}
-use Rattle.search_model.specs.Workloads.{IsOperation}
+use Rattle.question_model.specs.Workloads.{IsOperation}
 use Rattle.crash_text.proofs.Pools.{operation_more, no_pool}
 use Rattle.crash_text.proofs.searching.check_operations.Goals as goal
 

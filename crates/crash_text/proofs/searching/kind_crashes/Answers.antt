@@ -1,4 +1,4 @@
-use Rattle.search_model.specs.SearchReport.{IsToldKind}
+use Rattle.question_model.specs.SearchReport.{IsToldKind}
 use Rattle.pool_judging.specs.Judging.{search_by}
 use Rattle.report_sections.specs.Sections.{section_of}
 use Rattle.search_report.specs.Findings.{told_kind}

@@ -1,7 +1,7 @@
 use Rattle.std.proofs.Common.{List, length, map, ap, ◌∙◌}
 use Rattle.std.specs.Prelude.{◌==◌}
 use Rattle.std.proofs.lemmas.List.Elements.{All-map}
-use Rattle.search_model.specs.SearchReport.{IsToldKind, search_bytes}
+use Rattle.question_model.specs.SearchReport.{IsToldKind, search_bytes}
 use Rattle.pool_judging.specs.Judging.{search_by}
 use Rattle.search_report.specs.Findings.{told_kind}
 use Rattle.search_report.specs.declared.findings.KindCrash.{KindCrash}

@@ -1,8 +1,8 @@
 use Rattle.std.proofs.Common.{ℕ, List, length, map, ap₂, ◌∙◌, subst, sym}
 use Rattle.std.specs.Prelude.{All, ◌==◌}
 use Rattle.patch_sets.specs.Sets.{AreAllInOrder}
-use Rattle.search_rules_model.specs.EnoughFor.{IsNeededInSearch}
-use Rattle.search_rules_model.specs.SearchRulesReport.{search_rules_bytes}
+use Rattle.question_model.specs.EnoughFor.{IsNeededInSearch}
+use Rattle.question_model.specs.SearchRulesReport.{search_rules_bytes}
 use Rattle.search_rules_report.specs.Findings.{told_need}
 use Rattle.search_rules_report.specs.declared.findings.NeededWorkload.{NeededWorkload}
 use Rattle.pool_judging.specs.Judging.{search_by}

@@ -5,11 +5,11 @@ use Rattle.report_model.specs.Answer.{ordering_rules}
 use Rattle.crash_model.specs.Disk.{IsDisk}
 use Rattle.pool_judging.specs.Judging.{IsFullJournal}
 use Rattle.pool_judging.proofs.Full.{nothing_fails, none_failing}
-use Rattle.search_model.specs.Found.{AreFound}
-use Rattle.search_model.specs.Most.{number_of_most}
-use Rattle.search_model.specs.Workloads.{Search}
-use Rattle.search_rules_model.specs.EnoughFor.{IsMinimalInSearch, IsNeededInSearch}
-use Rattle.search_rules_model.specs.SearchRulesReport.{IsToldNeed, search_rules_bytes}
+use Rattle.question_model.specs.Found.{AreFound}
+use Rattle.question_model.specs.Most.{number_of_most}
+use Rattle.question_model.specs.Workloads.{Search}
+use Rattle.question_model.specs.EnoughFor.{IsMinimalInSearch, IsNeededInSearch}
+use Rattle.question_model.specs.SearchRulesReport.{IsToldNeed, search_rules_bytes}
 use Rattle.crash_text.proofs.PoolReports.{search_under, same_search}
 use Rattle.crash_text.proofs.Safe.{full_rules}
 use Rattle.crash_text.proofs.searching_rules.searched_for_rules.Goals as goal

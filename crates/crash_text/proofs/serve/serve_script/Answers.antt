@@ -3,7 +3,7 @@ use Rattle.std.specs.Prelude.{string_bytes}
 use Rattle.std.specs.Io.KnownBytes.{Appends}
 use Rattle.report_model.specs.Answer.{Reported}
 use Rattle.crash_model.specs.declared.refusals.RunFault.TheVariants.{CannotRead, CannotWrite, ScriptTooLong}
-use Rattle.questions.specs.Answers.{IsAnswerTo}
+use Rattle.question_model.specs.Answers.{IsAnswerTo}
 use Rattle.crash_text.specs.Served.{IsRefusedBy}
 use Rattle.crash_text.proofs.Serving.{not_of_device}
 use Rattle.crash_text.proofs.serve.serve_script.Goals as goal

@@ -1,6 +1,6 @@
 use Rattle.std.proofs.Common.{◌≡◌, ℕ, ◌++◌, string_bytes, ap, ◌∙◌}
 use Rattle.std.proofs.lemmas.Result.{on_ok_weaker}
-use Rattle.decision_model.specs.Decision.{decided_json}
+use Rattle.question_model.specs.Decision.{decided_json}
 use Rattle.report_sections.specs.Sections.{section_of}
 use Rattle.json_values.specs.Items.{crash_json}
 use Rattle.decision_report.proofs.Pieces.{fault_pieces}

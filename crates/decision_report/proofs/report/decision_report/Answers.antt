@@ -1,6 +1,6 @@
 use Rattle.std.proofs.Common.{string_bytes}
 use Rattle.std.proofs.lemmas.Result.{IfOk-weaker}
-use Rattle.decision_model.specs.Decision.{decision_bytes, json_decision, text_decision}
+use Rattle.question_model.specs.Decision.{decision_bytes, json_decision, text_decision}
 use Rattle.decision_report.specs.Written.{WritesDecision}
 use Rattle.decision_report.proofs.Pieces.{as_json, as_text}
 use Rattle.decision_report.proofs.report.decision_report.Goals as goal

@@ -1,6 +1,6 @@
 use Rattle.std.proofs.Common.{◌≡◌, length, take, string_bytes}
 use Rattle.std.specs.List.{flat_map}
-use Rattle.decision_model.specs.Decision.{decided_text}
+use Rattle.question_model.specs.Decision.{decided_text}
 use Rattle.decision_report.specs.Written.{WritesFaults}
 use Rattle.decision_report.proofs.text.write_each_fault.Given as goal
 

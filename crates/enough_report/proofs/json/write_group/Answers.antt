@@ -1,6 +1,6 @@
 use Rattle.std.proofs.Common.{◌≡◌, ◌++◌, ℕ, string_bytes, ap, ◌∙◌}
 use Rattle.std.proofs.lemmas.Result.{on_ok_weaker}
-use Rattle.enough_model.specs.EnoughReport.{group_json}
+use Rattle.question_model.specs.EnoughReport.{group_json}
 use Rattle.json_values.specs.Items.{leading_json}
 use Rattle.enough_report.specs.Found.{told_group}
 use Rattle.enough_report.proofs.Pieces.{group_pieces}

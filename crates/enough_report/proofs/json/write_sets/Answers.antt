@@ -1,5 +1,5 @@
 use Rattle.std.proofs.Common.{List, ℕ, ◌++◌, get_or, string_bytes, refl, ap, ◌∙◌}
-use Rattle.enough_model.specs.EnoughReport.{set_json}
+use Rattle.question_model.specs.EnoughReport.{set_json}
 use Rattle.json_values.proofs.Commas.{taken_more}
 use Rattle.enough_report.proofs.json.write_sets.Goals as goal
 

@@ -1,6 +1,6 @@
 use Rattle.std.proofs.Common.{◌≡◌, string_bytes, ◌∙◌}
 use Rattle.std.proofs.lemmas.Result.{IfOk-weaker}
-use Rattle.enough_model.specs.EnoughReport.{json_rules_report, rules_report_bytes, text_rules_report}
+use Rattle.question_model.specs.EnoughReport.{json_rules_report, rules_report_bytes, text_rules_report}
 use Rattle.enough_report.specs.Found.{report_of}
 use Rattle.enough_report.proofs.Pieces.{as_json, as_text}
 use Rattle.enough_report.proofs.report.enough_report.Goals as goal

@@ -1,6 +1,6 @@
 use Rattle.std.proofs.Common.{◌≡◌, ◌++◌, codes, string_bytes, take}
 use Rattle.std.specs.List.{flat_map}
-use Rattle.enough_model.specs.EnoughReport.{rules_text}
+use Rattle.question_model.specs.EnoughReport.{rules_text}
 use Rattle.enough_report.proofs.text.write_each_set.Given as goal
 
 abbrev pub invariant-loop-set : goal.invariant-loop-set

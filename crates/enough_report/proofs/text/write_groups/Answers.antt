@@ -1,5 +1,5 @@
 use Rattle.std.proofs.Common.{List, ℕ, ◌++◌, string_bytes, ap, ◌∙◌}
-use Rattle.enough_model.specs.EnoughReport.{group_text}
+use Rattle.question_model.specs.EnoughReport.{group_text}
 use Rattle.section_lines.proofs.Told.{item_told}
 use Rattle.enough_report.specs.Found.{told_group}
 use Rattle.enough_report.specs.declared.findings.NeededGroup.{NeededGroup}

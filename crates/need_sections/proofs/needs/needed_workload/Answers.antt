@@ -1,6 +1,6 @@
 use Rattle.std.proofs.Common.{refl, subst}
 use Rattle.std.specs.Prelude.{option_map}
-use Rattle.enough_model.specs.EnoughReport.{IsToldAny}
+use Rattle.question_model.specs.EnoughReport.{IsToldAny}
 use Rattle.enough_report.specs.Found.{told_first}
 use Rattle.pool_judging.specs.Judging.{search_by}
 use Rattle.need_sections.proofs.Told.{below, traced, patches_of, some_told, need_told}

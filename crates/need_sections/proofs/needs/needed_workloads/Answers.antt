@@ -1,5 +1,5 @@
 use Rattle.pool_judging.specs.Judging.{search_by}
-use Rattle.search_rules_model.specs.SearchRulesReport.{IsToldNeed}
+use Rattle.question_model.specs.SearchRulesReport.{IsToldNeed}
 use Rattle.need_sections.proofs.Needed.{group_more, told_more}
 use Rattle.need_sections.proofs.needs.needed_workloads.Goals as goal
 

@@ -1,6 +1,6 @@
 use Rattle.std.proofs.Common.{◌≡◌, All, map, take}
 use Rattle.pool_judging.specs.Judging.{search_by}
-use Rattle.search_rules_model.specs.SearchRulesReport.{IsToldNeed}
+use Rattle.question_model.specs.SearchRulesReport.{IsToldNeed}
 use Rattle.search_rules_report.specs.Findings.{told_need}
 use Rattle.need_sections.proofs.needs.needed_workloads.Given as goal
 

@@ -1,7 +1,7 @@
 use Rattle.std.proofs.Common.{subst}
 use Rattle.std.specs.Prelude.{option_map}
-use Rattle.enough_model.specs.Enough.{rules_but}
-use Rattle.enough_model.specs.EnoughReport.{IsToldAny}
+use Rattle.question_model.specs.Enough.{rules_but}
+use Rattle.question_model.specs.EnoughReport.{IsToldAny}
 use Rattle.enough_deciding.specs.Rules.{tracing_of}
 use Rattle.enough_deciding.proofs.Tracings.{one_tracing}
 use Rattle.enough_report.specs.Found.{told_first}

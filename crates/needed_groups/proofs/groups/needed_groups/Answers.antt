@@ -1,5 +1,5 @@
 use Rattle.std.proofs.Common.{refl}
-use Rattle.enough_model.specs.EnoughReport.{IsToldGroup}
+use Rattle.question_model.specs.EnoughReport.{IsToldGroup}
 use Rattle.needed_groups.specs.Sparing.{detail_with}
 use Rattle.needed_groups.proofs.Without.{group_more, told_more}
 use Rattle.needed_groups.proofs.groups.needed_groups.Goals as goal

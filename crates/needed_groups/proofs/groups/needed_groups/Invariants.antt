@@ -1,6 +1,6 @@
 use Rattle.std.proofs.Common.{◌≡◌, All, map, take}
 use Rattle.crash_model.specs.Trace.{Tracing}
-use Rattle.enough_model.specs.EnoughReport.{IsToldGroup}
+use Rattle.question_model.specs.EnoughReport.{IsToldGroup}
 use Rattle.enough_deciding.specs.Rules.{IsTracingOf}
 use Rattle.enough_report.specs.Found.{told_group}
 use Rattle.needed_groups.specs.Sparing.{detail_with}

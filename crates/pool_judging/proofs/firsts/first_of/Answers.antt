@@ -1,6 +1,6 @@
 use Rattle.std.proofs.Common.{rules, take, ◌+◌, sym, subst}
 use Rattle.crash_model.specs.declared.fault.Fault.TheVariants.{Dangling}
-use Rattle.decision_model.specs.declared.decided_fault.DecidedFault.{DecidedFault}
+use Rattle.question_model.specs.declared.decided_fault.DecidedFault.{DecidedFault}
 use Rattle.pool_judging.specs.Firsts.{IsLeastOfKind}
 use Rattle.pool_judging.proofs.Least.{least_more, least_other}
 use Rattle.pool_judging.proofs.firsts.first_of.Goals as goal

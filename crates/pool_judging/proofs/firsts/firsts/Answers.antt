@@ -1,8 +1,8 @@
 use Rattle.std.proofs.Common.{[], ◌∷◌, ◌-◌}
 use Rattle.std.specs.Prelude.{None, slice_index_or}
-use Rattle.search_model.specs.declared.fault_kind.FaultKind.TheVariants as kind
-use Rattle.search_model.specs.Kinds.{kind_number}
-use Rattle.search_model.specs.Verdict.{IsFirstOfKind}
+use Rattle.question_model.specs.declared.fault_kind.FaultKind.TheVariants as kind
+use Rattle.question_model.specs.Kinds.{kind_number}
+use Rattle.question_model.specs.Verdict.{IsFirstOfKind}
 use Rattle.pool_judging.proofs.Least.{least_is_first}
 use Rattle.pool_judging.proofs.firsts.firsts.Goals as goal
 

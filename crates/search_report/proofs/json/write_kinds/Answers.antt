@@ -1,5 +1,5 @@
 use Rattle.std.proofs.Common.{List, ℕ, ◌++◌, string_bytes, ap, ◌∙◌}
-use Rattle.search_model.specs.SearchReport.{kind_json}
+use Rattle.question_model.specs.SearchReport.{kind_json}
 use Rattle.json_values.proofs.Commas.{taken_more}
 use Rattle.search_report.specs.Findings.{told_kind}
 use Rattle.search_report.specs.declared.findings.KindCrash.{KindCrash}

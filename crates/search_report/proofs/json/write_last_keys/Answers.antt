@@ -1,7 +1,7 @@
 use Rattle.std.proofs.Common.{◌++◌, List, map, string_bytes, ap, ◌∙◌}
 use Rattle.crash_model.specs.Lists.{join_of}
-use Rattle.search_model.specs.SearchReport.{refused_json}
-use Rattle.search_model.specs.declared.found.RefusedCount.{RefusedCount}
+use Rattle.question_model.specs.SearchReport.{refused_json}
+use Rattle.question_model.specs.declared.found.RefusedCount.{RefusedCount}
 use Rattle.search_report.proofs.JsonPieces.{last_pieces}
 use Rattle.search_report.proofs.json.write_last_keys.Goals as goal
 

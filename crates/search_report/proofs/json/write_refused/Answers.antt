@@ -1,8 +1,8 @@
 use Rattle.std.proofs.Common.{List, ℕ, ◌++◌, get_or, string_bytes, refl, ap, ◌∙◌}
 use Rattle.json_values.proofs.Commas.{taken_more}
-use Rattle.search_model.specs.SearchReport.{refused_json}
-use Rattle.search_model.specs.declared.found.RefusedCount.{RefusedCount}
-use Rattle.search_model.specs.declared.refusal.Refusal.TheVariants.{TooManyPatches}
+use Rattle.question_model.specs.SearchReport.{refused_json}
+use Rattle.question_model.specs.declared.found.RefusedCount.{RefusedCount}
+use Rattle.question_model.specs.declared.refusal.Refusal.TheVariants.{TooManyPatches}
 use Rattle.search_report.proofs.json.write_refused.Goals as goal
 
 -- what is written if there is no reason

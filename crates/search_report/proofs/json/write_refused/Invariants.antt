@@ -1,6 +1,6 @@
 use Rattle.std.proofs.Common.{◌≡◌, ◌++◌, map, string_bytes, take}
 use Rattle.crash_model.specs.Lists.{join_of}
-use Rattle.search_model.specs.SearchReport.{refused_json}
+use Rattle.question_model.specs.SearchReport.{refused_json}
 use Rattle.search_report.proofs.json.write_refused.Given as goal
 
 abbrev pub invariant-loop-at : goal.invariant-loop-at

@@ -2,7 +2,7 @@ use denote.Ref.{Bor}
 use Rattle.std.proofs.Common.{◌++◌, List, ℕ, map, string_bytes, ap, ◌∙◌}
 use Rattle.crash_model.specs.Lists.{join_of}
 use Rattle.crash_model.specs.declared.operations.Op.{Op}
-use Rattle.search_model.specs.Workloads.{steps_at}
+use Rattle.question_model.specs.Workloads.{steps_at}
 use Rattle.search_report.proofs.Acts.{items_of_acts}
 use Rattle.search_report.proofs.Lent.{act_json, asked}
 use Rattle.search_report.proofs.json.write_steps.Goals as goal

@@ -1,6 +1,6 @@
 use Rattle.std.proofs.Common.{◌≡◌, length, string_bytes, ◌∙◌}
 use Rattle.std.proofs.lemmas.Result.{IfOk-weaker}
-use Rattle.search_model.specs.SearchReport.{json_search, search_bytes, text_search}
+use Rattle.question_model.specs.SearchReport.{json_search, search_bytes, text_search}
 use Rattle.search_report.specs.Findings.{told_kinds}
 use Rattle.search_report.proofs.Forms.{as_json, as_text}
 use Rattle.search_report.proofs.report.search_report.Goals as goal

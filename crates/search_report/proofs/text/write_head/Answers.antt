@@ -1,7 +1,7 @@
 use Rattle.std.proofs.Common.{◌++◌, List, string_bytes, ap, ◌∙◌}
 use Rattle.std.specs.List.{flat_map}
-use Rattle.search_model.specs.SearchReport.{refused_text}
-use Rattle.search_model.specs.declared.found.RefusedCount.{RefusedCount}
+use Rattle.question_model.specs.SearchReport.{refused_text}
+use Rattle.question_model.specs.declared.found.RefusedCount.{RefusedCount}
 use Rattle.search_report.proofs.TextPieces.{head_pieces}
 use Rattle.search_report.proofs.text.write_head.Goals as goal
 

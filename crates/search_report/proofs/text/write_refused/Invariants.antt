@@ -1,6 +1,6 @@
 use Rattle.std.proofs.Common.{◌≡◌, ◌++◌, string_bytes, take}
 use Rattle.std.specs.List.{flat_map}
-use Rattle.search_model.specs.SearchReport.{refused_text}
+use Rattle.question_model.specs.SearchReport.{refused_text}
 use Rattle.search_report.proofs.text.write_refused.Given as goal
 
 abbrev pub invariant-loop-refusal : goal.invariant-loop-refusal

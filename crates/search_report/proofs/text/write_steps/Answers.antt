@@ -2,7 +2,7 @@ use denote.Ref.{Bor}
 use Rattle.std.proofs.Common.{◌++◌, List, ℕ, string_bytes, ap, ◌∙◌}
 use Rattle.std.specs.List.{flat_map}
 use Rattle.crash_model.specs.declared.operations.Op.{Op}
-use Rattle.search_model.specs.Workloads.{steps_at}
+use Rattle.question_model.specs.Workloads.{steps_at}
 use Rattle.search_report.proofs.Acts.{lines_of_acts}
 use Rattle.search_report.proofs.Lent.{act_line, asked}
 use Rattle.search_report.proofs.text.write_steps.Goals as goal

@@ -2,8 +2,8 @@ use Rattle.std.proofs.Common.{◌++◌, List, ℕ, map, string_bytes, ap, ◌∙
 use Rattle.crash_model.specs.Lists.{join_of}
 use Rattle.report_model.specs.Report.{json_string, write_json}
 use Rattle.patch_sets.specs.declared.write.BlockWrite.{BlockWrite}
-use Rattle.search_model.specs.SearchReport.{step_text}
-use Rattle.search_model.specs.Workloads.{steps_at}
+use Rattle.question_model.specs.SearchReport.{step_text}
+use Rattle.question_model.specs.Workloads.{steps_at}
 use Rattle.search_rules_report.proofs.JsonPieces.{need_pieces}
 use Rattle.search_rules_report.proofs.json.write_need.Goals as goal
 

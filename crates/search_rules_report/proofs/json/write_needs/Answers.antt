@@ -1,6 +1,6 @@
 use Rattle.std.proofs.Common.{List, ℕ, ◌++◌, string_bytes, ap, ◌∙◌}
 use Rattle.json_values.proofs.Commas.{taken_more}
-use Rattle.search_rules_model.specs.SearchRulesReport.{need_json}
+use Rattle.question_model.specs.SearchRulesReport.{need_json}
 use Rattle.search_rules_report.specs.Findings.{told_need}
 use Rattle.search_rules_report.specs.declared.findings.NeededWorkload.{NeededWorkload}
 use Rattle.search_rules_report.proofs.json.write_needs.Goals as goal

@@ -1,8 +1,8 @@
 use Rattle.std.proofs.Common.{◌++◌, List, ℕ, codes, string_bytes, ap, ◌∙◌}
 use Rattle.std.specs.List.{flat_map}
 use Rattle.report_model.specs.Report.{line}
-use Rattle.search_model.specs.SearchReport.{step_text}
-use Rattle.search_model.specs.Workloads.{steps_at}
+use Rattle.question_model.specs.SearchReport.{step_text}
+use Rattle.question_model.specs.Workloads.{steps_at}
 use Rattle.search_rules_report.specs.Findings.{told_need}
 use Rattle.search_rules_report.proofs.TextPieces.{need_pieces}
 use Rattle.search_rules_report.proofs.text.write_need.Goals as goal

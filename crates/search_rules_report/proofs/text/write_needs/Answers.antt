@@ -1,5 +1,5 @@
 use Rattle.std.proofs.Common.{List, ℕ, ◌++◌, string_bytes, ap, ◌∙◌}
-use Rattle.search_rules_model.specs.SearchRulesReport.{need_text}
+use Rattle.question_model.specs.SearchRulesReport.{need_text}
 use Rattle.section_lines.proofs.Told.{item_told}
 use Rattle.search_rules_report.specs.Findings.{told_need}
 use Rattle.search_rules_report.specs.declared.findings.NeededWorkload.{NeededWorkload}

@@ -6,8 +6,8 @@ use Rattle.std.proofs.lemmas.List.Elements.{All-contains}
 use Rattle.arrayvec.specs.ArrayVec.{ArrayVec}
 use Rattle.enough_rules.specs.Asked.{IsFound}
 use Rattle.chosen_rules.specs.Sublists.{all_of}
-use Rattle.search_model.specs.Workloads.{Search}
-use Rattle.search_rules_model.specs.EnoughFor.{IsPassing}
+use Rattle.question_model.specs.Workloads.{Search}
+use Rattle.question_model.specs.EnoughFor.{IsPassing}
 use Rattle.workload_search.specs.Tries.{items_of}
 use Rattle.workload_rules.specs.Asked.{IsEnoughAt}
 use Rattle.workload_rules.proofs.Items.{item_at}

@@ -1,9 +1,9 @@
 use Rattle.std.proofs.Common.{◌≡◌, ℕ, List, [], map, true, false, arith, sym, subst, ◌∙◌}
 use Rattle.std.proofs.lemmas.List.{length-map}
-use Rattle.enough_model.specs.Enough.{rules_but}
-use Rattle.search_model.specs.Sequences.{IsFirstSequence}
-use Rattle.search_model.specs.Workloads.{Search, Fails}
-use Rattle.search_rules_model.specs.EnoughFor.{IsPassing, FailsBy, search_with}
+use Rattle.question_model.specs.Enough.{rules_but}
+use Rattle.question_model.specs.Sequences.{IsFirstSequence}
+use Rattle.question_model.specs.Workloads.{Search, Fails}
+use Rattle.question_model.specs.EnoughFor.{IsPassing, FailsBy, search_with}
 use Rattle.workload_search.specs.Tries.{items_of}
 use Rattle.workload_search.proofs.Lists.{in_map}
 use Rattle.workload_rules.proofs.Earliest.{first_of_all}

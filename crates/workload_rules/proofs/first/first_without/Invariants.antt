@@ -1,7 +1,7 @@
 use Rattle.std.proofs.Common.{ℕ, ◌<◌, List, map, get_or}
-use Rattle.enough_model.specs.Enough.{rules_but}
-use Rattle.search_model.specs.Workloads.{Fails}
-use Rattle.search_rules_model.specs.EnoughFor.{search_with}
+use Rattle.question_model.specs.Enough.{rules_but}
+use Rattle.question_model.specs.Workloads.{Fails}
+use Rattle.question_model.specs.EnoughFor.{search_with}
 use Rattle.workload_search.specs.Tries.{items_of}
 use Rattle.workload_rules.proofs.first.first_without.Given as goal
 

@@ -5,7 +5,7 @@ use Rattle.hitting_sets.proofs.Twice.{in_order_alike}
 use Rattle.hitting_sets.specs.Hitting.{Hits}
 use Rattle.enough_rules.specs.Enough.{AreEnoughSets, IsMinimalEnough, IsNeeded}
 use Rattle.chosen_rules.specs.Sublists.{all_of}
-use Rattle.search_rules_model.specs.EnoughFor.{IsMinimalInSearch, IsNeededInSearch}
+use Rattle.question_model.specs.EnoughFor.{IsMinimalInSearch, IsNeededInSearch}
 use Rattle.workload_search.specs.Tries.{items_of}
 use Rattle.workload_rules.specs.Asked.{IsEnoughInSearch}
 use Rattle.workload_rules.proofs.Alike.{minimal_same, needed_same}

@@ -1,5 +1,5 @@
 use Rattle.std.proofs.Common.{arith, refl, subst, sym, slice_index}
-use Rattle.search_model.specs.declared.found.RefusedCount.{RefusedCount}
+use Rattle.question_model.specs.declared.found.RefusedCount.{RefusedCount}
 use Rattle.workload_search.proofs.Telling.{AreToldReasonsBelow, no_reasons, reason_pushed, reason_passed, all_reasons}
 use Rattle.workload_search.proofs.found.refused.Goals as goal
 use Rattle.workload_search.proofs.found.refused.Goals.{then-counts-i-gt0, else-counts-i-gt0}

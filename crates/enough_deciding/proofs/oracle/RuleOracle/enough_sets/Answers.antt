@@ -1,5 +1,5 @@
 use Rattle.hitting_sets.proofs.Twice.{in_order_alike}
-use Rattle.enough_model.specs.Enough as model
+use Rattle.question_model.specs.Enough as model
 use Rattle.enough_rules.specs.Enough.{IsMinimalEnough, IsNeeded}
 use Rattle.chosen_rules.specs.Sublists.{EnoughOf, all_of}
 use Rattle.chosen_rules.proofs.Alike.{minimal_same, needed_same}

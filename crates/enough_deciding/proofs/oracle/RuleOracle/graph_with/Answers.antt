@@ -1,7 +1,7 @@
 use Rattle.std.proofs.Common.{◌≡◌, List, subst, sym, ap, ◌∙◌}
 use Rattle.crash_model.specs.declared.rules.Rule.{Rule}
 use Rattle.crash_model.specs.Trace.{IsGraphOf}
-use Rattle.enough_model.specs.Enough.{rules_in}
+use Rattle.question_model.specs.Enough.{rules_in}
 use Rattle.enough_deciding.proofs.oracle.RuleOracle.graph_with.Goals as goal
 
 pub returns-clause-graph : goal.returns-clause-graph

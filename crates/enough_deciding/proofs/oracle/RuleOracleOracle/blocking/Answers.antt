@@ -1,5 +1,5 @@
 use Rattle.fault_deciding.proofs.Firsts.{some_fault}
-use Rattle.enough_model.specs.Enough.{rules_in}
+use Rattle.question_model.specs.Enough.{rules_in}
 use Rattle.chosen_rules.specs.Sublists.{all_of}
 use Rattle.chosen_rules.proofs.Oracles.{all_places, group_found}
 use Rattle.std.proofs.Common.{subst}

@@ -1,7 +1,7 @@
 use Rattle.std.proofs.Common.{List, refl, subst, ◌∙◌}
 use Rattle.std.proofs.lemmas.List.Sorted.{IsPermutation-refl}
 use Rattle.std.proofs.lemmas.Result.{IfOk-weaker}
-use Rattle.decision_model.specs.Decided.{AreDecided}
+use Rattle.question_model.specs.Decided.{AreDecided}
 use Rattle.known_bytes.specs.Chains.{Change}
 use Rattle.fault_deciding.specs.declared.sharing.Trial.{Trial}
 use Rattle.fault_deciding.specs.Asked.{HasFaultOf}

@@ -1,6 +1,6 @@
 use Rattle.std.proofs.Common.{◌<◌, List, ℕ, length, refl, subst, sym}
 use Rattle.std.specs.List.{All}
-use Rattle.search_model.specs.Verdict.{IsAccepted}
+use Rattle.question_model.specs.Verdict.{IsAccepted}
 use Rattle.pool_judging.specs.Judging.{search_by}
 use Rattle.pool_judging.proofs.Beginnings.{next_accepted, trace_taken, demands_taken}
 use Rattle.pool_judging.proofs.judge.PoolJudge.begun.Goals as goal

@@ -5,7 +5,7 @@ use Rattle.std.proofs.lemmas.Result.{IfOk-weaker}
 use Rattle.std.proofs.Math.Logic.{∥∥₁_elim}
 use Rattle.crash_model.specs.declared.patches.Patch.{Patch}
 use Rattle.full_journal_laws.proofs.Safe.{traced_is_safe}
-use Rattle.search_model.specs.Workloads.{steps_at}
+use Rattle.question_model.specs.Workloads.{steps_at}
 use Rattle.pool_judging.specs.Judging.{search_by, IsVerdictOn}
 use Rattle.pool_judging.proofs.Beginnings.{graph_at, fits_at, patches_of}
 use Rattle.pool_judging.proofs.Verdicts.{verdict_on, never_fails, no_failure_prop}

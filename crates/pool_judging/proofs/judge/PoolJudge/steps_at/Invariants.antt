@@ -1,5 +1,5 @@
 use Rattle.std.proofs.Common.{◌≡◌, take}
-use Rattle.search_model.specs.Workloads.{steps_at}
+use Rattle.question_model.specs.Workloads.{steps_at}
 use Rattle.pool_judging.proofs.judge.PoolJudge.steps_at.Given as goal
 
 abbrev pub invariant-loop-place : goal.invariant-loop-place

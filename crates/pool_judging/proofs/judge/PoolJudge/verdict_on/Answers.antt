@@ -1,7 +1,7 @@
 use Rattle.std.proofs.Common.{◌++◌, ◌∷◌, [], refl, arith, sym, subst, ◌∙◌}
 use Rattle.std.proofs.Math.Logic.{∥∥₁_elim}
 use Rattle.crash_model.specs.Trace.{trace_start}
-use Rattle.search_model.specs.Workloads.{IsOperation, steps_at}
+use Rattle.question_model.specs.Workloads.{IsOperation, steps_at}
 use Rattle.pool_judging.specs.Beginnings.{AreDemandsAt}
 use Rattle.pool_judging.specs.Judging.{search_by}
 use Rattle.pool_judging.proofs.Beginnings.{trace_one, trace_longer, demands_longer, longer_among}

@@ -18,14 +18,14 @@ use Rattle.crash_model.specs.declared.refusals.RunFault.{RunFault}
 use Rattle.crash_model.specs.declared.refusals.RunFault.TheVariants.{GroupFault}
 use Rattle.crash_model.specs.declared.settings.Settings.{Settings}
 use Rattle.crash_model.specs.declared.steps.Step.{Step}
-use Rattle.decision_model.specs.Decision.{ordering_text}
-use Rattle.search_model.specs.Kinds.{kind_number, kind_name}
-use Rattle.search_model.specs.Refused.{refusal_number, refusal_text}
-use Rattle.search_model.specs.Found.{AreFound}
-use Rattle.search_model.specs.Workloads.{Search, steps_at, IsOperation, HasPatches}
-use Rattle.search_model.specs.declared.found.Found.{Found}
-use Rattle.search_model.specs.declared.found.RefusedCount.{RefusedCount}
-use Rattle.search_model.specs.declared.found.ShownKind.{ShownKind}
+use Rattle.question_model.specs.Decision.{ordering_text}
+use Rattle.question_model.specs.Kinds.{kind_number, kind_name}
+use Rattle.question_model.specs.Refused.{refusal_number, refusal_text}
+use Rattle.question_model.specs.Found.{AreFound}
+use Rattle.question_model.specs.Workloads.{Search, steps_at, IsOperation, HasPatches}
+use Rattle.question_model.specs.declared.found.Found.{Found}
+use Rattle.question_model.specs.declared.found.RefusedCount.{RefusedCount}
+use Rattle.question_model.specs.declared.found.ShownKind.{ShownKind}
 
 -- a kind of fault in the report: what was found; of the first workload that shows it the steps, how many patches it
 -- has, and the section of the first set that has such a fault

@@ -4,13 +4,13 @@ use Rattle.report_model.specs.Answer.{Answer, Refused, Reported, IsAnswer}
 use Rattle.crash_model.specs.declared.refusals.RunFault.{RunFault}
 use Rattle.crash_model.specs.declared.refusals.RunFault.TheVariants.{TooMany}
 use Rattle.crash_model.specs.declared.settings.Settings.{Settings}
-use Rattle.decision_model.specs.Decision.{IsDecided}
-use Rattle.enough_model.specs.EnoughReport.{IsEnoughAnswer}
-use Rattle.questions.specs.declared.Question.{Question}
-use Rattle.questions.specs.declared.Question.TheVariants.{Visit, Decide, Enough, Search, SearchRules}
-use Rattle.search_model.specs.Most.{number_of_most}
-use Rattle.search_model.specs.SearchReport.{IsSearched, IsSearchRefusal}
-use Rattle.search_rules_model.specs.SearchRulesReport.{IsSearchedForRules}
+use Rattle.question_model.specs.Decision.{IsDecided}
+use Rattle.question_model.specs.EnoughReport.{IsEnoughAnswer}
+use Rattle.question_model.specs.declared.question.Question.{Question}
+use Rattle.question_model.specs.declared.question.Question.TheVariants.{Visit, Decide, Enough, Search, SearchRules}
+use Rattle.question_model.specs.Most.{number_of_most}
+use Rattle.question_model.specs.SearchReport.{IsSearched, IsSearchRefusal}
+use Rattle.question_model.specs.SearchRulesReport.{IsSearchedForRules}
 
 -- a refusal where no closed set is visited: that of a visit, but never for too many closed sets
 abbrev pub IsRefusedUnvisited : List ℕ → Settings → RunFault → Type 0

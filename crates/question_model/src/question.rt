@@ -1,10 +1,7 @@
-//! What a run is asked, and what the answer is.
-//!
-//! `specs/` has the answer to each question. The definitions of the answers are in crates of their own.
-#![tactic(auto)]
+//! What a run is asked.
 
+use crate::most::Most;
 use crash_model::settings::Settings;
-use search_model::Most;
 
 /// What a run finds out about a script.
 #[derive(Clone, Copy, Debug, PartialEq, Eq)]

@@ -22,9 +22,9 @@ use Rattle.crash_model.specs.declared.fault.Fault.{Fault}
 use Rattle.crash_model.specs.declared.patches.Patch.{Patch}
 use Rattle.crash_model.specs.declared.rules.Rule.{Rule}
 use Rattle.crash_model.specs.declared.settings.Settings.{Settings}
-use Rattle.decision_model.specs.Decision.{ToldDecided, ordering_text, decided_text, decided_json}
-use Rattle.decision_model.specs.declared.decided_fault.DecidedFault.{DecidedFault}
-use Rattle.enough_model.specs.Enough.{rules_in, rules_but, IsMinimalEnough, IsNeeded}
+use Rattle.question_model.specs.Decision.{ToldDecided, ordering_text, decided_text, decided_json}
+use Rattle.question_model.specs.declared.decided_fault.DecidedFault.{DecidedFault}
+use Rattle.question_model.specs.Enough.{rules_in, rules_but, IsMinimalEnough, IsNeeded}
 
 -- ---- the first fault
 

@@ -6,13 +6,13 @@ use Rattle.crash_model.specs.FaultRows.{IsFirst}
 use Rattle.crash_model.specs.Trace.{Tracing}
 use Rattle.crash_model.specs.declared.patches.Patch.{Patch}
 use Rattle.crash_model.specs.declared.refusals.TraceFault.{TraceFault}
-use Rattle.search_model.specs.Kinds.{kind_number}
-use Rattle.search_model.specs.Refused.{refusal_of}
-use Rattle.search_model.specs.Workloads.{Search, trace_at, HasPatches, Fails, HasKind}
-use Rattle.search_model.specs.declared.fault_kind.FaultKind.{FaultKind}
-use Rattle.search_model.specs.declared.refusal.Refusal.{Refusal}
-use Rattle.search_model.specs.declared.verdict.Verdict.{Verdict}
-use Rattle.search_model.specs.declared.verdict.Verdict.TheVariants as verdict
+use Rattle.question_model.specs.Kinds.{kind_number}
+use Rattle.question_model.specs.Refused.{refusal_of}
+use Rattle.question_model.specs.Workloads.{Search, trace_at, HasPatches, Fails, HasKind}
+use Rattle.question_model.specs.declared.fault_kind.FaultKind.{FaultKind}
+use Rattle.question_model.specs.declared.refusal.Refusal.{Refusal}
+use Rattle.question_model.specs.declared.verdict.Verdict.{Verdict}
+use Rattle.question_model.specs.declared.verdict.Verdict.TheVariants as verdict
 
 -- an operation is refused for the reason
 pub record IsRefusal (s : Search) (places : List ℕ) (reason : Refusal) : Type 0 where

@@ -15,10 +15,10 @@ use Rattle.crash_model.specs.declared.refusals.TraceFault.{TraceFault}
 use Rattle.crash_model.specs.declared.rules.Rule.{Rule}
 use Rattle.crash_model.specs.declared.steps.Act.TheVariants.{Do}
 use Rattle.crash_model.specs.declared.steps.Step.{Step}
-use Rattle.search_model.specs.Kinds.{kind_of}
-use Rattle.search_model.specs.Refused.{refusal_of}
-use Rattle.search_model.specs.declared.fault_kind.FaultKind.{FaultKind}
-use Rattle.search_model.specs.declared.refusal.Refusal.{Refusal}
+use Rattle.question_model.specs.Kinds.{kind_of}
+use Rattle.question_model.specs.Refused.{refusal_of}
+use Rattle.question_model.specs.declared.fault_kind.FaultKind.{FaultKind}
+use Rattle.question_model.specs.declared.refusal.Refusal.{Refusal}
 
 -- what a search is asked: the ordering, the checker, the base, the pool, and the most operations of a workload
 pub record Search : Type 0 where

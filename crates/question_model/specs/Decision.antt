@@ -16,8 +16,8 @@ use Rattle.crash_model.specs.Trace.{Tracing}
 use Rattle.report_model.specs.Whole.{told_without, told_with, rule_lines, first_json, rules_json}
 use Rattle.crash_model.specs.declared.patches.Patch.{Patch}
 use Rattle.crash_model.specs.declared.settings.Settings.{Settings}
-use Rattle.decision_model.specs.Decided.{AreDecided}
-use Rattle.decision_model.specs.declared.decided_fault.DecidedFault.{DecidedFault}
+use Rattle.question_model.specs.Decided.{AreDecided}
+use Rattle.question_model.specs.declared.decided_fault.DecidedFault.{DecidedFault}
 
 -- what is reported of a fault: the fault, and the section of the first set that has it
 pub record ToldDecided : Type 0 where

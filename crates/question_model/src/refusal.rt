@@ -1,7 +1,7 @@
 //! Why an operation of a pool cannot follow a beginning.
 
 ghost use Rattle.std.specs.Prelude.{◌≡◌};
-ghost use Rattle.search_model.specs.Refused.{refusal_of, refusal_number, refusal_text};
+ghost use Rattle.question_model.specs.Refused.{refusal_of, refusal_number, refusal_text};
 
 use crash_model::refusals::TraceFault;
 

@@ -14,15 +14,15 @@ use Rattle.crash_model.specs.declared.patches.Patch.{Patch}
 use Rattle.crash_model.specs.declared.rules.Rule.{Rule}
 use Rattle.crash_model.specs.declared.settings.Settings.{Settings}
 use Rattle.crash_model.specs.declared.steps.Step.{Step}
-use Rattle.decision_model.specs.Decision.{ToldDecided, decided_text}
-use Rattle.enough_model.specs.Enough.{rules_but}
-use Rattle.enough_model.specs.EnoughReport.{IsToldFirst, rules_text, set_json}
-use Rattle.search_model.specs.Found.{AreFound}
-use Rattle.search_model.specs.SearchReport.{refused_json, search_of, search_text, step_text}
-use Rattle.search_model.specs.Sequences.{IsFirstSequence}
-use Rattle.search_model.specs.Workloads.{Search, IsOperation, HasPatches, steps_at}
-use Rattle.search_model.specs.declared.found.Found.{Found}
-use Rattle.search_rules_model.specs.EnoughFor.{FailsBy, IsMinimalInSearch, IsNeededInSearch, search_with}
+use Rattle.question_model.specs.Decision.{ToldDecided, decided_text}
+use Rattle.question_model.specs.Enough.{rules_but}
+use Rattle.question_model.specs.EnoughReport.{IsToldFirst, rules_text, set_json}
+use Rattle.question_model.specs.Found.{AreFound}
+use Rattle.question_model.specs.SearchReport.{refused_json, search_of, search_text, step_text}
+use Rattle.question_model.specs.Sequences.{IsFirstSequence}
+use Rattle.question_model.specs.Workloads.{Search, IsOperation, HasPatches, steps_at}
+use Rattle.question_model.specs.declared.found.Found.{Found}
+use Rattle.question_model.specs.EnoughFor.{FailsBy, IsMinimalInSearch, IsNeededInSearch, search_with}
 
 -- the entry of a group of rules of which one is needed: the group; of the first workload that fails without it the
 -- places, the steps and how many patches it has; and the first fault that a crash of it leaves then

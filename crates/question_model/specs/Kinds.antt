@@ -2,8 +2,8 @@
 use Rattle.std.specs.Prelude.{ℕ, List, codes}
 use Rattle.crash_model.specs.declared.fault.Fault.{Fault}
 use Rattle.crash_model.specs.declared.fault.Fault.TheVariants as fault
-use Rattle.search_model.specs.declared.fault_kind.FaultKind.{FaultKind}
-use Rattle.search_model.specs.declared.fault_kind.FaultKind.TheVariants as kind
+use Rattle.question_model.specs.declared.fault_kind.FaultKind.{FaultKind}
+use Rattle.question_model.specs.declared.fault_kind.FaultKind.TheVariants as kind
 
 abbrev pub kind_of : Fault → FaultKind
 kind_of (fault.Dangling d k i) = kind.Dangling

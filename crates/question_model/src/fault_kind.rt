@@ -1,7 +1,7 @@
 //! Kinds of faults.
 
 ghost use Rattle.std.specs.Prelude.{◌≡◌};
-ghost use Rattle.search_model.specs.Kinds.{kind_of, kind_number, kind_name};
+ghost use Rattle.question_model.specs.Kinds.{kind_of, kind_number, kind_name};
 
 use crash_model::fault::Fault;
 

@@ -1,7 +1,7 @@
 -- How long workloads can be.
 use Rattle.std.specs.Prelude.{ℕ}
-use Rattle.search_model.specs.declared.most.Most.{Most}
-use Rattle.search_model.specs.declared.most.Most.TheVariants as most
+use Rattle.question_model.specs.declared.most.Most.{Most}
+use Rattle.question_model.specs.declared.most.Most.TheVariants as most
 
 -- the number of operations
 abbrev pub number_of_most : Most → ℕ

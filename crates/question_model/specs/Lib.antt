@@ -1,3 +1,7 @@
+pub mod Decided
+pub mod Decision
+pub mod Enough
+pub mod EnoughReport
 pub mod Kinds
 pub mod Most
 pub mod Refused
@@ -6,3 +10,6 @@ pub mod Workloads
 pub mod Verdict
 pub mod Found
 pub mod SearchReport
+pub mod EnoughFor
+pub mod SearchRulesReport
+pub mod Answers

@@ -1,7 +1,7 @@
 //! How long workloads can be.
 
 ghost use Rattle.std.specs.Prelude.{◌≡◌, Some, None, MatchOption, ℕ, ◌≤◌};
-ghost use Rattle.search_model.specs.Most.{number_of_most};
+ghost use Rattle.question_model.specs.Most.{number_of_most};
 
 /// The most operations of a workload that a search can try.
 pub const MAX_OPERATIONS: usize = 8;

@@ -3,7 +3,7 @@ use Rattle.std.specs.Prelude.{ℕ, List, map}
 use Rattle.std.specs.List.{All, AllPairs, Contains}
 use Rattle.crash_model.specs.FaultRows.{IsFaultBefore, IsFirst}
 use Rattle.crash_model.specs.declared.fault.Fault.{Fault}
-use Rattle.decision_model.specs.declared.decided_fault.DecidedFault.{DecidedFault}
+use Rattle.question_model.specs.declared.decided_fault.DecidedFault.{DecidedFault}
 
 -- each fault that a set has is there once, in ascending order, with the first set that has it
 pub record AreDecided (has : Fault → ℕ → Type 0) (faults : List DecidedFault) : Type 0 where

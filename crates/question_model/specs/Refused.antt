@@ -2,8 +2,8 @@
 use Rattle.std.specs.Prelude.{ℕ, List, codes, Option, Some, None}
 use Rattle.crash_model.specs.declared.refusals.TraceFault.{TraceFault}
 use Rattle.crash_model.specs.declared.refusals.TraceFault.TheVariants as trace
-use Rattle.search_model.specs.declared.refusal.Refusal.{Refusal}
-use Rattle.search_model.specs.declared.refusal.Refusal.TheVariants as refused
+use Rattle.question_model.specs.declared.refusal.Refusal.{Refusal}
+use Rattle.question_model.specs.declared.refusal.Refusal.TheVariants as refused
 
 -- the refusal without its line; that of a group line is not an operation's
 abbrev pub refusal_of : TraceFault → Option Refusal

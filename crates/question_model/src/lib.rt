@@ -1,0 +1,25 @@
+//! What a run is asked, and what each answer is.
+//!
+//! Every closed set can be visited; `crash_model` and `report_model` have the definitions for that. The other questions
+//! are answered without a visit: which faults a crash can leave, which rules of an ordering a script needs, and which
+//! workloads of a pool fail. A pool is a list of operations, and a workload is a sequence of a few of them, with
+//! repetitions.
+//!
+//! The definitions that contracts cite are in `specs/`. None of them is code; the crates above are proved to meet them.
+#![tactic(auto)]
+
+pub mod decided_fault;
+pub mod fault_kind;
+pub mod found;
+pub mod most;
+pub mod question;
+pub mod refusal;
+pub mod verdict;
+
+pub use decided_fault::DecidedFault;
+pub use fault_kind::{FaultKind, KINDS};
+pub use found::{Found, Places, RefusedCount, ShownKind};
+pub use most::{MAX_OPERATIONS, Most};
+pub use question::{Question, Request};
+pub use refusal::{REFUSALS, Refusal};
+pub use verdict::Verdict;

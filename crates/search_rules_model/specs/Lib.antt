@@ -1,2 +1,0 @@
-pub mod EnoughFor
-pub mod SearchRulesReport
