@@ -12,7 +12,7 @@ use crash_model::settings::Settings;
 use enough_deciding::RuleOracle;
 use enough_report::{EnoughFindings, enough_report};
 use fault_deciding::closed_number;
-use needed_groups::{first_fault, needed_groups};
+use first_crashes::{first_fault, needed_groups};
 use std::alloc::{AllocError, Allocator};
 
 /// Finds which rules of its ordering a traced script needs, and reports. It fails only when out of memory.

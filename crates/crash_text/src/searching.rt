@@ -18,7 +18,7 @@ use crash_model::steps::{Act, Step};
 use disk_image::Image;
 use explorers::Gate;
 use failing_sets::GateWatch;
-use kind_sections::kind_section;
+use first_crashes::kind_section;
 use pool_judging::PoolJudge;
 use question_model::{Found, Most, Request, ShownKind};
 use search_report::{KindCrash, SearchFindings, search_report};

@@ -23,7 +23,7 @@ use crash_model::refusals::RunFault;
 use enough_rules::EnoughSets;
 use explorers::Gate;
 use failing_sets::GateWatch;
-use need_sections::needed_workloads;
+use first_crashes::needed_workloads;
 use pool_judging::PoolJudge;
 use pool_rules::PoolRules;
 use question_model::{Places, Request};

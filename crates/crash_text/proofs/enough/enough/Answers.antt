@@ -13,7 +13,7 @@ use Rattle.enough_deciding.proofs.Tracings.{one_tracing}
 use Rattle.enough_report.specs.Found.{told_first, told_group}
 use Rattle.enough_report.specs.declared.findings.NeededGroup.{NeededGroup}
 use Rattle.report_sections.specs.Bodies.{explanation_by}
-use Rattle.needed_groups.proofs.Without.{none_spared}
+use Rattle.first_crashes.proofs.Without.{none_spared}
 use Rattle.crash_text.proofs.Sparing.{is_enough_report, number_of, none_number}
 use Rattle.crash_text.proofs.enough.enough.Goals as goal
 

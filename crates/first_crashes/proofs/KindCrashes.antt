@@ -1,0 +1,86 @@
+-- A kind of fault in the report.
+use Rattle.std.proofs.Common.{◌≡◌, ℕ, ◌<◌, List, [], ◌∷◌, Bool, length, subst, sym, ◌∙◌}
+use Rattle.std.specs.Prelude.{Result, Ok, Err}
+use Rattle.std.specs.List.{All}
+use Rattle.std.proofs.lemmas.List.Elements.{All-nil, All-cons, All-head}
+use Rattle.patch_sets.specs.Closed.{IsClosed}
+use Rattle.crash_model.specs.Patches.{deps_of}
+use Rattle.report_model.specs.Report.{Detail, AreSections, IsLed}
+use Rattle.crash_model.specs.Checker.{Demands, AreDemands}
+use Rattle.crash_model.specs.Trace.{Tracing, trace_start, trace_from}
+use Rattle.crash_model.specs.declared.patches.Patch.{Patch}
+use Rattle.crash_model.specs.declared.refusals.TraceFault.{TraceFault}
+use Rattle.crash_model.specs.declared.steps.Step.{Step}
+use Rattle.report_model.proofs.Leading.{sections_lead}
+use Rattle.report_sections.specs.Sections.{section_of, IsSection}
+use Rattle.report_sections.specs.declared.section.Section.{Section}
+use Rattle.report_sections.proofs.Pushed.{is_told}
+use Rattle.question_model.specs.Found.{IsShown}
+use Rattle.question_model.specs.SearchReport.{IsToldKind}
+use Rattle.question_model.specs.Workloads.{Search, HasPatches, steps_at}
+use Rattle.question_model.specs.declared.found.ShownKind.{ShownKind}
+use Rattle.first_crashes.specs.Kinds.{IsTraced, HaveGraph}
+
+-- steps that are traced are not refused
+pub never_refused : (s : Search) (steps : List Step) (fault : TraceFault) → IsTraced s steps
+    → ¬ (trace_from s.ordering (trace_start s.whole s.base) steps ≡ Err fault)
+never_refused s steps fault traced refused =
+    apart (trace_from s.ordering (trace_start s.whole s.base) steps) traced.0 traced.1 refused
+  where
+    apart : (answer : Result Tracing TraceFault) (last : Tracing) → answer ≡ Ok last → answer ≡ Err fault → ⊥
+    apart answer last is also = cc
+
+module _ (s : Search) (shown : ShownKind) (is : IsShown s shown) where
+  abbrev places : List ℕ
+  places = shown.places.items
+
+  pub below : All (λ place. place < length s.pool) places
+  below = is.earliest.among.workload.among
+
+  -- none of its steps is refused
+  pub traced : (made steps : List Step) → made ≡ steps_at s.pool places → steps ≡ made → IsTraced s steps
+  traced made steps are same = subst (IsTraced s) (sym (same ∙ are)) is.earliest.among.workload.accepted
+
+  pub patches_of : (made steps others : List Step) (demands : Demands) (patches : List Patch)
+      → made ≡ steps_at s.pool places → steps ≡ made → others ≡ made
+      → HaveGraph s steps patches → AreDemands s.strict s.atomic s.base others demands
+      → HasPatches s places demands patches
+  patches_of made steps others demands patches are same also graph told =
+      let at : HaveGraph s (steps_at s.pool places) patches = subst (λ xs. HaveGraph s xs patches) (same ∙ are) graph in
+      record {
+        last = at.0;
+        traced = at.1;
+        graph = at.2;
+        told = subst (λ xs. AreDemands s.strict s.atomic s.base xs demands) (also ∙ are) told;
+      }
+
+  -- a crash can leave its first set
+  pub first_closed : (demands : Demands) (patches : List Patch) → HasPatches s places demands patches
+      → IsClosed (deps_of patches) shown.first
+  first_closed demands patches has = (is.first demands patches has).among.1.failing.closed
+
+  pub kind_told : {A : Type 0} (explain : Bool) (demands : Demands) (patches : List Patch) (steps : List Step)
+      (number : ℕ) (section : Section A) → steps ≡ steps_at s.pool places → number ≡ length patches
+      → HasPatches s places demands patches
+      → IsSection (record { explain = explain; demands = demands }) s.base patches shown.first section
+      → IsToldKind s explain (record { shown = shown; steps = steps; patches = number; first = section_of section })
+  kind_told explain demands patches steps number section are same has of_set = record {
+    steps = are;
+    demands = demands;
+    patches = patches;
+    traced = has;
+    number = same;
+    section = told;
+    led = All-head (IsLed patches) (section_of section) [] (sections_lead s.base patches has.graph.earlier detail
+        (shown.first ∷ []) (section_of section ∷ []) alone told);
+  }
+    where
+      detail : Detail
+      detail = record { explain = explain; demands = demands }
+
+      told : AreSections detail s.base patches (shown.first ∷ []) (section_of section ∷ [])
+      told = is_told detail s.base patches shown.first section of_set
+
+      alone : All (IsClosed (deps_of patches)) (shown.first ∷ [])
+      alone = All-cons (IsClosed (deps_of patches)) shown.first [] (first_closed demands patches has)
+          (All-nil (IsClosed (deps_of patches)))

@@ -1,0 +1,4 @@
+pub mod Without
+pub mod KindCrashes
+pub mod FirstWorkload
+pub mod NeededWorkloads

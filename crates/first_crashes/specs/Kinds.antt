@@ -1,0 +1,24 @@
+-- A kind of fault, in the form of the report's definition.
+use Rattle.std.specs.Prelude.{◌≡◌, List, Ok}
+use Rattle.crash_model.specs.Trace.{Tracing, trace_start, trace_from, IsGraphOf}
+use Rattle.crash_model.specs.declared.patches.Patch.{Patch}
+use Rattle.crash_model.specs.declared.steps.Step.{Step}
+use Rattle.report_sections.specs.Sections.{section_of}
+use Rattle.question_model.specs.SearchReport.{ToldKind}
+use Rattle.question_model.specs.Workloads.{Search}
+use Rattle.question_model.specs.declared.found.ShownKind.{ShownKind}
+use Rattle.first_crashes.specs.declared.kinds.KindSection.{KindSection}
+
+abbrev pub told_kind : {A : Type 0} → ShownKind → KindSection A → ToldKind
+told_kind shown told =
+    record { shown = shown; steps = told.steps.items; patches = told.patches; first = section_of told.section }
+
+-- none of the steps is refused
+abbrev pub IsTraced : Search → List Step → Type 0
+IsTraced s steps = (last : Tracing) × (trace_from s.ordering (trace_start s.whole s.base) steps ≡ Ok last)
+
+-- the patches are those of the steps
+abbrev pub HaveGraph : Search → List Step → List Patch → Type 0
+HaveGraph s steps patches =
+    (last : Tracing) × (trace_from s.ordering (trace_start s.whole s.base) steps ≡ Ok last)
+    × IsGraphOf s.rules s.base last patches

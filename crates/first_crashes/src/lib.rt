@@ -1,0 +1,13 @@
+//! The crashes that show first what is found: the first fault of a graph, the first fault without a group of rules of
+//! which one is needed, the first workload with a kind of fault, and the first workload that fails without a group.
+#![tactic(auto)]
+
+mod fault;
+mod groups;
+mod kinds;
+mod workloads;
+
+pub use fault::first_fault;
+pub use groups::needed_groups;
+pub use kinds::{KindSection, kind_section};
+pub use workloads::{needed_workload, needed_workloads};
