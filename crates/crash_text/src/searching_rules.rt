@@ -24,16 +24,14 @@ use enough_rules::EnoughSets;
 use explorers::Gate;
 use failing_sets::GateWatch;
 use first_crashes::needed_workloads;
-use pool_judging::PoolJudge;
-use pool_rules::PoolRules;
+use pool_judging::{PoolJudge, PoolRules};
 use question_model::{Places, Request};
 use search_rules_report::{SearchRulesFindings, search_rules_report};
 use set_sweep::Workers;
 use std::alloc::{AllocError, Allocator};
 use std::sync::Wait;
 use std::thread::Threads;
-use workload_rules::enough_for_all;
-use workload_search::{FoundWorkloads, search_passing};
+use workload_search::{FoundWorkloads, enough_for_all, search_passing};
 
 /// Judges each workload of the pool, finds which rules those that do not fail need, and reports. The first step that is
 /// no operation is refused.

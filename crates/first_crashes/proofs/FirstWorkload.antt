@@ -14,8 +14,8 @@ use Rattle.enough_report.specs.declared.findings.FirstFault.{FirstFault}
 use Rattle.fault_deciding.proofs.Firsts.{some_fault}
 use Rattle.pool_judging.specs.Judging.{SomeFails}
 use Rattle.pool_judging.proofs.Verdicts.{of_each}
-use Rattle.pool_rules.specs.Traces.{IsTraceOf, IsTraced}
-use Rattle.pool_rules.proofs.Workloads.{patches_but}
+use Rattle.pool_judging.specs.Traces.{IsTraceOf, IsTraced}
+use Rattle.pool_judging.proofs.Workloads.{patches_but}
 use Rattle.question_model.specs.Sequences.{IsFirstSequence}
 use Rattle.question_model.specs.Workloads.{Search, Fails, HasPatches, steps_at}
 use Rattle.question_model.specs.EnoughFor.{FailsBy}

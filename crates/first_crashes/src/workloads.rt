@@ -10,11 +10,11 @@ ghost use Rattle.workload_search.specs.Tries.{items_of};
 ghost use Rattle.pool_judging.specs.Judging.{search_by};
 
 use crate::first_fault;
-use pool_rules::{PoolRules, graph_but, traced_of};
+use pool_judging::{PoolRules, graph_but, traced_of};
 use question_model::Places;
 use search_rules_report::NeededWorkload;
 use std::alloc::{AllocError, Allocator};
-use workload_rules::first_without;
+use workload_search::first_without;
 use workload_search::places::copied;
 
 /// What is reported of each group of rules of which the workloads need one, in order. `passing` has the workloads that

@@ -4,3 +4,5 @@ pub mod Pools
 pub mod Verdicts
 pub mod Beginnings
 pub mod Full
+pub mod Found
+pub mod Workloads

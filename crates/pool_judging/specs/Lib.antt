@@ -1,3 +1,4 @@
 pub mod Beginnings
 pub mod Firsts
 pub mod Judging
+pub mod Traces

@@ -13,3 +13,10 @@ pub mod Telling
 pub mod Searched
 pub mod Parts
 pub mod Kept
+pub mod OneSequence
+pub mod Together
+pub mod Alike
+pub mod Earliest
+pub mod Items
+pub mod Dealt
+pub mod Popped

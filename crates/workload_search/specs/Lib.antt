@@ -2,3 +2,4 @@ pub mod Tallies
 pub mod Tries
 pub mod Told
 pub mod Passing
+pub mod Asked

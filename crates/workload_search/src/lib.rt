@@ -1,4 +1,5 @@
 //! The search for workloads of a pool: which there are, which fail and which operations are refused, asked of a judge.
+//! And which rules of an ordering all of them need that do not fail, asked of a judge of rules.
 //!
 //! Sequences of operations are tried level by level, shorter ones first. Only a sequence that is accepted and does not
 //! fail is made longer, by each operation of the pool. Workers share the sequences of a level, and what they count is
@@ -13,10 +14,12 @@ mod kinds;
 mod levels;
 mod passing;
 pub mod places;
+mod rules;
 mod searching;
 mod tally;
 mod trying;
 
 pub use judge::Judge;
 pub use passing::{FoundWorkloads, search_passing};
+pub use rules::{RuleJudge, enough_for_all, first_without};
 pub use searching::search;

@@ -1,8 +1,0 @@
-use Rattle.pool_rules.proofs.traces.fails_in.Goals as goal
-
-pub returns : goal.returns
-returns g c = record {
-  patches = c.in_ok-graph.graph;
-  graph = c.in_ok-graph.ensures.graph;
-  answer = c.in_ok-fails.ensures;
-}
