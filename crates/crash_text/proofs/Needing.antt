@@ -20,7 +20,7 @@ use Rattle.crash_model.specs.Trace.{Tracing, IsGraphOf}
 use Rattle.crash_model.specs.declared.patches.Patch.{Patch}
 use Rattle.crash_model.specs.declared.rules.Rule.{Rule}
 use Rattle.report_model.proofs.Leading.{failing_closed, sections_lead}
-use Rattle.fault_summary.specs.Prevented.{IsFirstOut, IsFirstPrevented}
+use Rattle.failing_sets.specs.Prevented.{IsFirstOut, IsFirstPrevented}
 use Rattle.report_sections.specs.Sections.{section_of, IsSection}
 use Rattle.report_sections.specs.ToldRules.{told_rule, usage_of}
 use Rattle.report_sections.specs.declared.rules.RuleUsage as code_usage

@@ -9,7 +9,7 @@ ghost use Rattle.report_model.specs.Needs.{AreToldRules, IsFirstNew, IsRuleUsage
 ghost use Rattle.crash_model.specs.Patches.{deps_of};
 ghost use Rattle.crash_model.specs.Trace.{Tracing};
 ghost use Rattle.crash_model.specs.declared.settings.ReportBy.TheVariants.{ByRule};
-ghost use Rattle.fault_summary.specs.Prevented.{IsFirstPrevented};
+ghost use Rattle.failing_sets.specs.Prevented.{IsFirstPrevented};
 ghost use Rattle.report_sections.specs.Bodies.{AreOnBase};
 ghost use Rattle.report_sections.specs.Sections.{section_of};
 ghost use Rattle.report_sections.specs.ToldRules.{told_rule, usage_of};

@@ -6,7 +6,7 @@ use Rattle.std.proofs.lemmas.List.Elements.{Contains-get_or}
 use Rattle.state_space.proofs.Counting.{below, same, above, order_of}
 use Rattle.patch_sets.specs.Sets.{IsBefore}
 use Rattle.patch_sets.proofs.Canonical.{before_trans, before_self}
-use Rattle.fault_summary.specs.Prevented.{IsFirstOut}
+use Rattle.failing_sets.specs.Prevented.{IsFirstOut}
 
 -- a set that is not allowed, if those before it are
 pub first_out : (allowed : ℕ → Type 0) (sets : List ℕ) (i : ℕ) → AllPairs IsBefore sets → i < length sets

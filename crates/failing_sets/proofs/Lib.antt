@@ -1,3 +1,13 @@
+pub mod Counted
+pub mod Failing
+pub mod Ordered
+pub mod Prevented
+pub mod Sets
+pub mod Sorted
+pub mod Summed
+pub mod FaultsSwept
+pub mod Tallied
+pub mod Told
 pub mod Firsts
 pub mod Rooms
 pub mod Safe

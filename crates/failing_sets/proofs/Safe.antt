@@ -2,7 +2,7 @@
 use Rattle.std.proofs.Common.{◌≡◌, ℕ, [], arith, refl, subst}
 use Rattle.std.specs.Prelude.{Option, Some, MatchOption}
 use Rattle.patch_sets.proofs.Lists.{in_none}
-use Rattle.fault_summary.specs.Counted.{CountsFailing}
+use Rattle.failing_sets.specs.Counted.{CountsFailing}
 use Rattle.failing_sets.specs.Safe.{AreSafe, SomeFails}
 use Rattle.failing_sets.specs.declared.crashes.Crashes.{Crashes}
 

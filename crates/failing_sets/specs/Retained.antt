@@ -9,8 +9,8 @@ use Rattle.crash_model.specs.FaultRows.{HasFault, AreRows}
 use Rattle.crash_model.specs.declared.patches.Patch.{Patch}
 use Rattle.crash_model.specs.declared.settings.Settings.{Settings}
 use Rattle.crash_model.specs.declared.settings.ReportBy.TheVariants.{BySet, ByFault, ByRule}
-use Rattle.fault_summary.specs.Prevented.{IsFirstPrevented}
-use Rattle.fault_summary.specs.declared.count.FailingCount.{FailingCount}
+use Rattle.failing_sets.specs.Prevented.{IsFirstPrevented}
+use Rattle.failing_sets.specs.declared.count.FailingCount.{FailingCount}
 use Rattle.failing_sets.specs.declared.crashes.Crashes.{Crashes}
 use Rattle.failing_sets.specs.declared.finding.Found.{Found}
 use Rattle.failing_sets.specs.declared.finding.Retained.{Retained}

@@ -7,8 +7,8 @@ ghost use Rattle.patch_sets.specs.Closed.{IsClosed};
 ghost use Rattle.patch_sets.specs.Sets.{AreAllInOrder};
 ghost use Rattle.crash_model.specs.Patches.{deps_of, CountsClosed};
 ghost use Rattle.crash_model.specs.FaultRows.{HasFault, AreRows};
-ghost use Rattle.fault_summary.specs.Counted.{CountsFailing};
-ghost use Rattle.fault_summary.specs.Prevented.{IsFirstPrevented};
+ghost use Rattle.failing_sets.specs.Counted.{CountsFailing};
+ghost use Rattle.failing_sets.specs.Prevented.{IsFirstPrevented};
 ghost use Rattle.failing_sets.specs.Retained.{Fails};
 ghost use Rattle.failing_sets.specs.Limits.{SaysTooMany};
 
@@ -19,7 +19,7 @@ use crash_image::PatchSpace;
 use crash_model::refusals::RunFault;
 use explorers::{Explored, Gate};
 use fault_deciding::dependencies::dependencies;
-use fault_summary::{
+use crate::{
     CountVisitor, FailingCount, FaultVisitor, SweptFaults, sweep_count, sweep_faults,
 };
 use patch_graph::Graph;

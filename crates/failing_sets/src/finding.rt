@@ -9,7 +9,7 @@ ghost use Rattle.patch_sets.specs.Closed.{IsClosed};
 ghost use Rattle.patch_sets.specs.Sets.{AreAllInOrder, IsBefore};
 ghost use Rattle.crash_model.specs.Patches.{deps_of, CountsClosed};
 ghost use Rattle.crash_model.specs.declared.settings.ReportBy.TheVariants.{ByFault};
-ghost use Rattle.fault_summary.specs.Prevented.{IsFirstPrevented};
+ghost use Rattle.failing_sets.specs.Prevented.{IsFirstPrevented};
 ghost use Rattle.failing_sets.specs.Retained.{AreFound, Fails, IsCountWith};
 ghost use Rattle.failing_sets.specs.Limits.{SaysTooMany};
 
@@ -19,7 +19,7 @@ use crash_model::fault::FaultRow;
 use crash_model::refusals::RunFault;
 use crash_model::settings::{Explorer, MAX_BOARD, ReportBy};
 use explorers::{Explored, Gate};
-use fault_summary::{FailingCount, fault_rows};
+use crate::{FailingCount, fault_rows};
 use patch_graph::Graph;
 use std::alloc::Allocator;
 use std::sync::Wait;

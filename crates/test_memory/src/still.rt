@@ -10,7 +10,7 @@ use crash_model::names::{GroupName, Path};
 use crash_model::operations::Op;
 use crash_model::steps::Step;
 use disk_image::{Demands, Image};
-use fault_summary::{FaultScratch, FaultVisitor, Tally};
+use failing_sets::{FaultScratch, FaultVisitor, Tally};
 use fs_check::is_clean;
 use inode_fs::{apply, demands, plan};
 use journal_replay::replay;

@@ -4,7 +4,7 @@ use Rattle.patch_sets.specs.Closed.{IsClosed}
 use Rattle.report_model.specs.Answer.{detail_of}
 use Rattle.crash_model.specs.Checker.{IsFailingUnder}
 use Rattle.crash_model.specs.Patches.{deps_of}
-use Rattle.fault_summary.specs.Prevented.{IsFirstOut, IsFirstPrevented}
+use Rattle.failing_sets.specs.Prevented.{IsFirstOut, IsFirstPrevented}
 use Rattle.section_maker.specs.Maker.{Reported}
 use Rattle.report_sections.specs.Sections.{IsSection}
 use Rattle.crash_text.proofs.Needing.{none_new, some_new}

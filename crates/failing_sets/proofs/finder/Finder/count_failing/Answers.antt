@@ -4,8 +4,8 @@ use Rattle.patch_sets.specs.Closed.{IsClosed}
 use Rattle.patch_sets.specs.Sets.{IsBefore}
 use Rattle.crash_model.specs.Checker.{IsFailingUnder}
 use Rattle.crash_model.specs.Patches.{deps_of}
-use Rattle.fault_summary.specs.Prevented.{IsFirstPrevented}
-use Rattle.fault_summary.proofs.Prevented.{first_like}
+use Rattle.failing_sets.specs.Prevented.{IsFirstPrevented}
+use Rattle.failing_sets.proofs.Prevented.{first_like}
 use Rattle.failing_sets.proofs.finder.Finder.count_failing.Goals as goal
 
 pub first_prevented-requires : goal.first_prevented-requires

@@ -1,4 +1,0 @@
-pub mod Counted
-pub mod Prevented
-pub mod Summed
-pub mod Tallied
