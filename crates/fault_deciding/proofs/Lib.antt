@@ -1,3 +1,10 @@
+pub mod Found
+pub mod Tests
+pub mod LastByte
+pub mod Pushed
+pub mod AllFaults
+pub mod EntriesSoFar
+pub mod ListedSoFar
 pub mod Firsts
 pub mod Listed
 pub mod Orders

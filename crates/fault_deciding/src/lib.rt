@@ -5,6 +5,7 @@
 #![tactic(auto)]
 
 mod asking;
+mod candidates;
 mod counting;
 mod decider;
 pub mod dependencies;

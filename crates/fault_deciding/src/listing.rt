@@ -5,7 +5,7 @@ ghost use Rattle.fault_deciding.specs.Asked.{AreAllOf, AreFoundByTest, HasFaultO
 
 use crash_model::fault::Fault;
 use disk_image::Demands;
-use fault_candidates::possible_faults;
+use crate::candidates::possible_faults;
 use known_bytes::{Chains, KnownBytes};
 use std::alloc::{AllocError, Allocator};
 

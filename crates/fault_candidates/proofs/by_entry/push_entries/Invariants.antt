@@ -1,5 +1,0 @@
-use Rattle.fault_candidates.proofs.EntriesSoFar.{AreEntries}
-use Rattle.fault_candidates.proofs.by_entry.push_entries.Given as goal
-
-abbrev pub invariant-loop-dir : goal.invariant-loop-dir
-invariant-loop-dir g l = AreEntries l.bytes l.dir l.initial.faults.items l.faults.items l.most
