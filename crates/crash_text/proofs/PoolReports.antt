@@ -17,8 +17,8 @@ use Rattle.question_model.specs.SearchReport.{IsSearchReport, IsToldKind, ToldKi
 use Rattle.question_model.specs.Workloads.{Search, steps_at}
 use Rattle.question_model.specs.declared.found.Found.{Found}
 use Rattle.question_model.specs.declared.found.ShownKind.{ShownKind}
-use Rattle.search_report.specs.Findings.{told_kind}
-use Rattle.search_report.specs.declared.findings.KindCrash.{KindCrash}
+use Rattle.question_reports.specs.SearchFindings.{told_kind}
+use Rattle.question_reports.specs.declared.search.findings.KindCrash.{KindCrash}
 
 -- a search under this ordering
 abbrev pub search_under : Settings → ℕ → Disk → List Step → Module → Bool → List Rule → Search

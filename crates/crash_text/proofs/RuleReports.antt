@@ -4,8 +4,8 @@ use Rattle.std.proofs.lemmas.List.Elements.{Contains-get_or}
 use Rattle.std.specs.Prelude.{All}
 use Rattle.patch_sets.specs.Sets.{AreAllInOrder}
 use Rattle.crash_model.specs.declared.steps.Step.{Step}
-use Rattle.search_rules_report.specs.Findings.{told_need}
-use Rattle.search_rules_report.specs.declared.findings.NeededWorkload.{NeededWorkload}
+use Rattle.question_reports.specs.SearchRulesFindings.{told_need}
+use Rattle.question_reports.specs.declared.search_rules.findings.NeededWorkload.{NeededWorkload}
 
 -- the groups in the report are those of the workloads
 pub told_groups : {A : Type 0} (pool : List Step) (needs : List (NeededWorkload A))

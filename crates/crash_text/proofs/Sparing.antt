@@ -15,9 +15,9 @@ use Rattle.crash_model.specs.declared.rules.Rule.{Rule}
 use Rattle.crash_model.specs.declared.settings.Settings.{Settings}
 use Rattle.question_model.specs.Enough.{IsMinimalEnough, IsNeeded}
 use Rattle.question_model.specs.EnoughReport.{IsEnoughReport, IsToldAny, IsToldGroup, ToldGroup, rules_report_bytes}
-use Rattle.enough_report.specs.Found.{told_first, told_group}
-use Rattle.enough_report.specs.declared.findings.FirstFault.{FirstFault}
-use Rattle.enough_report.specs.declared.findings.NeededGroup.{NeededGroup}
+use Rattle.question_reports.specs.EnoughFindings.{told_first, told_group}
+use Rattle.question_reports.specs.declared.enough.findings.FirstFault.{FirstFault}
+use Rattle.question_reports.specs.declared.enough.findings.NeededGroup.{NeededGroup}
 use Rattle.traced_patches.specs.Traced.{TracedPatches}
 use Rattle.report_sections.specs.Bodies.{explanation_by}
 use Rattle.crash_text.proofs.Bodies.{same_explanation}

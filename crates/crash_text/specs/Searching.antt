@@ -14,8 +14,8 @@ use Rattle.question_model.specs.declared.found.ShownKind.{ShownKind}
 use Rattle.question_model.specs.declared.most.Most.{Most}
 use Rattle.pool_judging.specs.Judging.{search_by}
 use Rattle.pool_judging.specs.declared.judge.PoolJudge.{PoolJudge}
-use Rattle.search_report.specs.Findings.{told_kind}
-use Rattle.search_report.specs.declared.findings.KindCrash.{KindCrash}
+use Rattle.question_reports.specs.SearchFindings.{told_kind}
+use Rattle.question_reports.specs.declared.search.findings.KindCrash.{KindCrash}
 
 -- the steps are a pool of operations, and the text is the report on it
 abbrev pub IsSearchOf : Settings → Most → Disk → List Step → List ℕ → ℕ → Type 0

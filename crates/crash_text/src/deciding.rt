@@ -8,9 +8,9 @@ ghost use Rattle.crash_text.specs.Telling.{IsReportOn, NoneFails};
 use crate::host::Host;
 use crate::run::Outcome;
 use crate::traced_script::TracedScript;
-use decision_report::{Decision, decision_report};
 use fault_deciding::{Decider, closed_number};
 use question_model::Request;
+use question_reports::{Decision, decision_report};
 use std::alloc::{AllocError, Allocator};
 use std::thread::Threads;
 

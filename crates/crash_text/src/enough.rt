@@ -10,9 +10,9 @@ use crate::run::Outcome;
 use crate::traced_script::TracedScript;
 use crash_model::settings::Settings;
 use enough_deciding::RuleOracle;
-use enough_report::{EnoughFindings, enough_report};
 use fault_deciding::closed_number;
 use first_crashes::{first_fault, needed_groups};
+use question_reports::{EnoughFindings, enough_report};
 use std::alloc::{AllocError, Allocator};
 
 /// Finds which rules of its ordering a traced script needs, and reports. It fails only when out of memory.

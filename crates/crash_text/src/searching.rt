@@ -21,7 +21,7 @@ use failing_sets::GateWatch;
 use first_crashes::kind_section;
 use pool_judging::PoolJudge;
 use question_model::{Found, Most, Request, ShownKind};
-use search_report::{KindCrash, SearchFindings, search_report};
+use question_reports::{KindCrash, SearchFindings, search_report};
 use set_sweep::Workers;
 use std::alloc::{AllocError, Allocator};
 use std::sync::Wait;

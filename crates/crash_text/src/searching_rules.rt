@@ -26,7 +26,7 @@ use failing_sets::GateWatch;
 use first_crashes::needed_workloads;
 use pool_judging::{PoolJudge, PoolRules};
 use question_model::{Places, Request};
-use search_rules_report::{SearchRulesFindings, search_rules_report};
+use question_reports::{SearchRulesFindings, search_rules_report};
 use set_sweep::Workers;
 use std::alloc::{AllocError, Allocator};
 use std::sync::Wait;

@@ -9,8 +9,8 @@ use Rattle.crash_model.specs.declared.steps.Step.{Step}
 use Rattle.enough_deciding.specs.Rules.{IsGraphBy}
 use Rattle.question_model.specs.Enough.{rules_but}
 use Rattle.question_model.specs.EnoughReport.{IsToldAny, IsToldFirst}
-use Rattle.enough_report.specs.Found.{told_first}
-use Rattle.enough_report.specs.declared.findings.FirstFault.{FirstFault}
+use Rattle.question_reports.specs.EnoughFindings.{told_first}
+use Rattle.question_reports.specs.declared.enough.findings.FirstFault.{FirstFault}
 use Rattle.fault_deciding.proofs.Firsts.{some_fault}
 use Rattle.pool_judging.specs.Judging.{SomeFails}
 use Rattle.pool_judging.proofs.Verdicts.{of_each}
@@ -20,7 +20,7 @@ use Rattle.question_model.specs.Sequences.{IsFirstSequence}
 use Rattle.question_model.specs.Workloads.{Search, Fails, HasPatches, steps_at}
 use Rattle.question_model.specs.EnoughFor.{FailsBy}
 use Rattle.question_model.specs.SearchRulesReport.{IsToldNeed, search_but}
-use Rattle.search_rules_report.specs.Findings.{told_need}
+use Rattle.question_reports.specs.SearchRulesFindings.{told_need}
 use Rattle.traced_patches.specs.Traced.{TracedPatches}
 
 module _ (s : Search) (group : ℕ) (places : List ℕ)

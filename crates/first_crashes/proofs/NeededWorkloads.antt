@@ -8,8 +8,8 @@ use Rattle.crash_model.specs.declared.steps.Step.{Step}
 use Rattle.question_model.specs.Workloads.{Search}
 use Rattle.question_model.specs.EnoughFor.{IsNeededInSearch}
 use Rattle.question_model.specs.SearchRulesReport.{ToldNeed}
-use Rattle.search_rules_report.specs.Findings.{told_need}
-use Rattle.search_rules_report.specs.declared.findings.NeededWorkload.{NeededWorkload}
+use Rattle.question_reports.specs.SearchRulesFindings.{told_need}
+use Rattle.question_reports.specs.declared.search_rules.findings.NeededWorkload.{NeededWorkload}
 
 -- the minimal groups of which one is needed are such
 pub all_needed : (s : Search) (groups : List ℕ) → AreAllInOrder (IsNeededInSearch s) groups

@@ -22,8 +22,8 @@ use Rattle.question_model.specs.Enough.{AreEnough, IsNeeded, rules_but}
 use Rattle.question_model.specs.EnoughReport.{IsToldAny, IsToldFirst, ToldGroup}
 use Rattle.enough_deciding.specs.Rules.{IsGraphBy, tracing_of}
 use Rattle.enough_deciding.proofs.Tracings.{one_tracing}
-use Rattle.enough_report.specs.Found.{told_first, told_group}
-use Rattle.enough_report.specs.declared.findings.NeededGroup.{NeededGroup}
+use Rattle.question_reports.specs.EnoughFindings.{told_first, told_group}
+use Rattle.question_reports.specs.declared.enough.findings.NeededGroup.{NeededGroup}
 use Rattle.traced_patches.specs.Traced.{TracedPatches}
 use Rattle.report_sections.specs.Sections.{section_of, IsSection}
 use Rattle.report_sections.specs.declared.section.Section.{Section}

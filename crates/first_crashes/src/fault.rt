@@ -5,14 +5,14 @@ ghost use Rattle.patch_sets.specs.Closed.{AreEarlier};
 ghost use Rattle.crash_model.specs.Patches.{deps_of};
 ghost use Rattle.crash_model.specs.Checker.{IsFailingUnder};
 ghost use Rattle.question_model.specs.EnoughReport.{IsToldAny};
-ghost use Rattle.enough_report.specs.Found.{told_first};
+ghost use Rattle.question_reports.specs.EnoughFindings.{told_first};
 ghost use Rattle.report_sections.specs.Bodies.{AreOnBase};
 ghost use Rattle.first_crashes.specs.Sparing.{detail_with};
 
 use disk_image::{Demands, Image};
-use enough_report::FirstFault;
 use fault_deciding::Decider;
 use patch_graph::Graph;
+use question_reports::FirstFault;
 use section_maker::SectionMaker;
 use std::alloc::{AllocError, Allocator};
 

@@ -5,12 +5,12 @@ ghost use Rattle.std.specs.List.{All};
 ghost use Rattle.crash_model.specs.Trace.{Tracing};
 ghost use Rattle.question_model.specs.EnoughReport.{IsToldGroup};
 ghost use Rattle.enough_deciding.specs.Rules.{IsTracingOf};
-ghost use Rattle.enough_report.specs.Found.{told_first, told_group};
+ghost use Rattle.question_reports.specs.EnoughFindings.{told_first, told_group};
 ghost use Rattle.first_crashes.specs.Sparing.{CannotSpare, detail_with};
 
 use crate::fault::first_fault;
 use enough_deciding::RuleOracle;
-use enough_report::{FirstFault, NeededGroup};
+use question_reports::{FirstFault, NeededGroup};
 use std::alloc::{AllocError, Allocator};
 
 /// Each group of which one rule is needed, with the first fault that a crash can leave without the group, and with

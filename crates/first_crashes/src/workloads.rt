@@ -5,14 +5,14 @@ ghost use Rattle.std.specs.List.{All};
 ghost use Rattle.question_model.specs.Sequences.{AreAllSequences};
 ghost use Rattle.question_model.specs.EnoughFor.{IsPassing, IsNeededInSearch};
 ghost use Rattle.question_model.specs.SearchRulesReport.{IsToldNeed};
-ghost use Rattle.search_rules_report.specs.Findings.{told_need};
+ghost use Rattle.question_reports.specs.SearchRulesFindings.{told_need};
 ghost use Rattle.workload_search.specs.Tries.{items_of};
 ghost use Rattle.pool_judging.specs.Judging.{search_by};
 
 use crate::first_fault;
 use pool_judging::{PoolRules, graph_but, traced_of};
 use question_model::Places;
-use search_rules_report::NeededWorkload;
+use question_reports::NeededWorkload;
 use std::alloc::{AllocError, Allocator};
 use workload_search::first_without;
 use workload_search::places::copied;

@@ -10,8 +10,8 @@ use Rattle.question_model.specs.Enough.{AreEnough, rules_but}
 use Rattle.question_model.specs.EnoughReport.{IsToldAny, rules_report_bytes}
 use Rattle.enough_deciding.specs.Rules.{IsTracingOf, tracing_of}
 use Rattle.enough_deciding.proofs.Tracings.{one_tracing}
-use Rattle.enough_report.specs.Found.{told_first, told_group}
-use Rattle.enough_report.specs.declared.findings.NeededGroup.{NeededGroup}
+use Rattle.question_reports.specs.EnoughFindings.{told_first, told_group}
+use Rattle.question_reports.specs.declared.enough.findings.NeededGroup.{NeededGroup}
 use Rattle.report_sections.specs.Bodies.{explanation_by}
 use Rattle.first_crashes.proofs.Without.{none_spared}
 use Rattle.crash_text.proofs.Sparing.{is_enough_report, number_of, none_number}

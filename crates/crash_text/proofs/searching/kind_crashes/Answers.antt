@@ -1,7 +1,7 @@
 use Rattle.question_model.specs.SearchReport.{IsToldKind}
 use Rattle.pool_judging.specs.Judging.{search_by}
 use Rattle.report_sections.specs.Sections.{section_of}
-use Rattle.search_report.specs.Findings.{told_kind}
+use Rattle.question_reports.specs.SearchFindings.{told_kind}
 use Rattle.crash_text.proofs.PoolReports.{with_steps, shown_more, crash_more}
 use Rattle.crash_text.proofs.searching.kind_crashes.Goals as goal
 

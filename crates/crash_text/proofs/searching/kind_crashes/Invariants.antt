@@ -1,7 +1,7 @@
 use Rattle.std.proofs.Common.{◌≡◌, All, map, take}
 use Rattle.pool_judging.specs.Judging.{search_by}
 use Rattle.question_model.specs.SearchReport.{IsToldKind}
-use Rattle.search_report.specs.Findings.{told_kind}
+use Rattle.question_reports.specs.SearchFindings.{told_kind}
 use Rattle.crash_text.proofs.searching.kind_crashes.Given as goal
 
 abbrev pub invariant-loop-shown : goal.invariant-loop-shown

@@ -3,8 +3,8 @@ use Rattle.std.specs.Prelude.{◌==◌}
 use Rattle.std.proofs.lemmas.List.Elements.{All-map}
 use Rattle.question_model.specs.SearchReport.{IsToldKind, search_bytes}
 use Rattle.pool_judging.specs.Judging.{search_by}
-use Rattle.search_report.specs.Findings.{told_kind}
-use Rattle.search_report.specs.declared.findings.KindCrash.{KindCrash}
+use Rattle.question_reports.specs.SearchFindings.{told_kind}
+use Rattle.question_reports.specs.declared.search.findings.KindCrash.{KindCrash}
 use Rattle.crash_text.proofs.PoolReports.{number_of_failing, told_shown}
 use Rattle.crash_text.proofs.searching.report_on.Goals as goal
 

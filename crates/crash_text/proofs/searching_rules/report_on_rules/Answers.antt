@@ -3,8 +3,8 @@ use Rattle.std.specs.Prelude.{All, ◌==◌}
 use Rattle.patch_sets.specs.Sets.{AreAllInOrder}
 use Rattle.question_model.specs.EnoughFor.{IsNeededInSearch}
 use Rattle.question_model.specs.SearchRulesReport.{search_rules_bytes}
-use Rattle.search_rules_report.specs.Findings.{told_need}
-use Rattle.search_rules_report.specs.declared.findings.NeededWorkload.{NeededWorkload}
+use Rattle.question_reports.specs.SearchRulesFindings.{told_need}
+use Rattle.question_reports.specs.declared.search_rules.findings.NeededWorkload.{NeededWorkload}
 use Rattle.pool_judging.specs.Judging.{search_by}
 use Rattle.crash_text.proofs.PoolReports.{number_of_failing}
 use Rattle.crash_text.proofs.RuleReports.{each_listed, told_groups}

@@ -4,7 +4,7 @@ use Rattle.question_model.specs.Enough.{rules_but}
 use Rattle.question_model.specs.EnoughReport.{IsToldAny}
 use Rattle.enough_deciding.specs.Rules.{tracing_of}
 use Rattle.enough_deciding.proofs.Tracings.{one_tracing}
-use Rattle.enough_report.specs.Found.{told_first}
+use Rattle.question_reports.specs.EnoughFindings.{told_first}
 use Rattle.first_crashes.specs.Sparing.{detail_with}
 use Rattle.first_crashes.proofs.Without.{enough_where_none}
 use Rattle.first_crashes.proofs.groups.fault_without.Goals as goal

@@ -2,7 +2,7 @@ use Rattle.std.proofs.Common.{◌≡◌, All, map, take}
 use Rattle.crash_model.specs.Trace.{Tracing}
 use Rattle.question_model.specs.EnoughReport.{IsToldGroup}
 use Rattle.enough_deciding.specs.Rules.{IsTracingOf}
-use Rattle.enough_report.specs.Found.{told_group}
+use Rattle.question_reports.specs.EnoughFindings.{told_group}
 use Rattle.first_crashes.specs.Sparing.{detail_with}
 use Rattle.first_crashes.proofs.groups.needed_groups.Given as goal
 

@@ -1,7 +1,7 @@
 use Rattle.std.proofs.Common.{refl, subst}
 use Rattle.std.specs.Prelude.{option_map}
 use Rattle.question_model.specs.EnoughReport.{IsToldAny}
-use Rattle.enough_report.specs.Found.{told_first}
+use Rattle.question_reports.specs.EnoughFindings.{told_first}
 use Rattle.pool_judging.specs.Judging.{search_by}
 use Rattle.first_crashes.proofs.FirstWorkload.{below, traced, patches_of, some_told, need_told}
 use Rattle.first_crashes.proofs.workloads.needed_workload.Goals as goal

@@ -1,7 +1,7 @@
 use Rattle.std.proofs.Common.{◌≡◌, All, map, take}
 use Rattle.pool_judging.specs.Judging.{search_by}
 use Rattle.question_model.specs.SearchRulesReport.{IsToldNeed}
-use Rattle.search_rules_report.specs.Findings.{told_need}
+use Rattle.question_reports.specs.SearchRulesFindings.{told_need}
 use Rattle.first_crashes.proofs.workloads.needed_workloads.Given as goal
 
 abbrev pub invariant-loop-group : goal.invariant-loop-group

@@ -1,7 +1,0 @@
-use Rattle.std.proofs.Common.{◌≡◌, ◌++◌, string_bytes, take}
-use Rattle.enough_report.specs.Found.{set_items}
-use Rattle.enough_report.proofs.json.write_sets.Given as goal
-
-abbrev pub invariant-loop-at : goal.invariant-loop-at
-invariant-loop-at g l = string_bytes l.out ≡ string_bytes l.initial.out
-    ++ set_items l.ordering.rules.items (take l.at l.sets)

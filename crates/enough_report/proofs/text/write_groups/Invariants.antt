@@ -1,7 +1,0 @@
-use Rattle.std.proofs.Common.{◌≡◌, ◌++◌, string_bytes, take}
-use Rattle.enough_report.specs.Found.{group_lines}
-use Rattle.enough_report.proofs.text.write_groups.Given as goal
-
-abbrev pub invariant-loop-needed : goal.invariant-loop-needed
-invariant-loop-needed g l = string_bytes l.out ≡ string_bytes l.initial.out
-    ++ group_lines l.ordering.rules.items l.patches (take l.needed-index l.groups)

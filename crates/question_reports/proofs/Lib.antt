@@ -1,0 +1,11 @@
+pub mod DecisionFaults
+pub mod DecisionPieces
+pub mod EnoughPieces
+pub mod Acts
+pub mod SearchForms
+pub mod SearchJsonPieces
+pub mod Lent
+pub mod SearchTextPieces
+pub mod SearchRulesForms
+pub mod SearchRulesJsonPieces
+pub mod SearchRulesTextPieces

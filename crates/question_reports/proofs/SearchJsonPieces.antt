@@ -1,0 +1,164 @@
+-- A report as JSON, written piece by piece.
+use Rattle.std.proofs.Common.{◌≡◌, ℕ, List, [], ◌++◌, length, map, codes, decimal, sym, ap, ◌∙◌, append_assoc}
+use Rattle.std.proofs.lemmas.Simd.{map-map}
+use Rattle.crash_model.specs.Lists.{join_of}
+use Rattle.crash_model.specs.Texts.{fault_text, module_text}
+use Rattle.report_model.specs.Report.{ids_json, json_array, json_string, replay_json}
+use Rattle.report_model.specs.Report.{write_json}
+use Rattle.report_model.specs.Whole.{atomic_json, rules_json, told_with, told_without}
+use Rattle.crash_model.specs.declared.settings.Settings.{Settings}
+use Rattle.crash_model.specs.declared.steps.Step.{Step}
+use Rattle.report_json.specs.JsonReport.{strict_key, whole_key}
+use Rattle.report_sections.specs.Replay.{told_replay}
+use Rattle.question_model.specs.Kinds.{kind_number, kind_name}
+use Rattle.question_model.specs.Refused.{refusal_number, refusal_text}
+use Rattle.question_model.specs.SearchReport.{json_search, kind_json, refused_json, step_text}
+use Rattle.question_model.specs.declared.found.Found.{Found}
+use Rattle.question_model.specs.declared.found.RefusedCount.{RefusedCount}
+use Rattle.question_reports.specs.SearchFindings.{kind_head, kind_items, last_keys, ordering_keys, told_kind, told_kinds}
+use Rattle.question_reports.specs.declared.search.findings.KindCrash.{KindCrash}
+use Rattle.question_reports.specs.declared.search.findings.SearchFindings.{SearchFindings}
+
+-- the object of a reason
+pub refusal_pieces : (r : RefusedCount) (number : ℕ) (text before after : List ℕ) → number ≡ refusal_number r.reason
+    → text ≡ refusal_text r.reason
+    → after ≡ before ++ (codes "{\"count\":" ++ (decimal r.count ++ (codes ",\"number\":" ++ (decimal number
+    ++ (codes ",\"text\":\"" ++ (text ++ codes "\"}"))))))
+    → after ≡ before ++ refused_json r
+refusal_pieces r number text before after number_is text_is wrote =
+    let told = λ (n : ℕ) (t : List ℕ). codes "{\"count\":" ++ (decimal r.count ++ (codes ",\"number\":" ++ (decimal n
+    ++ (codes ",\"text\":\"" ++ (t ++ codes "\"}"))))) in
+    wrote ∙ (ap (λ (n : ℕ). before ++ told n text) number_is
+    ∙ (ap (λ (t : List ℕ). before ++ told (refusal_number r.reason) t) text_is
+    ∙ ap (λ (t : List ℕ). before ++ t) (regroup (codes "{\"count\":") (decimal r.count) (codes ",\"number\":")
+    (decimal (refusal_number r.reason)) (codes ",\"text\":") (codes "\"") (refusal_text r.reason) (codes "}"))))
+  where
+    regroup : (a b c d e q f g : List ℕ)
+        → a ++ (b ++ (c ++ (d ++ ((e ++ q) ++ (f ++ (q ++ g)))))) ≡ a ++ b ++ c ++ d ++ e ++ (q ++ f ++ q) ++ g
+    regroup a b c d e q f g = simp append_assoc
+
+-- the keys of a kind's object before the set
+pub kind_head_pieces : {A : Type 0} (k : KindCrash A) (number : ℕ) (name before one two three after : List ℕ)
+    → number ≡ kind_number k.shown.now.kind → name ≡ kind_name k.shown.now.kind
+    → one ≡ before ++ codes "{\"faults\":["
+    → two ≡ one ++ join_of 44 (map (λ f. json_string (fault_text f)) k.section.faults.items)
+    → three ≡ two ++ (codes "],\"kind\":" ++ (decimal number ++ (codes ",\"name\":\"" ++ (name ++ codes "\","))))
+    → after ≡ three ++ replay_json (told_replay k.section.replay)
+    → after ≡ before ++ kind_head k
+kind_head_pieces k number name before one two three after number_is name_is first second third fourth =
+    let kind = k.shown.now.kind in
+    let faults = join_of 44 (map (λ f. json_string (fault_text f)) k.section.faults.items) in
+    let replay = replay_json (told_replay k.section.replay) in
+    let keys = λ (n : ℕ) (text : List ℕ). codes "],\"kind\":" ++ (decimal n ++ (codes ",\"name\":\"" ++ (text
+    ++ codes "\","))) in
+    fourth ∙ (ap (λ (t : List ℕ). t ++ replay) (third ∙ (ap (λ (n : ℕ). two ++ keys n name) number_is
+    ∙ (ap (λ (text : List ℕ). two ++ keys (kind_number kind) text) name_is
+    ∙ ap (λ (t : List ℕ). t ++ keys (kind_number kind) (kind_name kind))
+    (second ∙ ap (λ (t : List ℕ). t ++ faults) first))))
+    ∙ regroup before (codes "{\"faults\":") (codes "[") faults (codes "]") (codes ",\"kind\":")
+    (decimal (kind_number kind)) (codes ",\"name\":") (codes "\"") (kind_name kind) (codes ",") replay)
+  where
+    regroup : (before a o f p b n c q m d r : List ℕ)
+        → before ++ (a ++ o) ++ f ++ ((p ++ b) ++ (n ++ ((c ++ q) ++ (m ++ (q ++ d))))) ++ r
+        ≡ before ++ (a ++ (o ++ f ++ p) ++ b ++ n ++ c ++ (q ++ m ++ q) ++ d ++ r)
+    regroup before a o f p b n c q m d r = simp append_assoc
+
+-- the object of a kind
+pub kind_pieces : {A : Type 0} (pool : List Step) (k : KindCrash A) (n : ℕ)
+    (before one two three four five six seven after : List ℕ) → n ≡ k.patches
+    → one ≡ before ++ kind_head k
+    → two ≡ one ++ codes "\"set\":"
+    → three ≡ two ++ ids_json k.patches k.section.set
+    → four ≡ three ++ codes ",\"steps\":["
+    → five ≡ four ++ join_of 44 (map (λ step. json_string (step_text step)) (told_kind pool k).steps)
+    → six ≡ five ++ (codes "],\"workloads\":" ++ (decimal k.shown.now.workloads ++ codes ",\"writes\":["))
+    → seven ≡ six ++ join_of 44 (map (write_json n) k.section.writes.items)
+    → after ≡ seven ++ codes "]}"
+    → after ≡ before ++ kind_json (told_kind pool k)
+kind_pieces pool k n before one two three four five six seven after n_is first second third fourth fifth sixth seventh
+    eighth =
+    let texts = join_of 44 (map (λ step. json_string (step_text step)) (told_kind pool k).steps) in
+    let writes = join_of 44 (map (write_json k.patches) k.section.writes.items) in
+    let ids = ids_json k.patches k.section.set in
+    let count = codes "],\"workloads\":" ++ (decimal k.shown.now.workloads ++ codes ",\"writes\":[") in
+    let set : three ≡ before ++ kind_head k ++ codes "\"set\":" ++ ids = third ∙ ap (λ (t : List ℕ). t ++ ids)
+    (second ∙ ap (λ (t : List ℕ). t ++ codes "\"set\":") first) in
+    let told : five ≡ before ++ kind_head k ++ codes "\"set\":" ++ ids ++ codes ",\"steps\":[" ++ texts =
+    fifth ∙ ap (λ (t : List ℕ). t ++ texts) (fourth ∙ ap (λ (t : List ℕ). t ++ codes ",\"steps\":[") set) in
+    eighth ∙ (ap (λ (t : List ℕ). t ++ codes "]}") (seventh
+    ∙ (ap (λ (j : ℕ). six ++ join_of 44 (map (write_json j) k.section.writes.items)) n_is
+    ∙ ap (λ (t : List ℕ). t ++ writes) (sixth ∙ ap (λ (t : List ℕ). t ++ count) told)))
+    ∙ regroup before (kind_head k) (codes "\"set\":") ids (codes ",\"steps\":") (codes "[") texts
+    (codes "]") (codes ",\"workloads\":") (decimal k.shown.now.workloads) (codes ",\"writes\":") writes (codes "}"))
+  where
+    regroup : (before h s i t o p q w n x y z : List ℕ)
+        → before ++ h ++ s ++ i ++ (t ++ o) ++ p ++ ((q ++ w) ++ (n ++ (x ++ o))) ++ y ++ (q ++ z)
+        ≡ before ++ (h ++ s ++ i ++ t ++ (o ++ p ++ q) ++ w ++ n ++ x ++ (o ++ y ++ q) ++ z)
+    regroup before h s i t o p q w n x y z = simp append_assoc
+
+-- the keys behind the module's
+pub last_pieces : (settings : Settings) (most pool : ℕ) (found : Found) (before one two three four after : List ℕ)
+    → one ≡ before ++ (codes ",\"pool\":" ++ (decimal pool ++ codes ",\"refused\":["))
+    → two ≡ one ++ join_of 44 (map refused_json found.refused.items)
+    → three ≡ two ++ (codes "],\"search\":" ++ decimal most)
+    → four ≡ three ++ ordering_keys settings
+    → after ≡ four ++ (codes ",\"workloads\":" ++ (decimal found.workloads ++ codes "}\n"))
+    → after ≡ before ++ last_keys settings most pool found
+last_pieces settings most pool found before one two three four after first second third fourth fifth =
+    let number = codes ",\"pool\":" ++ (decimal pool ++ codes ",\"refused\":[") in
+    let refused = join_of 44 (map refused_json found.refused.items) in
+    let longest = codes "],\"search\":" ++ decimal most in
+    let keys = ordering_keys settings in
+    let end = codes ",\"workloads\":" ++ (decimal found.workloads ++ codes "}\n") in
+    fifth ∙ (ap (λ (t : List ℕ). t ++ end) (fourth ∙ ap (λ (t : List ℕ). t ++ keys)
+    (third ∙ ap (λ (t : List ℕ). t ++ longest) (second ∙ ap (λ (t : List ℕ). t ++ refused) first)))
+    ∙ regroup before (codes ",\"pool\":") (decimal pool) (codes ",\"refused\":") (codes "[") refused (codes "]")
+    (codes ",\"search\":") (decimal most) keys (codes ",\"workloads\":") (decimal found.workloads) (codes "}\n"))
+  where
+    regroup : (before e n f o r p g s k h w i : List ℕ)
+        → before ++ (e ++ (n ++ (f ++ o))) ++ r ++ ((p ++ g) ++ s) ++ k ++ (h ++ (w ++ i))
+        ≡ before ++ (e ++ n ++ f ++ (o ++ r ++ p) ++ g ++ s ++ k ++ h ++ w ++ i)
+    regroup before e n f o r p g s k h w i = simp append_assoc
+
+-- the whole object
+pub json_pieces : {A : Type 0} (f : SearchFindings A) (empty zero half one two three four last : List ℕ)
+    → empty ≡ []
+    → zero ≡ empty ++ codes "{"
+    → half ≡ zero ++ atomic_json f.settings.now.atomic
+    → one ≡ half ++ (codes "\"failing\":" ++ (decimal f.found.now.failing ++ codes ",\"kinds\":["))
+    → two ≡ one ++ kind_items f.pool.now f.kinds.now
+    → three ≡ two ++ codes "]"
+    → four ≡ three ++ (codes ",\"module\":" ++ json_string (module_text f.settings.now.module))
+    → last ≡ four ++ last_keys f.settings.now f.most (length f.pool.now) f.found.now
+    → last ≡ json_search f.settings.now f.most (length f.pool.now) f.found.now (told_kinds f)
+unfolding json_search
+json_pieces {A = A} f empty zero half one two three four last none opened atomic_is first second third fourth fifth =
+    let settings = f.settings.now in
+    let found = f.found.now in
+    let pool = length f.pool.now in
+    let atomic = atomic_json settings.atomic in
+    let fails = codes "\"failing\":" ++ (decimal found.failing ++ codes ",\"kinds\":[") in
+    let head = (codes "{" ++ atomic) ++ fails in
+    let kinds = join_of 44 (map kind_json (told_kinds f)) in
+    let name = codes ",\"module\":" ++ json_string (module_text settings.module) in
+    let end = last_keys settings f.most pool found in
+    fifth ∙ (ap (λ (t : List ℕ). t ++ end) (fourth ∙ ap (λ (t : List ℕ). t ++ name)
+    (third ∙ ap (λ (t : List ℕ). t ++ codes "]")
+    (second ∙ (ap (λ (ts : List (List ℕ)). one ++ join_of 44 ts)
+    (sym (map-map kind_json (told_kind {A = A} f.pool.now) f.kinds.now))
+    ∙ ap (λ (t : List ℕ). t ++ kinds) (first ∙ ap (λ (t : List ℕ). t ++ fails)
+    (atomic_is ∙ ap (λ (t : List ℕ). t ++ atomic) (opened ∙ ap (λ (t : List ℕ). t ++ codes "{") none)))))))
+    ∙ regroup (codes "{") atomic (codes "\"failing\":") (decimal found.failing) (codes ",\"kinds\":") (codes "[") kinds
+    (codes "]")
+    (codes ",\"module\":") (json_string (module_text settings.module)) (codes ",\"pool\":") (decimal pool)
+    (codes ",\"refused\":") (json_array (map refused_json found.refused.items)) (codes ",\"search\":")
+    (decimal f.most) (strict_key settings.strict) (whole_key settings.whole_blocks)
+    (rules_json (codes "with") (told_with settings)) (rules_json (codes "without") (told_without settings))
+    (codes ",\"workloads\":") (decimal found.workloads) (codes "}\n"))
+  where
+    regroup : (j u a b c o k p d m e n f r g s x v y z h w i : List ℕ)
+        → ((j ++ u) ++ (a ++ (b ++ (c ++ o)))) ++ k ++ p ++ (d ++ m)
+        ++ (e ++ n ++ f ++ r ++ g ++ s ++ (x ++ v ++ y ++ z) ++ h ++ w ++ i)
+        ≡ j ++ u ++ a ++ b ++ c ++ (o ++ k ++ p) ++ d ++ m ++ e ++ n ++ f ++ r ++ g ++ s ++ x ++ v ++ y ++ z ++ h ++ w
+        ++ i
+    regroup j u a b c o k p d m e n f r g s x v y z h w i = simp append_assoc

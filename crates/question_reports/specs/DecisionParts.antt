@@ -1,0 +1,63 @@
+-- What is written of a decision.
+use Rattle.std.specs.Prelude.{◌≡◌, ℕ, List, ◌++◌, length, map, codes, decimal}
+use Rattle.crash_model.specs.declared.separators.TheConstants.{COMMA}
+use Rattle.report_model.specs.Answer.{detail_of}
+use Rattle.crash_model.specs.Disk.{Disk}
+use Rattle.report_model.specs.Explain.{explanation_text}
+use Rattle.crash_model.specs.Lists.{join_of, when}
+use Rattle.report_model.specs.Report.{Detail, AreSections, line}
+use Rattle.crash_model.specs.declared.patches.Patch.{Patch}
+use Rattle.crash_model.specs.declared.settings.Settings.{Settings}
+use Rattle.question_model.specs.Decision as model
+use Rattle.question_model.specs.Decision.{ToldDecided, ordering_text, decided_json}
+use Rattle.question_model.specs.declared.decided_fault.DecidedFault.{DecidedFault}
+use Rattle.traced_patches.specs.Traced.{TracedPatches}
+use Rattle.report_sections.specs.Bodies.{AreOnBase, AreClosed, explanation_by}
+use Rattle.question_reports.specs.declared.decision.findings.Decision.{Decision}
+
+-- what the decision says about a set
+abbrev pub detail_by : {A : Type 0} → Decision A → Detail
+detail_by decision = detail_of decision.settings.now decision.demands.now
+
+-- what can be reported: patches of the base, and first sets that a crash can leave
+pub record CanReport {A : Type 0} (decision : Decision A) : Type 0 where
+  pub on_base : AreOnBase decision.base.now decision.traced.now.patches
+  pub closed : AreClosed decision.traced.now.patches (map (λ fault. fault.first) decision.faults.now)
+
+-- the decision as its definition sees it, if this is reported of its faults
+abbrev pub decision_of : {A : Type 0} → Decision A → List ToldDecided → model.Decision
+decision_of decision told = record {
+  patches = length decision.traced.now.patches;
+  closed = decision.closed;
+  explanation = when decision.settings.now.explain (explanation_by decision.base.now decision.traced.now);
+  faults = told;
+}
+
+-- the text is the decision in this form, with the section of each fault's first set
+pub record WritesDecision {A : Type 0} (form : Settings → model.Decision → List ℕ) (decision : Decision A)
+    (text : List ℕ) : Type 0 where
+  pub told : List ToldDecided
+  pub of_faults : map (λ t. t.decided) told ≡ decision.faults.now
+  pub firsts : AreSections (detail_by decision) decision.base.now decision.traced.now.patches
+      (map (λ fault. fault.first) decision.faults.now) (map (λ t. t.first) told)
+  pub whole : text ≡ form decision.settings.now (decision_of decision told)
+
+-- after its earlier contents the text has these faults in this form, with the sections of their first sets
+pub record WritesFaults (detail : Detail) (base : Disk) (patches : List Patch) (faults : List DecidedFault)
+    (form : List ToldDecided → List ℕ) (old new : List ℕ) : Type 0 where
+  pub told : List ToldDecided
+  pub of_faults : map (λ t. t.decided) told ≡ faults
+  pub firsts : AreSections detail base patches (map (λ fault. fault.first) faults) (map (λ t. t.first) told)
+  pub whole : new ≡ old ++ form told
+
+-- the lines before the first fault
+abbrev pub head_lines : Settings → Disk → TracedPatches → ℕ → List ℕ
+head_lines settings base t closed =
+    ordering_text settings
+    ++ line (codes "patches " ++ decimal (length t.patches))
+    ++ line (codes "closed " ++ decimal closed)
+    ++ explanation_text (when settings.explain (explanation_by base t))
+
+-- the objects of faults, with a comma between two, where patches are n in all
+abbrev pub fault_items : ℕ → List ToldDecided → List ℕ
+fault_items n told = join_of COMMA (map (decided_json n) told)

@@ -1,0 +1,48 @@
+-- What is found of the rules that a script needs, as the definition of the report sees it.
+use Rattle.std.specs.Prelude.{ℕ, List, ◌++◌, codes, length, map, flat_map, option_map}
+use Rattle.crash_model.specs.declared.separators.TheConstants.{COMMA}
+use Rattle.crash_model.specs.Lists.{join_of, when}
+use Rattle.crash_model.specs.Texts.{fault_text}
+use Rattle.report_model.specs.Report.{json_string, replay_json}
+use Rattle.crash_model.specs.declared.rules.Rule.{Rule}
+use Rattle.question_model.specs.Decision.{ToldDecided}
+use Rattle.question_model.specs.EnoughReport.{RulesReport, ToldGroup, set_json, group_json, group_text}
+use Rattle.report_sections.specs.Bodies.{explanation_by}
+use Rattle.report_sections.specs.Sections.{section_of}
+use Rattle.question_reports.specs.declared.enough.findings.EnoughFindings.{EnoughFindings}
+use Rattle.question_reports.specs.declared.enough.findings.FirstFault.{FirstFault}
+use Rattle.question_reports.specs.declared.enough.findings.NeededGroup.{NeededGroup}
+
+abbrev pub told_first : {A : Type 0} → FirstFault A → ToldDecided
+told_first f = record { decided = f.decided; first = section_of f.section }
+
+abbrev pub told_group : {A : Type 0} → NeededGroup A → ToldGroup
+told_group needed = record { group = needed.group; fault = told_first needed.fault }
+
+abbrev pub report_of : {A : Type 0} → EnoughFindings A → RulesReport
+report_of f = record {
+  patches = length f.traced.now.patches;
+  closed = f.closed;
+  explanation = when f.settings.now.explain (explanation_by f.base.now f.traced.now);
+  enough = f.enough.now;
+  needs = map told_group f.needs.now;
+  first = option_map told_first f.first.now;
+}
+
+-- the lines of groups, where patches are n in all
+abbrev pub group_lines : {A : Type 0} → List Rule → ℕ → List (NeededGroup A) → List ℕ
+group_lines rules n groups = flat_map (λ needed. group_text rules n (told_group needed)) groups
+
+-- the arrays of sets and the objects of groups, with a comma between two
+abbrev pub set_items : List Rule → List ℕ → List ℕ
+set_items rules sets = join_of COMMA (map (set_json rules) sets)
+
+abbrev pub group_items : {A : Type 0} → List Rule → ℕ → List (NeededGroup A) → List ℕ
+group_items rules n groups = join_of COMMA (map (λ needed. group_json rules n (told_group needed)) groups)
+
+-- the keys of a group's object before the set
+abbrev pub group_head : List Rule → ℕ → ToldDecided → List ℕ
+group_head rules group fault =
+    codes "{\"fault\":" ++ json_string (fault_text fault.decided.fault) ++ codes ","
+    ++ replay_json fault.first.replay
+    ++ codes "\"rules\":" ++ set_json rules group

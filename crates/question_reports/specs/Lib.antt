@@ -1,0 +1,4 @@
+pub mod DecisionParts
+pub mod EnoughFindings
+pub mod SearchFindings
+pub mod SearchRulesFindings

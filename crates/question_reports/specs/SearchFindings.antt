@@ -1,0 +1,69 @@
+-- What a search finds, as the definition of the report sees it.
+use Rattle.std.specs.Prelude.{ℕ, List, [], ◌++◌, map, flat_map, if◌then◌else◌, codes, decimal}
+use Rattle.crash_model.specs.declared.separators.TheConstants.{COMMA}
+use Rattle.crash_model.specs.Lists.{join_of}
+use Rattle.crash_model.specs.Texts.{fault_text}
+use Rattle.report_model.specs.Report.{json_array, json_string, replay_json}
+use Rattle.report_model.specs.Whole.{told_with, told_without, rules_json}
+use Rattle.crash_model.specs.declared.settings.Settings.{Settings}
+use Rattle.crash_model.specs.declared.steps.Act.{Act}
+use Rattle.crash_model.specs.declared.steps.Step.{Step}
+use Rattle.report_json.specs.JsonReport.{strict_key, whole_key}
+use Rattle.report_sections.specs.Replay.{told_replay}
+use Rattle.report_sections.specs.Sections.{section_of}
+use Rattle.question_model.specs.Kinds.{kind_number, kind_name}
+use Rattle.question_model.specs.SearchReport.{ToldKind, kind_json, kind_text, refused_json}
+use Rattle.question_model.specs.Workloads.{steps_at}
+use Rattle.question_model.specs.declared.found.Found.{Found}
+use Rattle.question_reports.specs.declared.search.findings.KindCrash.{KindCrash}
+use Rattle.question_reports.specs.declared.search.findings.SearchFindings.{SearchFindings}
+
+-- what the steps at these places of a pool ask for
+abbrev pub acts_at : List Step → List ℕ → List Act
+acts_at pool places = map (λ step. step.act) (steps_at pool places)
+
+-- a kind of fault, whose steps are at its places of the pool
+abbrev pub told_kind : {A : Type 0} → List Step → KindCrash A → ToldKind
+told_kind pool k = record {
+  shown = k.shown.now;
+  steps = steps_at pool k.shown.now.places.items;
+  patches = k.patches;
+  first = section_of k.section;
+}
+
+abbrev pub told_kinds : {A : Type 0} → SearchFindings A → List ToldKind
+told_kinds f = map (told_kind f.pool.now) f.kinds.now
+
+-- the lines of kinds
+abbrev pub kind_lines : {A : Type 0} → List Step → List (KindCrash A) → List ℕ
+kind_lines pool kinds = flat_map (λ k. kind_text (told_kind pool k)) kinds
+
+-- their objects, with a comma between two
+abbrev pub kind_items : {A : Type 0} → List Step → List (KindCrash A) → List ℕ
+kind_items pool kinds = join_of COMMA (map (λ k. kind_json (told_kind pool k)) kinds)
+
+-- the keys of a kind's object before the set
+abbrev pub kind_head : {A : Type 0} → KindCrash A → List ℕ
+kind_head k =
+    codes "{\"faults\":" ++ json_array (map (λ f. json_string (fault_text f)) k.section.faults.items)
+    ++ codes ",\"kind\":" ++ decimal (kind_number k.shown.now.kind)
+    ++ codes ",\"name\":" ++ json_string (kind_name k.shown.now.kind) ++ codes ","
+    ++ replay_json (told_replay k.section.replay)
+
+-- the keys that say that the run is strict, that blocks are written whole, and which rules are put in and taken out
+abbrev pub ordering_keys : Settings → List ℕ
+ordering_keys settings =
+    strict_key settings.strict
+    ++ whole_key settings.whole_blocks
+    ++ rules_json (codes "with") (told_with settings)
+    ++ rules_json (codes "without") (told_without settings)
+
+-- the keys after the module's, the object's end and a line feed; a pool has so many operations
+abbrev pub last_keys : Settings → ℕ → ℕ → Found → List ℕ
+last_keys settings most pool found =
+    codes ",\"pool\":" ++ decimal pool
+    ++ codes ",\"refused\":" ++ json_array (map refused_json found.refused.items)
+    ++ codes ",\"search\":" ++ decimal most
+    ++ ordering_keys settings
+    ++ codes ",\"workloads\":" ++ decimal found.workloads
+    ++ codes "}\n"

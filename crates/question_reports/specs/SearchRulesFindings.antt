@@ -1,0 +1,32 @@
+-- What a search finds of the rules that its workloads need, as the definition of the report sees it.
+use Rattle.std.specs.Prelude.{ℕ, List, map, flat_map}
+use Rattle.crash_model.specs.declared.separators.TheConstants.{COMMA}
+use Rattle.crash_model.specs.Lists.{join_of}
+use Rattle.crash_model.specs.declared.rules.Rule.{Rule}
+use Rattle.crash_model.specs.declared.steps.Step.{Step}
+use Rattle.question_reports.specs.EnoughFindings.{told_first}
+use Rattle.question_model.specs.Workloads.{steps_at}
+use Rattle.question_model.specs.SearchRulesReport.{ToldNeed, need_json, need_text}
+use Rattle.question_reports.specs.declared.search_rules.findings.NeededWorkload.{NeededWorkload}
+use Rattle.question_reports.specs.declared.search_rules.findings.SearchRulesFindings.{SearchRulesFindings}
+
+-- a group of which one rule is needed; the steps of its workload are at its places of the pool
+abbrev pub told_need : {A : Type 0} → List Step → NeededWorkload A → ToldNeed
+told_need pool needed = record {
+  group = needed.group;
+  places = needed.places.items;
+  steps = steps_at pool needed.places.items;
+  patches = needed.patches;
+  fault = told_first needed.fault;
+}
+
+abbrev pub told_needs : {A : Type 0} → SearchRulesFindings A → List ToldNeed
+told_needs f = map (told_need f.pool.now) f.needs.now
+
+-- the lines of groups
+abbrev pub need_lines : {A : Type 0} → List Rule → List Step → List (NeededWorkload A) → List ℕ
+need_lines rules pool needs = flat_map (λ needed. need_text rules (told_need pool needed)) needs
+
+-- their objects, with a comma between two
+abbrev pub need_items : {A : Type 0} → List Rule → List Step → List (NeededWorkload A) → List ℕ
+need_items rules pool needs = join_of COMMA (map (λ needed. need_json rules (told_need pool needed)) needs)

@@ -1,0 +1,11 @@
+//! Reports of the rules that a script needs, as text and as JSON.
+
+pub mod findings;
+pub mod json;
+pub mod report;
+pub mod text;
+
+pub use findings::{EnoughFindings, FirstFault, NeededGroup};
+pub use json::enough_json;
+pub use report::enough_report;
+pub use text::enough_text;

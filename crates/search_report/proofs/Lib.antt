@@ -1,5 +1,0 @@
-pub mod Acts
-pub mod Forms
-pub mod JsonPieces
-pub mod Lent
-pub mod TextPieces

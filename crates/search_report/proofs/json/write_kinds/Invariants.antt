@@ -1,6 +1,0 @@
-use Rattle.std.proofs.Common.{◌≡◌, ◌++◌, string_bytes, take}
-use Rattle.search_report.specs.Findings.{kind_items}
-use Rattle.search_report.proofs.json.write_kinds.Given as goal
-
-abbrev pub invariant-loop-at : goal.invariant-loop-at
-invariant-loop-at g l = string_bytes l.out ≡ string_bytes l.initial.out ++ kind_items l.pool (take l.at l.kinds)

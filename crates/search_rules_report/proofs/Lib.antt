@@ -1,3 +1,0 @@
-pub mod Forms
-pub mod JsonPieces
-pub mod TextPieces

@@ -1,7 +1,0 @@
-use Rattle.std.proofs.Common.{◌≡◌, ◌++◌, string_bytes, take}
-use Rattle.search_rules_report.specs.Findings.{need_items}
-use Rattle.search_rules_report.proofs.json.write_needs.Given as goal
-
-abbrev pub invariant-loop-at : goal.invariant-loop-at
-invariant-loop-at g l = string_bytes l.out ≡ string_bytes l.initial.out
-    ++ need_items l.ordering.rules.items l.pool (take l.at l.needs)
