@@ -1,15 +1,12 @@
 -- A kind of fault in the report.
 use Rattle.std.proofs.Common.{◌≡◌, ℕ, ◌<◌, List, [], ◌∷◌, Bool, length, subst, sym, ◌∙◌}
-use Rattle.std.specs.Prelude.{Result, Ok, Err}
 use Rattle.std.specs.List.{All}
 use Rattle.std.proofs.lemmas.List.Elements.{All-nil, All-cons, All-head}
 use Rattle.patch_sets.specs.Closed.{IsClosed}
 use Rattle.crash_model.specs.Patches.{deps_of}
 use Rattle.report_model.specs.Report.{Detail, AreSections, IsLed}
 use Rattle.crash_model.specs.Checker.{Demands, AreDemands}
-use Rattle.crash_model.specs.Trace.{Tracing, trace_start, trace_from}
 use Rattle.crash_model.specs.declared.patches.Patch.{Patch}
-use Rattle.crash_model.specs.declared.refusals.TraceFault.{TraceFault}
 use Rattle.crash_model.specs.declared.steps.Step.{Step}
 use Rattle.report_model.proofs.Leading.{sections_lead}
 use Rattle.report_sections.specs.Sections.{section_of, IsSection}
@@ -19,16 +16,8 @@ use Rattle.question_model.specs.Found.{IsShown}
 use Rattle.question_model.specs.SearchReport.{IsToldKind}
 use Rattle.question_model.specs.Workloads.{Search, HasPatches, steps_at}
 use Rattle.question_model.specs.declared.found.ShownKind.{ShownKind}
-use Rattle.first_crashes.specs.Kinds.{IsTraced, HaveGraph}
-
--- steps that are traced are not refused
-pub never_refused : (s : Search) (steps : List Step) (fault : TraceFault) → IsTraced s steps
-    → ¬ (trace_from s.ordering (trace_start s.whole s.base) steps ≡ Err fault)
-never_refused s steps fault traced refused =
-    apart (trace_from s.ordering (trace_start s.whole s.base) steps) traced.0 traced.1 refused
-  where
-    apart : (answer : Result Tracing TraceFault) (last : Tracing) → answer ≡ Ok last → answer ≡ Err fault → ⊥
-    apart answer last is also = cc
+use Rattle.pool_judging.specs.Traces.{IsTraced}
+use Rattle.first_crashes.specs.Kinds.{HaveGraph}
 
 module _ (s : Search) (shown : ShownKind) (is : IsShown s shown) where
   abbrev places : List ℕ

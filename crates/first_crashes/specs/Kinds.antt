@@ -13,10 +13,6 @@ abbrev pub told_kind : {A : Type 0} → ShownKind → KindSection A → ToldKind
 told_kind shown told =
     record { shown = shown; steps = told.steps.items; patches = told.patches; first = section_of told.section }
 
--- none of the steps is refused
-abbrev pub IsTraced : Search → List Step → Type 0
-IsTraced s steps = (last : Tracing) × (trace_from s.ordering (trace_start s.whole s.base) steps ≡ Ok last)
-
 -- the patches are those of the steps
 abbrev pub HaveGraph : Search → List Step → List Patch → Type 0
 HaveGraph s steps patches =

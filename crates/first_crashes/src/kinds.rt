@@ -5,13 +5,12 @@ ghost use Rattle.std.specs.List.{All};
 ghost use Rattle.question_model.specs.Found.{IsShown};
 ghost use Rattle.question_model.specs.SearchReport.{IsToldKind};
 ghost use Rattle.pool_judging.specs.Judging.{search_by};
-ghost use Rattle.first_crashes.specs.Kinds.{told_kind, IsTraced, HaveGraph};
+ghost use Rattle.pool_judging.specs.Traces.{IsTraced};
+ghost use Rattle.first_crashes.specs.Kinds.{told_kind, HaveGraph};
 
-use crash_model::refusals::TraceFault;
 use crash_model::steps::Step;
-use order_modules::trace;
 use patch_graph::Graph;
-use pool_judging::PoolJudge;
+use pool_judging::{PoolJudge, traced_of};
 use question_model::ShownKind;
 use report_sections::Section;
 use section_maker::SectionMaker;
@@ -57,11 +56,6 @@ fn graph_of<A: Allocator + Copy>(
     ensures graph { IfOk result (HaveGraph (search_by judge.now) steps.now) }
     ensures fits { IfOk result (λ graph. All (λ patch. patch.block < judge.now.base.now.blocks) graph) }
 {
-    match trace(judge.alloc, judge.base, steps, judge.ordering) {
-        Ok(traced) => Ok(traced.into_graph()),
-        Err(fault) => match fault {
-            TraceFault::OutOfMemory => Err(AllocError),
-            _ => unreachable!(),
-        },
-    }
+    let traced = traced_of(judge, steps)?;
+    Ok(traced.into_graph())
 }
