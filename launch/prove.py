@@ -1,7 +1,7 @@
 """Proves and builds a program by the gate's own command, in a copy of the crates that it needs.
 
-In the checkout `rt ci` would prove the tests and try the wrong bodies too; the copy has neither. The proofs are kept on
-the machine for the gate, and those of the gate are taken. `rt ci NAME` keeps proofs as well, but gives no program.
+In the checkout `rt ci` would prove the tests and try the wrong bodies too; the copy has neither. Where the kit keeps
+proofs on the machine, the gate and this command use what the other has proved.
 """
 
 import argparse

@@ -20,12 +20,12 @@ GROUPS = {
         "report_model/Report", "report_model/Explain", "report_model/Summary", "report_model/Needs",
         "report_model/Whole"],
     6: ["report_model/Answer"],
-    7: ["decision_model/Decided", "decision_model/Decision"],
-    8: ["enough_model/Enough", "enough_model/EnoughReport"],
-    9: ["search_model/" + name for name in
+    7: ["question_model/Decided", "question_model/Decision"],
+    8: ["question_model/Enough", "question_model/EnoughReport"],
+    9: ["question_model/" + name for name in
         ("Kinds", "Most", "Refused", "Sequences", "Workloads", "Found", "SearchReport")],
-    10: ["search_rules_model/EnoughFor", "search_rules_model/SearchRulesReport"],
-    11: ["questions/Answers"],
+    10: ["question_model/EnoughFor", "question_model/SearchRulesReport"],
+    11: ["question_model/Answers"],
 }
 
 # What each question needs besides a plain run, as places: a file, a file and the names of its definitions, or a file
@@ -60,7 +60,7 @@ ROWS = {
     "--decide": ["group 7", "group 11", "crash_model/FaultRows numbers_of IsFaultBefore IsFirst"],
     "--enough": ["group 7", "group 8", "group 11", "crash_model/FaultRows numbers_of IsFaultBefore IsFirst",
                  "crash_model/RuleUse HasGraphBy", "patch_sets/Sets IsSubset"],
-    "--search": ["group 9", "group 11", "decision_model/Decision ordering_text",
+    "--search": ["group 9", "group 11", "question_model/Decision ordering_text",
                  "crash_model/FaultRows HasFault IsFirst"],
     "--search --enough": ["group 10"],
 }
