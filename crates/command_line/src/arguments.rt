@@ -1,8 +1,7 @@
 //! The options as `clap` knows them, and its help.
 
 use crate::numbers::{BLOCKS, JOURNAL, LIMIT, Numbers, WORKERS};
-use clap::builder::ValueParser;
-use clap::{Arg, ArgAction, Command};
+use clap::{Arg, ArgAction, Command, value_parser};
 use std::alloc::{AllocError, Global};
 
 /// What `--version` shows after the program's name.
@@ -34,7 +33,7 @@ enum Takes {
     /// One of these numbers, else the usual one.
     Number(&'static str, Numbers),
     /// A number from the first to the second, and the option goes with none of the others.
-    NumberWithout(&'static str, u64, u64, &'static [&'static str]),
+    NumberWithout(&'static str, i64, i64, &'static [&'static str]),
     /// One of the words, else the default.
     OneOf(&'static str, &'static [&'static str], &'static str),
 }
@@ -283,15 +282,16 @@ fn taking<'a>(option: Arg<'a>, takes: &'static Takes) -> Arg<'a> {
         Takes::Nothing | Takes::NothingWithout(_) | Takes::Itself => option,
         Takes::Rule => option.value_name("RULE"),
         Takes::Number(symbol, numbers) => {
-            let among = ValueParser::Unsigned(numbers.least.into(), numbers.most.into());
+            let (least, most) = (i64::from(numbers.least), i64::from(numbers.most));
+            let among = value_parser!(usize).range(least..=most);
             set(option, symbol, numbers.shown).value_parser(among)
         }
         Takes::NumberWithout(symbol, least, most, _) => {
-            let among = ValueParser::Unsigned(*least, *most);
+            let among = value_parser!(usize).range(*least..=*most);
             option.value_name(symbol).value_parser(among)
         }
         Takes::OneOf(symbol, words, default) => {
-            set(option, symbol, default).value_parser(ValueParser::Names(words))
+            set(option, symbol, default).value_parser(*words)
         }
     }
 }
