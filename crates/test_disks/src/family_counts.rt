@@ -1,6 +1,6 @@
 //! How many closed sets graphs have.
 
-use crate::graphs::{chains, grid, is_graph};
+use crate::family_graphs::{chains, grid, is_graph};
 use set_families::ClosedSets;
 use std::test::Fail;
 

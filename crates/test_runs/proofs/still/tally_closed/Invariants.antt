@@ -1,5 +1,5 @@
 use Rattle.std.proofs.Common.{◌≡◌}
-use Rattle.test_memory.proofs.still.tally_closed.Given as goal
+use Rattle.test_runs.proofs.still.tally_closed.Given as goal
 
 abbrev pub invariant-loop-set : goal.invariant-loop-set
 invariant-loop-set l = record {

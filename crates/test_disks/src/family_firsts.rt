@@ -1,6 +1,6 @@
 //! The first closed set that a question holds of.
 
-use crate::graphs::{chains, is_graph};
+use crate::family_graphs::{chains, is_graph};
 use set_families::{Both, ClosedSets, Either, HasId, LacksId};
 use std::test::Fail;
 
