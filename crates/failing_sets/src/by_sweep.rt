@@ -15,13 +15,11 @@ ghost use Rattle.failing_sets.specs.Limits.{SaysTooMany};
 use crate::crashes::Crashes;
 use crate::finder::Finder;
 use crate::watching::GateWatch;
+use crate::{CountVisitor, FailingCount, FaultVisitor, SweptFaults, sweep_count, sweep_faults};
 use crash_image::PatchSpace;
 use crash_model::refusals::RunFault;
 use explorers::{Explored, Gate};
 use fault_deciding::dependencies::dependencies;
-use crate::{
-    CountVisitor, FailingCount, FaultVisitor, SweptFaults, sweep_count, sweep_faults,
-};
 use patch_graph::Graph;
 use set_sweep::{Watch, Workers};
 use std::alloc::Allocator;

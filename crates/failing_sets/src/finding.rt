@@ -15,11 +15,11 @@ ghost use Rattle.failing_sets.specs.Limits.{SaysTooMany};
 
 use crate::crashes::Crashes;
 use crate::finder::Finder;
+use crate::{FailingCount, fault_rows};
 use crash_model::fault::FaultRow;
 use crash_model::refusals::RunFault;
 use crash_model::settings::{Explorer, MAX_BOARD, ReportBy};
 use explorers::{Explored, Gate};
-use crate::{FailingCount, fault_rows};
 use patch_graph::Graph;
 use std::alloc::Allocator;
 use std::sync::Wait;

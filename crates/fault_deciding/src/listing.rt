@@ -3,9 +3,9 @@
 ghost use Rattle.std.specs.Prelude.{IfOk, OnOk};
 ghost use Rattle.fault_deciding.specs.Asked.{AreAllOf, AreFoundByTest, HasFaultOf};
 
+use crate::candidates::possible_faults;
 use crash_model::fault::Fault;
 use disk_image::Demands;
-use crate::candidates::possible_faults;
 use known_bytes::{Chains, KnownBytes};
 use std::alloc::{AllocError, Allocator};
 

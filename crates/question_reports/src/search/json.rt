@@ -17,10 +17,10 @@ use crash_model::separators::COMMA;
 use crash_model::settings::Settings;
 use crash_model::steps::Step;
 use json_values::{KnownTexts, push_replay, push_set, write_comma};
+use question_model::{Found, RefusedCount};
 use report_json::{
     write_atomic_key, write_module_key, write_rule_key, write_strict_key, write_whole_key,
 };
-use question_model::{Found, RefusedCount};
 use std::alloc::{AllocError, Allocator, Global};
 
 /// A report of a search as JSON: one compact object, its keys in ascending order, and a line feed. The numbers of
