@@ -1,19 +1,23 @@
-//! What replay, the checker, the planner and the reads of an image answer on 1,200 images that no operation makes.
+//! What replay, the checker, the planner and the reads of an image answer on images that no operation makes.
 //!
-//! The images are filled from fixed seeds, from noise to sound images with a few bytes damaged. Each line of the
-//! output is about 100 images of one shape and size: how many were clean, the numbers of faults, of operations that
-//! were not refused and of blocks that replay changed, and the SHA-1 digest of all answers. The file `stdout` has the
-//! lines of the independent reference, which makes the same images by the same rules.
+//! First come 1,200 images that are filled from fixed seeds, from noise to sound images with a few bytes damaged. Each
+//! line of the output is about 100 images of one shape and size: how many were clean, the numbers of faults, of
+//! operations that were not refused and of blocks that replay changed, and the SHA-1 digest of all answers. Then come
+//! the images that the file `stdin` lists, each with its faults. The file `stdout` has the lines of the independent
+//! reference, which makes the same images by the same rules.
 #![tactic(auto)]
 
 mod answers;
+mod listed;
 mod noise;
 mod shapes;
 
 use answers::Answers;
+use listed::print_listed;
 use script_text::{Script, read_script};
 use shapes::{Shape, image_of};
 use std::alloc::Global;
+use std::io;
 use std::rt::Runtime;
 use std::test::Fail;
 
@@ -72,5 +76,6 @@ fn main(rt: HostRuntime) -> Result<(), Fail> {
     for (name, shape) in SHAPES {
         print_shape(&rt, &script, name, shape)?;
     }
-    Ok(())
+    let list = io::read_to_string(rt.alloc(), rt.stdin())?;
+    print_listed(&rt, list.as_str())
 }
