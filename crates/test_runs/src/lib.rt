@@ -3,7 +3,8 @@
 //! refused call leaves its graph as it was; and the calls that take no memory make no request.
 //!
 //! Each expected value comes from the specification or from the independent reference program. Whole runs of the built
-//! program are the cases of `cases/`; what a run answers with memory refused is compared with its plain answer.
+//! program are the cases of `cases/`; what a run answers with memory refused, or under a schedule that a gate holds, is
+//! compared with its plain answer.
 #![tactic(auto)]
 
 #[cfg(test)]
@@ -23,12 +24,14 @@ mod pushes;
 #[cfg(test)]
 mod refuses;
 #[cfg(test)]
+mod reports;
+#[cfg(test)]
 mod runs;
+#[cfg(test)]
+mod schedules;
 #[cfg(test)]
 mod settings;
 #[cfg(test)]
 mod standard_devices;
 #[cfg(test)]
 mod still;
-#[cfg(test)]
-mod workers;

@@ -1,12 +1,11 @@
 //! Words of the command line: which explorer, how many workers, and which question.
 
-use clap::error::ErrorKind;
 use command_line::settings_of;
 use crash_model::settings::Explorer;
 use question_model::{Most, Question};
 use std::test::Fail;
 
-/// Words, the question that they ask.
+/// Words, and the question that they ask.
 const ASKED: [(&[&str], Question); 8] = [
     (&[], Question::Visit),
     (&["--summary", "--limit=1"], Question::Visit),
@@ -25,25 +24,6 @@ const ASKED: [(&[&str], Question); 8] = [
         &["--enough", "--strict", "--search", "7"],
         Question::SearchRules(Most::Seven),
     ),
-];
-
-/// What a question about all closed sets goes without, whether it is given the default value or not.
-const LEFT_OUT: [&[&str]; 15] = [
-    &["--decide", "--limit=4096"],
-    &["--limit", "1", "--decide"],
-    &["--decide", "--explorer=auto"],
-    &["--explorer", "sweep", "--decide"],
-    &["--decide", "--summary"],
-    &["--needs", "--decide"],
-    &["--decide", "--enough"],
-    &["--enough", "--limit=4096"],
-    &["--explorer", "sweep", "--enough"],
-    &["--needs", "--enough"],
-    &["--search=2", "--enough", "--decide"],
-    &["--decide", "--search", "2"],
-    &["--search=1", "--limit=4096"],
-    &["--explorer", "auto", "--search=1"],
-    &["--summary", "--search=1"],
 ];
 
 /// Words, the explorer that they ask for, and the number of workers.
@@ -77,14 +57,4 @@ fn a_question_is_read(rt: HostRuntime) -> Result<(), Fail> {
         assert!(rt; call.request.question == question);
     }
     Ok(())
-}
-
-#[test]
-fn a_decision_goes_without_what_visits_need(rt: HostRuntime) {
-    for words in LEFT_OUT {
-        match settings_of(rt.alloc(), words) {
-            Ok(_) => assert!(rt; false),
-            Err(error) => assert!(rt; error.kind() == ErrorKind::ArgumentConflict),
-        }
-    }
 }

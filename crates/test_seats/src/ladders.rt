@@ -1,6 +1,6 @@
 //! Ladders of words, on which each word leads to the next two.
 
-ghost use Rattle.std.specs.Prelude.{◌≡◌, ◌≤◌};
+ghost use Rattle.std.specs.Prelude.{◌<◌, ◌≤◌};
 
 use explorers::{ExploreFault, Gate, OpenGate, Room, explore};
 use state_space::MAX_BOARD;
@@ -128,27 +128,23 @@ fn one_shard_may_have_all_words(rt: HostRuntime) -> Result<(), Fail> {
     Ok(())
 }
 
-/// So many workers find the words of a ladder, and claim each of them once.
-fn claims_each_once<R: Threads + Wait + Abort + AllocGlobal + Sync>(
+/// So many workers find all words of a space, which are this many, and claim each of them once.
+fn claims_each_once<K: Shape + Sync, R: Threads + Wait + Abort + AllocGlobal + Sync>(
     rt: &R,
-    ladder: &Small<Ladder>,
+    space: &Small<K>,
+    words: usize,
+    room: Room,
     workers: usize,
 ) -> Result<(), Fail>
+    requires positive { (0 < room.limit) × (0 < room.places) }
+    requires small { (room.limit ≤ MAX_BOARD) × (room.places ≤ MAX_BOARD) }
     requires workers { (1 ≤ workers) × (workers ≤ 16) }
 {
     let counter = Counter {
         claims: AtomicU64::new(0),
     };
-    let total = explore(
-        rt,
-        rt.alloc(),
-        ladder,
-        Room::for_any(300),
-        workers,
-        &counter,
-    )?
-    .total;
-    assert!(rt; total == 201 && counter.claims.load(Ordering::SeqCst) == 201);
+    let total = explore(rt, rt.alloc(), space, room, workers, &counter)?.total;
+    assert!(rt; total == words && counter.claims.load(Ordering::SeqCst) == words as u64);
     Ok(())
 }
 
@@ -159,35 +155,18 @@ fn each_word_is_claimed_once(rt: HostRuntime) -> Result<(), Fail> {
         good_to: 0,
     });
     for workers in [1, 8] {
-        claims_each_once(&rt, &ladder, workers)?;
+        claims_each_once(&rt, &ladder, 201, Room::for_any(300), workers)?;
     }
-    Ok(())
-}
-
-/// So many workers find 100 words of one shard, and claim each of them once.
-fn claims_each_of_one_shard_once<R: Threads + Wait + Abort + AllocGlobal + Sync>(
-    rt: &R,
-    room: Room,
-    workers: usize,
-) -> Result<(), Fail>
-    requires room { (room.limit ≡ 100) × (room.places ≡ 100) }
-    requires workers { (1 ≤ workers) × (workers ≤ 16) }
-{
-    let after = words_of_one_shard();
-    let fan = Small(Fan { after: &after });
-    let counter = Counter {
-        claims: AtomicU64::new(0),
-    };
-    let total = explore(rt, rt.alloc(), &fan, room, workers, &counter)?.total;
-    assert!(rt; total == 100 && counter.claims.load(Ordering::SeqCst) == 100);
     Ok(())
 }
 
 #[test]
 fn each_word_of_one_shard_is_claimed_once(rt: HostRuntime) -> Result<(), Fail> {
+    let after = words_of_one_shard();
+    let fan = Small(Fan { after: &after });
     for workers in [1, 2, 8, 16] {
-        claims_each_of_one_shard_once(&rt, Room::for_any(100), workers)?;
-        claims_each_of_one_shard_once(&rt, Room::for_fullest(100, 100), workers)?;
+        claims_each_once(&rt, &fan, 100, Room::for_any(100), workers)?;
+        claims_each_once(&rt, &fan, 100, Room::for_fullest(100, 100), workers)?;
     }
     Ok(())
 }

@@ -1,8 +1,5 @@
-//! Tests of what workers do side by side: the board and its seats on small spaces, deques, explorers, and runs under
-//! schedules that gates hold.
-//!
-//! Each expected value comes from the specification or from the independent reference program. A run under a schedule
-//! is compared with the plain run, whose report is in `cases/`.
+//! Tests of what workers share: the board and its seats on small spaces, deques, and explorers. Each expected value
+//! comes from the specification.
 #![tactic(auto)]
 
 #[cfg(test)]
@@ -13,9 +10,5 @@ mod boards;
 mod deques;
 #[cfg(test)]
 mod ladders;
-#[cfg(test)]
-mod reports;
-#[cfg(test)]
-mod schedules;
 #[cfg(test)]
 mod seats;

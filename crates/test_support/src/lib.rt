@@ -1,9 +1,8 @@
-//! What the test crates share: an allocator that refuses, seeded bytes, digests, gates that hold workers, settings,
-//! scripts with their reports, what scripts leave on a disk, and patches.
+//! What the test crates share: an allocator that refuses, gates that hold workers, settings, scripts with the numbers
+//! of their sets, what scripts leave on a disk, and patches.
 #![tactic(auto)]
 
 pub mod asked;
-pub mod digest;
 pub mod gates;
 pub mod patches;
 pub mod refusing;

@@ -8,8 +8,8 @@ use std::process::Abort;
 use std::sync::Wait;
 use std::test::Fail;
 use std::thread::Threads;
-use test_support::asked::{Asked, JOURNAL, RENAMED, REUSE, SOFT_CREATE, WRITE};
-use test_support::gates::{HeldAt, Shuffled, UntilAnother};
+use test_support::asked::{Asked, CREATE, JOURNAL, RENAMED, REUSE, SOFT_CREATE, WRITE};
+use test_support::gates::{Diary, HeldAt, Meeting, Shuffled, Slow, UntilAnother};
 
 /// How many schedules are tried of each script and number of workers.
 const SEEDS: u64 = 200;
@@ -95,5 +95,31 @@ fn each_claimer_waits_for_another(rt: HostRuntime) -> Result<(), Fail> {
     for asked in [&WRITE, &JOURNAL] {
         report_the_same(&rt, asked, 4, &[UntilAnother::new()])?;
     }
+    Ok(())
+}
+
+#[test]
+fn a_slow_worker_changes_nothing(rt: HostRuntime) -> Result<(), Fail> {
+    for workers in [1, 2, 8, 16] {
+        report_the_same(&rt, &REUSE, workers, &[Slow { worker: 1 }])?;
+    }
+    Ok(())
+}
+
+#[test]
+fn two_and_four_workers_run_at_once(rt: HostRuntime) -> Result<(), Fail> {
+    let (two, four) = ([Meeting::new(2, 1 << 2)], [Meeting::new(4, 1 << 4)]);
+    report_the_same(&rt, &CREATE, 2, &two)?;
+    report_the_same(&rt, &WRITE, 4, &four)?;
+    assert!(rt; two[0].was_held() && four[0].was_held());
+    Ok(())
+}
+
+/// A lone worker takes the newest task first: the sets are {}, {1}, {0, 1} and {0}.
+#[test]
+fn a_lone_worker_takes_the_newest_first(rt: HostRuntime) -> Result<(), Fail> {
+    let gates = [Diary::new()];
+    report_the_same(&rt, &CREATE, 1, &gates)?;
+    assert!(rt; gates[0].digits() == 10231);
     Ok(())
 }
