@@ -6,8 +6,6 @@
 
 mod asking;
 mod blocking;
-#[cfg(test)]
-mod known;
 mod oracle;
 mod sets;
 

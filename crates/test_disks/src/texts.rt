@@ -2,8 +2,8 @@
 
 use crash_model::refusals::{FsFault, RunFault, ScriptFault, TraceFault};
 use disk_image::ImageFault;
-use explorers::ExploreFault;
 use patch_graph::GraphFault;
+use patch_sets::explored::ExploreFault;
 use std::fmt::Display;
 use std::process::Abort;
 use std::test::Fail;

@@ -2,7 +2,7 @@ use Rattle.std.proofs.Common.{◌≡◌, true, false, get_or, arith, sym, ◌∙
 use Rattle.std.proofs.lemmas.List.Elements.{All-from_get_or}
 use Rattle.hitting_sets.specs.Hitting.{Meets}
 use Rattle.hitting_sets.proofs.Within.{in_both, to_both}
-use Rattle.enough_rules.proofs.known.GroupsOracle.blocking.Goals as goal
+use Rattle.test_disks.proofs.rules_of_groups.GroupsOracle.blocking.Goals as goal
 
 pub returns-then-not-meets : goal.returns-then-not-meets
 returns-then-not-meets c =

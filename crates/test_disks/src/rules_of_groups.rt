@@ -1,7 +1,8 @@
-//! Tests with an oracle that knows which groups have to be met.
+//! The rules that are enough, asked of an oracle that knows which groups have to be met.
+
 ghost use Rattle.hitting_sets.specs.Hitting.{Hits};
 
-use crate::{EnoughSets, Oracle, enough_sets};
+use enough_rules::{EnoughSets, Oracle, enough_sets};
 use hitting_sets::meets;
 use std::alloc::{AllocError, Allocator};
 use std::test::Fail;
