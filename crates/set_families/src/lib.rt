@@ -19,6 +19,7 @@ mod question;
 mod searching;
 
 pub use closed_sets::ClosedSets;
+pub use closing::closures;
 pub use combining::{Both, Either, HasId, LacksId};
 pub use family::Family;
 pub use question::Question;

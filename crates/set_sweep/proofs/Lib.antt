@@ -1,5 +1,4 @@
 pub mod Lists
-pub mod Needs
 pub mod Parts
 pub mod PartsOfNumbers
 pub mod Picks

@@ -12,7 +12,8 @@ use Rattle.patch_sets.specs.Sets.{Has, IsSubset}
 use Rattle.patch_sets.specs.Closed.{IsClosed}
 use Rattle.patch_sets.proofs.Bits.{and_from_subset, in_or_cases, in_or_left, in_or_right, small_from_below}
 use Rattle.patch_sets.proofs.Bits.{none_in_empty}
-use Rattle.set_sweep.specs.Sweeps.{IsClosure, AreClosures, IsNextOut, IsRoot, part_end}
+use Rattle.set_families.specs.Closures.{IsClosure, AreClosures}
+use Rattle.set_sweep.specs.Sweeps.{IsNextOut, IsRoot, part_end}
 
 -- ---- the next id outside
 

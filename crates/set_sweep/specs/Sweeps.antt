@@ -36,22 +36,6 @@ pub record IsPickOf (P : ℕ → Type 0) (sets picked : List ℕ) : Type 0 where
   pub exactly : (set : ℕ) → (Contains picked set ↔ (Contains sets set × P set))
   pub ascend : AllPairs (λ a b. a < b) sets → AllPairs (λ a b. a < b) picked
 
--- the smallest closed set that has the id
-pub record IsClosure (deps : List ℕ) (id closure : ℕ) : Type 0 where
-  pub closed : IsClosed deps closure
-  pub inside : Has closure id
-  pub low : closure < 2 ^ (id + 1)
-  pub least : (set : ℕ) → IsClosed deps set → Has set id → IsSubset closure set
-
--- for each id below n its closure
-abbrev pub AreClosuresTo : List ℕ → ℕ → List ℕ → Type 0
-AreClosuresTo deps n closures = (id : ℕ) → id < n → IsClosure deps id (slice_index closures id)
-
--- for each id of the graph its closure
-pub record AreClosures (deps closures : List ℕ) : Type 0 where
-  pub long : length deps ≤ length closures
-  pub each : AreClosuresTo deps (length deps) closures
-
 -- the lowest id from `id` on that the set lacks
 pub record IsNextOut (set id next : ℕ) : Type 0 where
   pub from : id ≤ next

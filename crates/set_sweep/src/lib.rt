@@ -6,9 +6,9 @@
 //! order", 1986.)
 #![tactic(auto)]
 
-mod closing;
 mod dividing;
 mod failing;
+mod gap;
 mod joining;
 mod ordering;
 mod parting;

@@ -1,8 +1,9 @@
 //! Cutting the closed sets into parts.
 ghost use Rattle.std.specs.Prelude.{◌<◌, ◌≤◌, length, IfOk, OnOk};
-ghost use Rattle.set_sweep.specs.Sweeps.{AreClosures, IsRoot, AreParts, AreAllParts, part_end};
+ghost use Rattle.set_families.specs.Closures.{AreClosures};
+ghost use Rattle.set_sweep.specs.Sweeps.{IsRoot, AreParts, AreAllParts, part_end};
 
-use crate::closing::next_out;
+use crate::gap::next_out;
 use std::alloc::{AllocError, Allocator};
 
 /// Parts of the closed sets of a graph: each has those that agree with its root from id `low` on.

@@ -3,10 +3,12 @@ ghost use Rattle.std.specs.Prelude.{◌≡◌, ℕ, ◌+◌, ◌<◌, ◌≤◌,
 ghost use Rattle.std.specs.List.{All};
 ghost use Rattle.state_space.specs.Counts.{HoldsOf, Outnumbers};
 ghost use Rattle.patch_sets.specs.Closed.{AreEarlier, IsClosed};
-ghost use Rattle.set_sweep.specs.Sweeps.{AreClosures, IsRoot, AreSwept, AreShares, AreCountsByRemainder, part_end};
+ghost use Rattle.set_families.specs.Closures.{AreClosures};
+ghost use Rattle.set_sweep.specs.Sweeps.{IsRoot, AreSwept, AreShares, AreCountsByRemainder, part_end};
 
-use crate::closing::{closures, next_out};
 use crate::dividing::Divisor;
+use crate::gap::next_out;
+use set_families::closures;
 
 /// The number of closed sets of a graph, at most the limit; `None` exactly where they outnumber it.
 ///

@@ -1,9 +1,10 @@
 //! The sweep over one part.
 ghost use Rattle.std.specs.Prelude.{◌≡◌, ◌<◌, ◌≤◌, ◌+◌, length, IfOk, OnOk};
 ghost use Rattle.patch_sets.specs.Closed.{IsClosed};
-ghost use Rattle.set_sweep.specs.Sweeps.{EachClosed, SaysTooMany, AreClosures, IsRoot, AreSwept, IsPartSwept, part_end};
+ghost use Rattle.set_families.specs.Closures.{AreClosures};
+ghost use Rattle.set_sweep.specs.Sweeps.{EachClosed, SaysTooMany, IsRoot, AreSwept, IsPartSwept, part_end};
 
-use crate::closing::next_out;
+use crate::gap::next_out;
 use crate::visitor::Visitor;
 use patch_sets::explored::ExploreFault;
 

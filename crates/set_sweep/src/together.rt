@@ -4,7 +4,6 @@ ghost use Rattle.std.specs.List.{All};
 ghost use Rattle.patch_sets.specs.Closed.{AreEarlier};
 ghost use Rattle.set_sweep.specs.Sweeps.{EachClosed, SaysTooMany, AreAllParts, IsSweep, IsDone};
 
-use crate::closing::closures;
 use crate::joining::join_parts;
 use crate::parting::{Parts, parts_of};
 use crate::sweeping::{Part, Sweeper};
@@ -12,6 +11,7 @@ use crate::visitor::Visitor;
 use crate::watching::{Counting, Watch, Watched};
 use crate::workers::Workers;
 use patch_sets::explored::ExploreFault;
+use set_families::closures;
 use std::alloc::{AllocError, Allocator};
 use std::sync::atomic::{AtomicUsize, Ordering};
 use std::thread::Threads;

@@ -32,7 +32,8 @@ count_from-requires t c =
     let inv = c.loop-id.invariant in
     let child = child_of self.deps.now self.closures.now c.args.k c.args.set c.loop-id.id self.each c.requires.known
     c.requires.root inv.at.out c.loop-id-test.true in
-    let counted = swept_rises (AreShares self.divisor.by) self.deps.now 0 _ c.loop-id.count c.loop-id.counts inv.counted _
+    let counted = swept_rises (AreShares self.divisor.by) self.deps.now 0 _ c.loop-id.count c.loop-id.counts
+    inv.counted _
     child.up child.none in (
       omega (arith, c.decreases, c.loop-id-test.true),
       (omega (arith, c.requires.known, c.loop-id-test.true), (child.root, (inv.within, (inv.long, counted)))),
