@@ -1,5 +1,6 @@
 -- The sublists that are enough, as reports speak of them and as they are found.
-use Rattle.std.proofs.Common.{◌≡◌, ℕ, zero, suc, ◌<◌, List, length, Bool, None, arith, refl, sym, ap, ◌∙◌, subst, inl, inr}
+use Rattle.std.proofs.Common.{◌≡◌, ℕ, zero, suc, ◌<◌, List, length, Bool, None, arith, refl, sym, ap, ◌∙◌, subst, inl}
+use Rattle.std.proofs.Common.{inr}
 use Rattle.std.specs.Prelude.{◌↔◌, Option, slice_get, if◌then◌else◌, not}
 use Rattle.std.specs.Int.{bit_at}
 use Rattle.patch_sets.specs.Ends.{IsDifference}
@@ -68,7 +69,8 @@ module _ (demands : Demands) (base : Disk) (s : Tracing) (rules : List Rule) (al
               (sym (rest_rules group rest.0 rest.1)) enough);
           minimal = λ part inside other.
               let less = difference_of all part in
-              subst (AreEnough demands base s) (rest_rules part less.0 less.1) (is.minimal part less.0 inside other less.1);
+              subst (AreEnough demands base s) (rest_rules part less.0 less.1)
+              (is.minimal part less.0 inside other less.1);
         },
     λ is. record {
       within = λ place has. (places place).1 (is.places place has);

@@ -50,7 +50,8 @@ module _ {X : Type 0} (at : ℕ → Option X) where
 
 -- ---- the rules of a set
 
-some_if : (b : Bool) (o : Option Rule) (rule : Rule) → (if b then o else None) ≡ Some rule → (b ≡ true) × (o ≡ Some rule)
+some_if : (b : Bool) (o : Option Rule) (rule : Rule) → (if b then o else None) ≡ Some rule
+    → (b ≡ true) × (o ≡ Some rule)
 some_if true o rule e = (refl, e)
 some_if false o rule e = absurd (cc)
 

@@ -24,7 +24,9 @@ pub all_places : (rules : List Rule) (place : ℕ) → Has (all_of rules) place 
 all_places rules place = (
   λ has. elim (less_or_not place (length rules)) [
     | inl less ↦ less
-    | inr past ↦ let none = bit_at_ones_above (length rules) place (omega (arith, past)) in absurd (omega (arith, none, has))
+    | inr past ↦
+        let none = bit_at_ones_above (length rules) place (omega (arith, past)) in
+        absurd (omega (arith, none, has))
   ],
   λ less. bit_at_ones (length rules) place less,
 )

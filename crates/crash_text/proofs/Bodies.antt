@@ -60,16 +60,18 @@ pub tells_of : {A : Type 0} (r : code_report.Report A) (settings : Settings) (de
     → r.body ≡ chosen
     → Tells r.settings.now (detail_by r) r.base.now r.traced.now r.closed r.failing r.body text
     → Tells settings (detail_of settings demands) base t closed failing chosen text
-tells_of r settings demands base t closed failing chosen text same_settings same_demands same_base same_trace same_closed
-    same_failing same_data told =
+tells_of r settings demands base t closed failing chosen text same_settings same_demands same_base same_trace
+    same_closed same_failing same_data told =
     subst (λ (s : Settings). Tells s (detail_of s demands) base t closed failing chosen text) same_settings
     (subst (λ (k : Demands). Tells r.settings.now (detail_of r.settings.now k) base t closed failing chosen text)
     same_demands
     (subst (λ (d : Disk). Tells r.settings.now (detail_by r) d t closed failing chosen text) same_base
-    (subst (λ (u : TracedPatches). Tells r.settings.now (detail_by r) r.base.now u closed failing chosen text) same_trace
+    (subst (λ (u : TracedPatches). Tells r.settings.now (detail_by r) r.base.now u closed failing chosen text)
+    same_trace
     (subst (λ (n : ℕ). Tells r.settings.now (detail_by r) r.base.now r.traced.now n failing chosen text) same_closed
     (subst (λ (n : ℕ). Tells r.settings.now (detail_by r) r.base.now r.traced.now r.closed n chosen text) same_failing
-    (subst (λ b. Tells r.settings.now (detail_by r) r.base.now r.traced.now r.closed r.failing b text) same_data told))))))
+    (subst (λ b. Tells r.settings.now (detail_by r) r.base.now r.traced.now r.closed r.failing b text) same_data
+    told))))))
 
 -- a crash can leave the first sets of faults
 pub firsts_closed : (demands : Demands) (base : Disk) (patches : List Patch) (rows : List FaultRow)

@@ -42,8 +42,8 @@ pub is_enough_report : {A : Type 0} (settings : Settings) (demands : Demands) (b
       first = option_map told_first first;
     })
     → IsEnoughReport settings demands base last t.patches text number
-is_enough_report {A = A} settings demands base t last total enough groups needs first text number is counted exactly needed
-    of_groups told any counts whole_text = record {
+is_enough_report {A = A} settings demands base t last total enough groups needs first text number is counted exactly
+    needed of_groups told any counts whole_text = record {
       total = total;
       counted = counted;
       enough = enough;

@@ -29,7 +29,8 @@ module _ (deps counts : List ℕ) (sets : ℕ) (counted : HoldsOf (IsClosed deps
   pub shard_within : (q : ℕ) → q < length counts → get_or counts q 0 < sets + 1
   shard_within q near = lt_of_not-le (λ high.
       let (words, list, is) = shards q near in
-      let each : All (IsClosed deps) words = All-weaker (InShard q) (IsClosed deps) (λ w both. both.0) words list.each in
+      let each : All (IsClosed deps) words = All-weaker (InShard q) (IsClosed deps) (λ w both. both.0) words list.each
+      in
       not_more (IsClosed deps) sets sets counted (omega arith)
       (words, record { distinct = list.distinct; each = each }, omega (arith, high, is)))
 
@@ -50,7 +51,8 @@ module _ (deps counts : List ℕ) (sets : ℕ) (counted : HoldsOf (IsClosed deps
   ]
 
 -- a refusal that is not for too many sets is that memory ran out
-pub refused_otherwise : {A : Type 0} (patches : List Patch) (limit : ℕ) (fault : ExploreFault) (result : Result A RunFault)
+pub refused_otherwise : {A : Type 0} (patches : List Patch) (limit : ℕ) (fault : ExploreFault)
+    (result : Result A RunFault)
     → IsErrAnd result (λ refusal. refusal ≡ run_of_explore fault) → (fault ≡ explore.TooMany → ⊥)
     → IfErr result (SaysTooMany patches limit)
 refused_otherwise patches limit fault (Ok x) is never = absurd is

@@ -126,10 +126,12 @@ module _ (demands : Demands) (faults : List Fault) (most : List ℕ) (d : Disk) 
     tame_at inode slot block live more h =
         let place = left_of (nat_lt inode 16 && nat_lt slot 4) _ h in
         let rest = right_of (nat_lt inode 16 && nat_lt slot 4) _ h in
-        let points = right_of (((live && not (pointer_of d inode slot == 0)) && is_data d (pointer_of d inode slot)) && more)
+        let points = right_of (((live && not (pointer_of d inode slot == 0)) && is_data d (pointer_of d inode slot))
+        && more)
         _ rest in
         let tame = left_of ((live && not (pointer_of d inode slot == 0)) && is_data d (pointer_of d inode slot)) more
-        (left_of (((live && not (pointer_of d inode slot == 0)) && is_data d (pointer_of d inode slot)) && more) _ rest) in
+        (left_of (((live && not (pointer_of d inode slot == 0)) && is_data d (pointer_of d inode slot)) && more) _
+        rest) in
         let inside = right_of (live && not (pointer_of d inode slot == 0)) _ tame in
         let some = right_of live (not (pointer_of d inode slot == 0))
         (left_of (live && not (pointer_of d inode slot == 0)) _ tame) in (
@@ -145,9 +147,11 @@ module _ (demands : Demands) (faults : List Fault) (most : List ℕ) (d : Disk) 
     wild_at inode slot block live h =
         let place = left_of (nat_lt inode 16 && nat_lt slot 4) _ h in
         let rest = right_of (nat_lt inode 16 && nat_lt slot 4) _ h in
-        let points = right_of ((live && not (pointer_of d inode slot == 0)) && not (is_data d (pointer_of d inode slot)))
+        let points = right_of ((live && not (pointer_of d inode slot == 0)) && not
+        (is_data d (pointer_of d inode slot)))
         _ rest in
-        let wild = left_of ((live && not (pointer_of d inode slot == 0)) && not (is_data d (pointer_of d inode slot))) _ rest in
+        let wild = left_of ((live && not (pointer_of d inode slot == 0)) && not (is_data d (pointer_of d inode slot)))
+        _ rest in
         let other = right_of (live && not (pointer_of d inode slot == 0)) _ wild in
         let some = right_of live (not (pointer_of d inode slot == 0))
         (left_of (live && not (pointer_of d inode slot == 0)) _ wild) in (

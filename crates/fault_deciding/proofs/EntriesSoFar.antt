@@ -17,7 +17,8 @@ use Rattle.crash_model.specs.declared.fault.Fault.TheVariants.{Dangling}
 use Rattle.known_bytes.specs.Counts.{entry_at, entries_in}
 use Rattle.known_bytes.specs.Family.{Family, InEach, HasValue}
 use Rattle.known_bytes.proofs.Counted.{count_none, count_one, count_same, rows_none, rows_more, all_entries}
-use Rattle.fault_deciding.specs.Listed.{InEachReplayed, IsWithin, HasDangling, CountsOne, AreCounted, AreAtMost, AreMost}
+use Rattle.fault_deciding.specs.Listed.{InEachReplayed, IsWithin, HasDangling, CountsOne, AreCounted, AreAtMost}
+use Rattle.fault_deciding.specs.Listed.{AreMost}
 use Rattle.fault_deciding.proofs.Pushed.{dangling_more, then_within}
 use Rattle.fault_deciding.proofs.Tests.{true_or_false, left_of, right_of, next_of, value_small}
 
@@ -31,7 +32,8 @@ module _ (faults : List Fault) (low high dir k : ℕ) (d : Disk) (fits : high < 
       (next_of (entry_of d dir k) (right_of (counts d dir) (not (entry_of d dir k == 0)) is))
       (values (left_of (counts d dir) (not (entry_of d dir k == 0)) is))
 
-  pub dangling_here : ((inode : ℕ) → inode < 255 → HasValue low high (inode + 1) → Contains faults (Dangling dir k inode))
+  pub dangling_here : ((inode : ℕ) → inode < 255 → HasValue low high (inode + 1)
+      → Contains faults (Dangling dir k inode))
       → HasDangling faults dir k d
   dangling_here listed is =
       let here = entry_here (left_of (is_entry d dir k) (not (is_live d (target_of d dir k))) is) in

@@ -53,15 +53,16 @@ pub gathered_more : (f : Family) (low high n offset values_low values_high new_l
     → ((x : ℕ) → HasValue values_low values_high x → HasValue new_low new_high x)
     → InEach f (λ d. HasValue new_low new_high (byte (image_after_replay d) block place))
     → AreGathered f low high n offset values_low values_high → AreGathered f low high (n + 1) offset new_low new_high
-gathered_more f low high n offset values_low values_high new_low new_high block place at where_is kept here old = record {
-  each = λ b less is has set m. elim (cases_eq b n) [
-    | inl same ↦
-        let d : Disk = image_of f.base f.patches set in
-        subst (λ (k : ℕ). HasValue new_low new_high (byte (image_after_replay d) k offset)) (at ∙ sym same)
-        (subst (λ (o : ℕ). HasValue new_low new_high (byte (image_after_replay d) block o)) where_is (here set m))
-    | inr other ↦ kept _ (old.each b (omega arith) is has set m)
-  ];
-}
+gathered_more f low high n offset values_low values_high new_low new_high block place at where_is kept here old
+    = record {
+      each = λ b less is has set m. elim (cases_eq b n) [
+        | inl same ↦
+            let d : Disk = image_of f.base f.patches set in
+            subst (λ (k : ℕ). HasValue new_low new_high (byte (image_after_replay d) k offset)) (at ∙ sym same)
+            (subst (λ (o : ℕ). HasValue new_low new_high (byte (image_after_replay d) block o)) where_is (here set m))
+        | inr other ↦ kept _ (old.each b (omega arith) is has set m)
+      ];
+    }
 
 pub entry_value : (f : Family) (low high n dir k values_low values_high : ℕ) → InEach f (IsLike f.base)
     → f.base.blocks ≤ n

@@ -36,7 +36,8 @@ module _ (demands : Demands) (c : Change) (f : Family) (is : f ≡ whole_of c) w
 
   pub all_listed : (list : List Fault) → InEach f (IsListed demands list) → AreAllOf (HasFaultOf demands c) list
   all_listed list all fault set its =
-      let each : InEach (whole_of c) (IsListed demands list) = subst (λ (x : Family). InEach x (IsListed demands list)) is all in
+      let each : InEach (whole_of c) (IsListed demands list) = subst (λ (x : Family). InEach x (IsListed demands list))
+      is all in
       each set (member fault set its) fault its.found
 
   pub all_tested : InEach f (IsTested demands) → AreFoundByTest demands c

@@ -12,7 +12,8 @@ use Rattle.crash_model.specs.declared.fault.Fault.{Fault}
 use Rattle.crash_model.specs.declared.fault.Fault.TheVariants.{LowLinks, Twice}
 use Rattle.known_bytes.specs.Family.{Family, InEach, IsLike, HasValue}
 use Rattle.fault_deciding.specs.Listed.{InEachReplayed, IsWithin, HasSlot, HasFaultsOf, HasTwice, HasLow, HasStrict}
-use Rattle.fault_deciding.proofs.Pushed.{slot_more, slots_more, then_within, low_more, strict_more, pushed_has, pushed_keeps}
+use Rattle.fault_deciding.proofs.Pushed.{slot_more, slots_more, then_within, low_more, strict_more, pushed_has}
+use Rattle.fault_deciding.proofs.Pushed.{pushed_keeps}
 
 -- each disk has the data area of the base
 pub same_area : (f : Family) → InEach f (IsLike f.base) → (block : ℕ)

@@ -1,5 +1,6 @@
 -- What tests say that are true.
-use Rattle.std.proofs.Common.{◌≡◌, ◌≢◌, ℕ, ◌+◌, ◌-◌, ◌<◌, ◌≤◌, ◌⊎◌, inl, inr, Bool, true, false, ◌&&◌, not, ◌^◌, arith, tests}
+use Rattle.std.proofs.Common.{◌≡◌, ◌≢◌, ℕ, ◌+◌, ◌-◌, ◌<◌, ◌≤◌, ◌⊎◌, inl, inr, Bool, true, false, ◌&&◌, not, ◌^◌}
+use Rattle.std.proofs.Common.{arith, tests}
 use Rattle.std.proofs.Common.{refl}
 use Rattle.std.specs.Prelude.{◌==◌, nat_lt}
 use Rattle.patch_sets.proofs.Bits.{below_from_small}
@@ -36,6 +37,7 @@ at_least_or_below a b = grind arith
 -- a value of a set of bytes is a byte
 pub value_small : (low high value : ℕ) → high < 2 ^ 128 → HasValue low high value → value < 256
 value_small low high value fits is = elim (at_least_or_below 128 value) [
-  | inl large ↦ let id : value - 128 < 128 = below_from_small high 128 (value - 128) fits (is.large large) in omega arith
+  | inl large ↦ let id : value - 128 < 128 = below_from_small high 128 (value - 128) fits (is.large large) in omega
+      arith
   | inr small ↦ omega arith
 ]

@@ -1,5 +1,6 @@
 -- From the trials of all candidates to the faults that are decided.
-use Rattle.std.proofs.Common.{◌≡◌, ℕ, ◌<◌, ◌≤◌, List, ◌++◌, length, get_or, map, take, arith, refl, sym, subst, ap, ◌∙◌, IsPermutation}
+use Rattle.std.proofs.Common.{◌≡◌, ℕ, ◌<◌, ◌≤◌, List, ◌++◌, length, get_or, map, take, arith, refl, sym, subst, ap}
+use Rattle.std.proofs.Common.{◌∙◌, IsPermutation}
 use Rattle.std.specs.Prelude.{Option, Some, None}
 use Rattle.std.specs.List.{All, Contains}
 use Rattle.std.proofs.lemmas.List.{length-map, take-append-le, take_all}
@@ -59,7 +60,8 @@ module _ (has : Fault → ℕ → Type 0) (candidates : List Fault) (blank mixed
       (Contains-permutation (map fault_of tried) (map fault_of sorted) fault
       (IsPermutation-map fault_of tried sorted moved) (same_trials mixed tried long same fault
       (Contains-permutation (map fault_of blank) (map fault_of mixed) fault
-      (IsPermutation-map fault_of blank mixed spread) (subst (λ (fs : List Fault). Contains fs fault) (sym of_all) is))))
+      (IsPermutation-map fault_of blank mixed spread)
+      (subst (λ (fs : List Fault). Contains fs fault) (sym of_all) is))))
 
   pub decided : (faults : List DecidedFault) → AreFound sorted faults → AreDecided has faults
   decided faults is = record {

@@ -6,7 +6,8 @@ use Rattle.known_bytes.specs.Family.{HasValue}
 
 pub added_low : (low high value i more : ℕ) → value < 128 → i ≡ value → more ≡ with_id low i → HasValue more high value
 added_low low high value i more small at is = record {
-  small = λ s. subst (λ (m : ℕ). Has m value) (sym is) (subst (λ (k : ℕ). Has (with_id low i) k) at (in_with_same low i));
+  small = λ s. subst (λ (m : ℕ). Has m value) (sym is)
+      (subst (λ (k : ℕ). Has (with_id low i) k) at (in_with_same low i));
   large = λ l. absurd (omega arith);
 }
 

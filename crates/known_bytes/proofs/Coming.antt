@@ -94,7 +94,8 @@ module _ (d : Disk) (old was new is : List ℕ) (first : ℕ) (targets : List �
   pub still_stopped : (copied : Result Bool ℕ) (test : Bool) → AtDisk copied test → test ≡ false
       → AreNoted copied old was new is first targets → Stopped d old was → Stopped d new is
   still_stopped copied test here not noted s = record {
-    home = λ b less. noted.kept b (copy_after d b b (headers d)) (inl (not_copied copied test here not)) (s.home b less);
+    home = λ b less. noted.kept b (copy_after d b b (headers d)) (inl (not_copied copied test here not))
+        (s.home b less);
   }
 
 module _ (d : Disk) (at turn : ℕ) (old was new is : List ℕ) (targets : List ℕ) (disk : IsDisk d)

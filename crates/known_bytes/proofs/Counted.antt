@@ -162,7 +162,8 @@ module _ (r : Reading) where
       → AreBounds r (λ d. length (each_below n (λ inode. some_below 4 (slot_at d block inode)))) least most ask
       → AreBounds r (λ d. length (namers d block)) least most ask
   inodes_all block n least most ask end b =
-      bounds_as (λ d. length (each_below n (λ inode. some_below 4 (slot_at d block inode)))) (λ d. length (namers d block))
+      bounds_as (λ d. length (each_below n (λ inode. some_below 4 (slot_at d block inode))))
+      (λ d. length (namers d block))
       least most ask
       (λ set m.
       let d : Disk = disk_of r (image_of r.family.base r.family.patches set) in

@@ -21,7 +21,8 @@ none_of a p x h = grind (arith, tests)
 
 pub counts_is : (d : Disk) (dir block : ℕ) → IsItsBlock dir block d → counts_at dir block d ≡ counts d dir
 counts_is d dir block its = elim (cases_eq (pointer_of d dir 0) block) [
-  | inl same ↦ sym (ap (λ (p : ℕ). (kind_of d dir == 2) && is_data d p && (byte d p 0 == 0x44) && (byte d p 1 == dir)) same
+  | inl same ↦ sym (ap (λ (p : ℕ). (kind_of d dir == 2) && is_data d p && (byte d p 0 == 0x44) && (byte d p 1 == dir))
+      same
       ∙ all_four (kind_of d dir == 2) (is_data d block) (byte d block 0 == 0x44) (byte d block 1 == dir)
       (pointer_of d dir 0 == block) its.tame (eq-eqb (pointer_of d dir 0) block same))
   | inr other ↦
@@ -68,7 +69,8 @@ pub dangling_is : (d : Disk) (dir k block inode : ℕ) → IsItsBlock dir block 
     → (counts_at dir block d && ((byte d block (8 + 12 * k) == inode + 1) && not (is_live d inode)))
     ≡ (is_dangling d dir k && (target_of d dir k == inode))
 dangling_is d dir k block inode its =
-    ap (λ (c : Bool). c && ((byte d block (8 + 12 * k) == inode + 1) && not (is_live d inode))) (counts_is d dir block its)
+    ap (λ (c : Bool). c && ((byte d block (8 + 12 * k) == inode + 1) && not (is_live d inode)))
+    (counts_is d dir block its)
     ∙ elim (bool_is (counts d dir)) [
       | inl is ↦
           ap (λ (e : ℕ). counts d dir && ((e == inode + 1) && not (is_live d inode))) (entry_same d dir k block its is)
@@ -177,7 +179,8 @@ module _ (p b : ℕ) (live : Bool) (area : ℕ → Bool) where
 
 module _ (d : Disk) (inode slot block : ℕ) where
   data_some : is_data d block ≡ true → block ≢ 0
-  data_some h e = let low : 4 + d.journal ≤ block = from_test (4 + d.journal) block (nat_lt block d.blocks) h in omega arith
+  data_some h e = let low : 4 + d.journal ≤ block = from_test (4 + d.journal) block (nat_lt block d.blocks) h in omega
+      arith
     where
       from_test : (a b : ℕ) (c : Bool) → (nat_le a b && c) ≡ true → a ≤ b
       from_test a b c h = grind (arith, tests)
@@ -201,7 +204,8 @@ module _ (d : Disk) (inode slot block : ℕ) where
   no_wild_zero none = not_wild_zero (pointer_of d inode slot) block (is_live d inode) (λ b. is_data d b) none
 
   -- a test of the block that a pointer names, of a block that it names
-  moved_in : (tame : Bool) (P : ℕ → Bool) (p : ℕ) → ((tame && (p == block)) && P block) ≡ ((tame && P p) && (p == block))
+  moved_in : (tame : Bool) (P : ℕ → Bool) (p : ℕ) → ((tame && (p == block)) && P block)
+      ≡ ((tame && P p) && (p == block))
   moved_in tame P p = elim (cases_eq p block) [
     | inl same ↦
         let here : (p == block) ≡ true = eq-eqb p block same in
@@ -219,12 +223,14 @@ module _ (d : Disk) (inode slot block : ℕ) where
 
   pub unwritten_is : (names_block d inode slot block && not (is_marked d inode block))
       ≡ (is_unwritten d inode slot && (pointer_of d inode slot == block))
-  unwritten_is = moved_in ((is_live d inode && not (pointer_of d inode slot == 0)) && is_data d (pointer_of d inode slot))
+  unwritten_is = moved_in ((is_live d inode && not (pointer_of d inode slot == 0)) && is_data d
+      (pointer_of d inode slot))
       (λ b. not (is_marked d inode b)) (pointer_of d inode slot)
 
   pub marked_free_is : (names_block d inode slot block && (map_of d block == 0))
       ≡ (is_marked_free d inode slot && (pointer_of d inode slot == block))
-  marked_free_is = moved_in ((is_live d inode && not (pointer_of d inode slot == 0)) && is_data d (pointer_of d inode slot))
+  marked_free_is = moved_in ((is_live d inode && not (pointer_of d inode slot == 0)) && is_data d
+      (pointer_of d inode slot))
       (λ b. map_of d b == 0) (pointer_of d inode slot)
 
   pub none_tame : is_data d block ≡ false → (P : ℕ → Bool)

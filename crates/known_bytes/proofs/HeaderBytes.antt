@@ -41,7 +41,8 @@ all_at P (x ∷ xs) (suc k) all less = all_at P xs k (second (P x) (list_all P x
     second false b h = absurd (cc)
 
 target_some : (d : Disk) (x : ℕ) → is_target d x ≡ true → x ≢ 0
-target_some d x h e = let no : is_target d 0 ≡ true = subst (λ (k : ℕ). is_target d k ≡ true) e h in grind (arith, tests)
+target_some d x h e = let no : is_target d 0 ≡ true = subst (λ (k : ℕ). is_target d k ≡ true) e h in grind
+    (arith, tests)
 
 only_one : (x v : ℕ) → is_one_of 0 v x ≡ true → x ≢ 0 → x ≡ v
 only_one x v h some = grind (arith, tests)
@@ -62,7 +63,8 @@ module _ (d : Disk) (at : ℕ) (disk : IsDisk d) (below : at < d.blocks) where
       same_number_lists (targets_of (block_of d at)) ts (omega arith) (λ k less.
       let inside : k < count_of (block_of d at) = omega arith in
       let here : get_or (targets_of (block_of d at)) k 0 ≡ byte d at (3 + k) = target_byte d at k inside few in
-      let aimed = all_at (is_target d) (targets_of (block_of d at)) k (header_aimed d at turn (block_of d at) is) less in
+      let aimed = all_at (is_target d) (targets_of (block_of d at)) k (header_aimed d at turn (block_of d at) is) less
+      in
       here ∙ only_one (byte d at (3 + k)) (get_or ts k 0) (each k (omega arith))
       (λ e. target_some d _ aimed (here ∙ e)))
 
@@ -107,7 +109,8 @@ module _ (d : Disk) (at : ℕ) (ts : List ℕ) where
       → has_first n d at ts ≡ true
   unfolding has_first
   first_from zero count each = true_from_eq (byte d at 2) (length ts) count
-  first_from (suc n) count each = both_true (has_first n d at ts) _ (first_from n count (λ k less. each k (omega arith)))
+  first_from (suc n) count each = both_true (has_first n d at ts) _
+      (first_from n count (λ k less. each k (omega arith)))
       (true_from_eq (byte d at (3 + n)) (get_or ts n 0) (each n (omega arith)))
 
   first_count : (n : ℕ) → has_first n d at ts ≡ true → byte d at 2 ≡ length ts

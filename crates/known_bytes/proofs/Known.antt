@@ -75,7 +75,8 @@ module _ (f : Family) (sets : List ℕ) (chains : AreChains record { base = f.ba
     -- what holds of the byte under the patches held and of each that an undecided patch puts there holds of all
     pub so_in_each : (P : ℕ → Type 0)
         → P (byte (image_of f.base f.patches f.held) block offset)
-        → ((id : ℕ) (p : Patch) → IsUndecided f id → IsAt f.patches id p → Covers p block offset → P (new_byte p offset))
+        → ((id : ℕ) (p : Patch) → IsUndecided f id → IsAt f.patches id p → Covers p block offset
+        → P (new_byte p offset))
         → InEach f (λ d. P (byte d block offset))
     so_in_each P first put set m =
         let i : ℕ = 128 * block + offset in

@@ -1,5 +1,6 @@
 -- The inodes that are reached, on all disks of a family.
-use Rattle.std.proofs.Common.{◌≡◌, ℕ, ◌+◌, ◌<◌, ◌⊎◌, inl, inr, List, [], ◌∷◌, ◌++◌, map, zero, suc, Bool, true, false, ◌&&◌, ◌||◌}
+use Rattle.std.proofs.Common.{◌≡◌, ℕ, ◌+◌, ◌<◌, ◌⊎◌, inl, inr, List, [], ◌∷◌, ◌++◌, map, zero, suc, Bool, true, false}
+use Rattle.std.proofs.Common.{◌&&◌, ◌||◌}
 use Rattle.std.proofs.Common.{arith, tests, refl, sym, ◌∙◌, ap, subst, length, get_or, set}
 use Rattle.std.specs.Prelude.{◌==◌, nat_le, bit_and, Result, Ok, Err, IfErr}
 use Rattle.std.specs.List.{list_any, range_with_len}
@@ -237,18 +238,21 @@ one_more true x before after is = some_more before after is
 one_more false x before after is = none_more before after is
 
 module _ (d : Disk) (dir inode : ℕ) where
-  there_next : (n : ℕ) → nat_le 1 (entries_in n d inode dir) ≡ list_any (λ k. leads_to d dir k inode) (range_with_len 0 n)
+  there_next : (n : ℕ) → nat_le 1 (entries_in n d inode dir) ≡ list_any (λ k. leads_to d dir k inode)
+      (range_with_len 0 n)
       → nat_le 1 (entries_in (n + 1) d inode dir) ≡ list_any (λ k. leads_to d dir k inode) (range_with_len 0 (n + 1))
   there_next n before =
       one_more (leads_to d dir n inode) (dir, n) (entries_in n d inode dir) (entries_in (n + 1) d inode dir)
       (count_more n (entry_at d inode dir))
       ∙ (ap (λ (b : Bool). b || leads_to d dir n inode) before ∙ sym (any_more (λ k. leads_to d dir k inode) n))
 
-  there_below : (n : ℕ) → nat_le 1 (entries_in n d inode dir) ≡ list_any (λ k. leads_to d dir k inode) (range_with_len 0 n)
+  there_below : (n : ℕ) → nat_le 1 (entries_in n d inode dir) ≡ list_any (λ k. leads_to d dir k inode)
+      (range_with_len 0 n)
   there_below zero = ap (λ (c : ℕ). nat_le 1 c) (count_none (entry_at d inode dir))
   there_below (suc n) =
       let next : n + 1 ≡ suc n = omega arith in
-      subst (λ (m : ℕ). nat_le 1 (entries_in m d inode dir) ≡ list_any (λ k. leads_to d dir k inode) (range_with_len 0 m))
+      subst (λ (m : ℕ). nat_le 1 (entries_in m d inode dir) ≡ list_any (λ k. leads_to d dir k inode)
+      (range_with_len 0 m))
       next (there_next n (there_below n))
 
 pub entry_there : (d : Disk) (dir inode : ℕ) → nat_le 1 (entries_in 10 d inode dir) ≡ has_entry_to d dir inode

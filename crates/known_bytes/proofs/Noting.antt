@@ -106,7 +106,8 @@ module _ (old now : List ℕ) (first m block more : ℕ) (targets : List ℕ) (h
             | inl new ↦ inr (omega arith, omega arith)
             | inr was ↦ wider b home (a.within b home (subst (λ (k : ℕ). Has (get_or now k 0) home) (sym same) was))
           ]
-      | inr other ↦ wider b home (a.within b home (subst (λ (s : ℕ). Has s home) (get_or-set_other now block b more 0 other) has))
+      | inr other ↦ wider b home (a.within b home (subst (λ (s : ℕ). Has s home)
+          (get_or-set_other now block b more 0 other) has))
     ];
     others = λ b. elim (cases_eq b block) [
       | inl same ↦ inl (m, omega arith, sym here ∙ sym same)

@@ -60,7 +60,8 @@ module _ (disk d : Disk) (block : ℕ) (is : IsDisk disk) (is_too : IsDisk d) (b
   agrees-whole = same_tests (agrees 128 block disk d) (bytes_eq (block_of d block) (block_of disk block))
       (λ e. (bytes_eq-Decides (block_of d block) (block_of disk block)).1 (same_block (agrees-at 128 block disk d e)))
       (λ e.
-      let same : block_of d block ≡ block_of disk block = (bytes_eq-Decides (block_of d block) (block_of disk block)).0 e in
+      let same : block_of d block ≡ block_of disk block = (bytes_eq-Decides (block_of d block) (block_of disk block)).0
+      e in
       agrees-all 128 block disk d (λ k less. sym (block-at d block k less)
       ∙ ap (λ (row : List ℕ). get_or row k 0) same ∙ block-at disk block k less))
 

@@ -184,7 +184,8 @@ module _ (d : Disk) where
   twice = some_below d.blocks (λ block. when (is_twice d block) (Twice block))
 
   abbrev unwritten : List Fault
-  unwritten = each_slot (λ inode slot. when (is_unwritten d inode slot) (Unwritten inode slot (pointer_of d inode slot)))
+  unwritten = each_slot (λ inode slot. when (is_unwritten d inode slot)
+      (Unwritten inode slot (pointer_of d inode slot)))
 
   abbrev low : List Fault
   low = some_below 16 (λ inode.
@@ -367,7 +368,8 @@ module _ (d : Disk) where
         | inl a ↦
             let p = from_slots (λ inode slot.
             when (is_unwritten d inode slot) (Unwritten inode slot (pointer_of d inode slot))) f a in
-            subst (λ (f : Fault). has_fault (keeping None) d f ≡ true) (when_value (is_unwritten d p.row p.column) _ f p.is)
+            subst (λ (f : Fault). has_fault (keeping None) d f ≡ true)
+            (when_value (is_unwritten d p.row p.column) _ f p.is)
             (both (nat_lt p.row 16 && nat_lt p.column 4) _
             (both (nat_lt p.row 16) _ (below p.row 16 p.few) (below p.column 4 p.less))
             (both (is_unwritten d p.row p.column) _ (when_true (is_unwritten d p.row p.column) _ f p.is)
@@ -385,7 +387,8 @@ module _ (d : Disk) where
             | inl a ↦
                 let p = from_slots (λ inode slot.
                 when (is_marked_free d inode slot) (MarkedFree inode slot (pointer_of d inode slot))) f a in
-                subst (λ (f : Fault). has_fault (keeping None) d f ≡ true) (when_value (is_marked_free d p.row p.column) _ f p.is)
+                subst (λ (f : Fault). has_fault (keeping None) d f ≡ true)
+                (when_value (is_marked_free d p.row p.column) _ f p.is)
                 (both (nat_lt p.row 16 && nat_lt p.column 4) _
                 (both (nat_lt p.row 16) _ (below p.row 16 p.few) (below p.column 4 p.less))
                 (both (is_marked_free d p.row p.column) _ (when_true (is_marked_free d p.row p.column) _ f p.is)
@@ -393,7 +396,8 @@ module _ (d : Disk) where
             | inr a ↦
                 let p = from_slots (λ inode slot.
                 when (is_wild d inode slot) (Wild inode slot (pointer_of d inode slot))) f a in
-                subst (λ (f : Fault). has_fault (keeping None) d f ≡ true) (when_value (is_wild d p.row p.column) _ f p.is)
+                subst (λ (f : Fault). has_fault (keeping None) d f ≡ true)
+                (when_value (is_wild d p.row p.column) _ f p.is)
                 (both (nat_lt p.row 16 && nat_lt p.column 4) _
                 (both (nat_lt p.row 16) _ (below p.row 16 p.few) (below p.column 4 p.less))
                 (both (is_wild d p.row p.column) _ (when_true (is_wild d p.row p.column) _ f p.is)
@@ -419,14 +423,16 @@ strict_told kept d f h = elim (Contains-append_cases (some_below 16 (λ inode. w
       | inr b ↦ inr (from_some 16 (λ inode. when (lacks_block d inode) (NoBlock inode)) f b)
     ]
 
-lost_listed : (kept : ℕ) (d : Disk) (i : ℕ) → i < 16 → is_lost d kept i ≡ true → Contains (strict_faults kept d) (Lost i)
+lost_listed : (kept : ℕ) (d : Disk) (i : ℕ) → i < 16 → is_lost d kept i ≡ true
+    → Contains (strict_faults kept d) (Lost i)
 unfolding strict_faults
 lost_listed kept d i less is = Contains-append_left (some_below 16 (λ inode. when (is_lost d kept inode) (Lost inode)))
     (some_below 16 (λ inode. when (lacks_block d inode) (NoBlock inode))) (Lost i)
     (to_some 16 i (λ inode. when (is_lost d kept inode) (Lost inode)) (Lost i) less
     (when_is (is_lost d kept i) (Lost i) (Lost i) is refl))
 
-bare_listed : (kept : ℕ) (d : Disk) (i : ℕ) → i < 16 → lacks_block d i ≡ true → Contains (strict_faults kept d) (NoBlock i)
+bare_listed : (kept : ℕ) (d : Disk) (i : ℕ) → i < 16 → lacks_block d i ≡ true
+    → Contains (strict_faults kept d) (NoBlock i)
 unfolding strict_faults
 bare_listed kept d i less is = Contains-append_right (some_below 16 (λ inode. when (is_lost d kept inode) (Lost inode)))
     (some_below 16 (λ inode. when (lacks_block d inode) (NoBlock inode))) (NoBlock i)
@@ -472,7 +478,8 @@ keeping_there None d f targets h = six_all d f targets h
 keeping_there (Some kept) d f targets h = elim (Contains-append_cases (faults d) (strict_faults kept d) f h) [
   | inl a ↦ with_strict kept d f (six_all d f targets a)
   | inr b ↦ elim (strict_told kept d f b) [
-    | inl p ↦ subst (λ (f : Fault). has_fault (keeping (Some kept)) d f ≡ true) (when_value (is_lost d kept p.0) (Lost p.0) f p.2)
+    | inl p ↦ subst (λ (f : Fault). has_fault (keeping (Some kept)) d f ≡ true)
+        (when_value (is_lost d kept p.0) (Lost p.0) f p.2)
         (both (nat_lt p.0 16) _ (below p.0 16 p.1) (when_true (is_lost d kept p.0) (Lost p.0) f p.2))
     | inr p ↦ subst (λ (f : Fault). has_fault (keeping (Some kept)) d f ≡ true)
         (when_value (lacks_block d p.0) (NoBlock p.0) f p.2)

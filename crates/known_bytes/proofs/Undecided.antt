@@ -123,7 +123,8 @@ module _ (inside f : Family) (view : inside ≡ f) (block offset : ℕ) where
       (passing_starts inside block offset P undecided there split.exactly at_byte)
 
   -- an id of a set that covers the byte is one of the patches
-  pub id_known : (ps : List Patch) (id : ℕ) → ps ≡ inside.patches → CoversAt inside.patches id block offset → id < length ps
+  pub id_known : (ps : List Patch) (id : ℕ) → ps ≡ inside.patches → CoversAt inside.patches id block offset
+      → id < length ps
   id_known ps id same at =
       let here = subst (λ (xs : List Patch). IsAt xs id at.patch) (sym same) at.at in
       slice_get_within ps id at.patch here

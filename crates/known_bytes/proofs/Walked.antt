@@ -1,5 +1,6 @@
 -- What the walk over headers that may be there keeps, on all images of a family.
-use Rattle.std.proofs.Common.{◌≡◌, ◌≢◌, ℕ, ◌+◌, ◌<◌, ◌≤◌, ◌⊎◌, inl, inr, List, [], ◌∷◌, length, ◌&&◌, get_or, Bool, true, false}
+use Rattle.std.proofs.Common.{◌≡◌, ◌≢◌, ℕ, ◌+◌, ◌<◌, ◌≤◌, ◌⊎◌, inl, inr, List, [], ◌∷◌, length, ◌&&◌, get_or, Bool}
+use Rattle.std.proofs.Common.{true, false}
 use Rattle.std.proofs.Common.{arith, tests, refl, sym, ◌∙◌, ap, subst}
 use Rattle.std.specs.Prelude.{slice_index, ◌==◌, unwrap_or, Option, zero, suc, Result, Ok, Err, IfErr, nat_le, None}
 use Rattle.std.specs.List.{All, list_all}
@@ -120,7 +121,8 @@ module _ (f : Family) (old was new is before after : List ℕ) (at turn : ℕ) (
     (walk : IsWalking f old was before at turn comes) (may : may_have f.base at targets ≡ true)
     (shape : HasTargets f at targets) where
   room : at + length targets ≤ 3 + f.base.journal
-  room = may_room (at + length targets) (3 + f.base.journal) (is_ascending targets) (list_all (is_target f.base) targets) may
+  room = may_room (at + length targets) (3 + f.base.journal) (is_ascending targets)
+      (list_all (is_target f.base) targets) may
     where
       may_room : (a b : ℕ) (x y : Bool) → (nat_le a b && x && y) ≡ true → a ≤ b
       may_room a b x y h = grind (arith, tests)

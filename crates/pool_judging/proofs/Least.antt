@@ -138,4 +138,5 @@ least_is_first demands base patches faults kind (Some set) are is = record {
 }
   where
     first_with : (d : DecidedFault) → Contains faults d → IsFirst (HasFault demands base patches d.fault) d.first
-    first_with d there = All-contains (λ f. IsFirst (HasFault demands base patches f.fault) f.first) faults d are.each there
+    first_with d there = All-contains (λ f. IsFirst (HasFault demands base patches f.fault) f.first) faults d are.each
+        there

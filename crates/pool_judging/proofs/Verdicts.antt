@@ -60,8 +60,10 @@ no_failure_prop (Ok (Fails firsts)) = hlevel
 no_failure_prop (Err e) = hlevel
 
 -- where replay recovers from every crash no set fails
-pub never_fails : (strict atomic whole : Bool) (demands : Demands) (base : Disk) (steps : List Step) (patches : List Patch)
-    (verdict : Verdict) → IsDisk base → AreDemands strict atomic base steps demands → IsFullSafe whole base steps patches
+pub never_fails : (strict atomic whole : Bool) (demands : Demands) (base : Disk) (steps : List Step)
+    (patches : List Patch)
+    (verdict : Verdict) → IsDisk base → AreDemands strict atomic base steps demands
+    → IsFullSafe whole base steps patches
     → IsVerdictOn demands base patches verdict → IsNoFailure verdict
 never_fails strict atomic whole demands base steps patches Passes disk told safe is = tt
 never_fails strict atomic whole demands base steps patches (Refused reason) disk told safe is = tt

@@ -19,7 +19,8 @@ use Rattle.question_model.specs.EnoughReport.{rules_report_bytes, rules_text, se
 use Rattle.json_values.specs.Items.{leading_json}
 use Rattle.report_json.specs.JsonReport.{strict_key, whole_key, from_strict}
 use Rattle.report_sections.specs.Bodies.{explanation_by}
-use Rattle.question_reports.specs.EnoughFindings.{group_head, group_items, group_lines, report_of, set_items, told_first}
+use Rattle.question_reports.specs.EnoughFindings.{group_head, group_items, group_lines, report_of, set_items}
+use Rattle.question_reports.specs.EnoughFindings.{told_first}
 use Rattle.question_reports.specs.EnoughFindings.{told_group}
 use Rattle.question_reports.specs.declared.enough.findings.EnoughFindings.{EnoughFindings}
 

@@ -15,7 +15,8 @@ use Rattle.question_model.specs.Refused.{refusal_number, refusal_text}
 use Rattle.question_model.specs.SearchReport.{json_search, kind_json, refused_json, step_text}
 use Rattle.question_model.specs.declared.found.Found.{Found}
 use Rattle.question_model.specs.declared.found.RefusedCount.{RefusedCount}
-use Rattle.question_reports.specs.SearchFindings.{kind_head, kind_items, last_keys, ordering_keys, told_kind, told_kinds}
+use Rattle.question_reports.specs.SearchFindings.{kind_head, kind_items, last_keys, ordering_keys, told_kind}
+use Rattle.question_reports.specs.SearchFindings.{told_kinds}
 use Rattle.question_reports.specs.declared.search.findings.KindCrash.{KindCrash}
 use Rattle.question_reports.specs.declared.search.findings.SearchFindings.{SearchFindings}
 

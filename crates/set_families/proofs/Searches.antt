@@ -91,7 +91,8 @@ module _ (deps : List ℕ) (holds : ℕ → Type 0) (family having lacking : Fam
   pub parts_searched : (best found result : Option ℕ) → IsFirstIfAny (OrBest (Holding lacking) best) found
       → IsFirstIfAny (OrBest (Holding having) found) result → IsFirstIfAny (OrBest (Holding family) best) result
   parts_searched best found result =
-      both_searched (Holding lacking) (Holding having) (Holding family) from_lacking from_having in_either best found result
+      both_searched (Holding lacking) (Holding having) (Holding family) from_lacking from_having in_either best found
+      result
 
 -- the first of a whole that has no best one before it
 pub first_of_all : (P Q : ℕ → Type 0) → ((w : ℕ) → P w ↔ Q w) → (result : Option ℕ)

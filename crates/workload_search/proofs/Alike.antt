@@ -43,7 +43,8 @@ module _ (s : Search) where
         record {
           places = λ place has. (all_places s.rules place).0 (is.within place has);
           some = is.some;
-          needed = λ enough. is.needed rest.0 rest.1 (subst (AreEnoughFor s) (sym (rest_is group rest.0 rest.1)) enough);
+          needed = λ enough. is.needed rest.0 rest.1
+              (subst (AreEnoughFor s) (sym (rest_is group rest.0 rest.1)) enough);
           minimal = λ part inside other.
               let less = difference_of all part in
               subst (AreEnoughFor s) (rest_is part less.0 less.1) (is.minimal part less.0 inside other less.1);

@@ -32,7 +32,8 @@ module _ (s : Search) (sequences : List (List ℕ)) where
   behind_last parts some set i d low past = absurd (omega (arith, mod-lt i some, past))
 
   -- one part more
-  pub part_more : (parts n set : ℕ) → (IsEnoughFrom s sequences parts (n + 1) set × IsEnoughForPart s sequences parts n set)
+  pub part_more : (parts n set : ℕ)
+      → (IsEnoughFrom s sequences parts (n + 1) set × IsEnoughForPart s sequences parts n set)
       ↔ IsEnoughFrom s sequences parts n set
   part_more parts n set = (
     λ both i d low past. elim (less_or_not n (i % parts)) [

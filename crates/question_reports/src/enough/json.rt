@@ -4,7 +4,8 @@ ghost use Rattle.std.specs.Prelude.{◌≡◌, ◌++◌, [], length, option_map}
 ghost use Rattle.std.specs.Prelude.{string_bytes, IfOk, OnOk};
 ghost use Rattle.report_model.specs.Answer.{ordering_rules};
 ghost use Rattle.question_model.specs.EnoughReport.{first_fault_json, group_json, json_rules_report, set_json};
-ghost use Rattle.question_reports.specs.EnoughFindings.{group_head, group_items, report_of, set_items, told_first, told_group};
+ghost use Rattle.question_reports.specs.EnoughFindings.{group_head, group_items, report_of, set_items, told_first};
+ghost use Rattle.question_reports.specs.EnoughFindings.{told_group};
 
 use crate::decision::push_decided;
 use crate::enough::findings::{EnoughFindings, FirstFault, NeededGroup};

@@ -36,7 +36,8 @@ returns-clause-reported g c = λ last is.
     (map (λ f. f.first) fs) (map (λ d. d.first) written.told)) c.deref.ensures.value written.firsts in
     let many : c.len.result ≡ length faults = search rules in
     subst (λ n. IsDecision settings script.demands script.base.now last script.traced.patches text n) (sym many)
-    (is_decision settings script.demands script.base.now script.traced last c.closed_number.result faults written.told text
+    (is_decision settings script.demands script.base.now script.traced last c.closed_number.result faults written.told
+    text
     is counted decided (written.of_faults ∙ c.deref.ensures.value) firsts written.whole)
 
 pub returns-clause-safe : goal.returns-clause-safe

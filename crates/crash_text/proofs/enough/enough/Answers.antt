@@ -42,7 +42,8 @@ returns-clause-reported g c = λ last is.
     let needs = c.in_ok-needs.ensures in
     let counted = subst (λ ps. CountsClosed ps c.closed_number.result) c.graph-2.ensures c.closed_number.ensures in
     let earlier = subst (λ ps. AreEarlier (deps_of ps)) (sym c.graph.ensures) is.graph.earlier in
-    let any = subst (λ ps. IsToldAny (detail_of settings script.demands) script.base.now ps (option_map told_first first))
+    let any = subst (λ ps. IsToldAny (detail_of settings script.demands) script.base.now ps
+    (option_map told_first first))
     c.graph.ensures (c.in_ok-first.ensures.told earlier) in
     let form : List ℕ → List (NeededGroup g.row.A.Denot) → List ℕ = λ enough groups.
     rules_report_bytes settings (record {

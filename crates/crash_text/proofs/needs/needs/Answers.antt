@@ -11,7 +11,8 @@ pub loop-rule-preserved : goal.loop-rule-preserved
 loop-rule-preserved g c = λ last emitted links whole.
     let f = c.args.findings.now in
     rule_more (detail_of f.settings.now f.demands.now) f.settings.now.limit f.traced.now.rules f.base.now last
-    f.traced.now.patches c.rules-rule-items.result.now c.loop-rule.rule-index _ c.loop-rule.rules.items c.push.new.self.items
+    f.traced.now.patches c.rules-rule-items.result.now c.loop-rule.rule-index _ c.loop-rule.rules.items
+    c.push.new.self.items
     c.in_ok-usage.usage
     c.loop-rule-test.true (c.loop-rule.invariant last emitted links whole)
     (c.in_ok-usage.ensures last emitted links whole)

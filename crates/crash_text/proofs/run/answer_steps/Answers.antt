@@ -45,7 +45,8 @@ returns-clause-full g c = λ full none.
     let safe = traced_is_safe c.ordering-ordering.result.«module» c.ordering-ordering.result.rules.items
     c.ordering-ordering.result.whole_blocks base c.args.steps.now traced.ok.0 c.in_ok-traced.traced.patches
     (ordering.«module» ∙ full) among disk c.requires.sound.0 c.requires.sound.1 traced.names traced.ok.1 traced.ok.2 in
-    c.answer_traced.ensures.safe (none_fails settings.strict settings.atomic c.ordering-ordering.result.whole_blocks c.in_ok-demands.demands
+    c.answer_traced.ensures.safe (none_fails settings.strict settings.atomic c.ordering-ordering.result.whole_blocks
+    c.in_ok-demands.demands
     base c.args.steps.now
     c.in_ok-traced.traced.patches disk c.in_ok-demands.ensures safe)
 

@@ -20,7 +20,8 @@ returns-clause-report g c =
     record {
       told = map (told_kind pool) crashes;
       kinds = told_shown pool crashes ∙ (c.in_ok-kinds.ensures.shown ∙ c.as_slice.ensures.value);
-      each = All-map (IsToldKind (search_by judge) settings.explain) (told_kind pool) crashes c.in_ok-kinds.ensures.told;
+      each = All-map (IsToldKind (search_by judge) settings.explain) (told_kind pool) crashes
+          c.in_ok-kinds.ensures.told;
       whole = c.in_ok-search_report.ensures ∙ ap (λ (ks : List (KindCrash g.row.A.Denot)).
           search_bytes settings judge.most (length pool) c.args.found.now (map (told_kind pool) ks))
           c.deref.ensures.value;

@@ -28,7 +28,8 @@ returns-clause-full g c = λ full none.
     let disk : IsDisk pool.base.now = search rules in
     let none_fails = nothing_fails s is_full disk c.requires.sound.0 c.requires.sound.1 c.requires.acts in
     c.in_ok-outcome.ensures.number
-    ∙ ap (λ (n : ℕ). if n == 0 then 0 else 1) (none_failing s c.in_ok-searched.searched.found c.in_ok-searched.ensures.found none_fails)
+    ∙ ap (λ (n : ℕ). if n == 0 then 0 else 1) (none_failing s c.in_ok-searched.searched.found
+    c.in_ok-searched.ensures.found none_fails)
 
 pub returns-clause-reported : goal.returns-clause-reported
 returns-clause-reported g c =

@@ -8,7 +8,8 @@ pub returns-clause-safe : goal.returns-clause-safe
 returns-clause-safe g c = λ none.
     let script = c.args.script.now in
     let found = c.in_ok-found.ensures.found in
-    let exactly = subst (λ ps. AreAllInOrder (IsFailingUnder script.demands script.base.now ps) found.sets) c.graph.ensures
+    let exactly = subst (λ ps. AreAllInOrder (IsFailingUnder script.demands script.base.now ps) found.sets)
+    c.graph.ensures
     found.totals.exactly in
-    found.totals.number ∙ none_listed (IsFailingUnder script.demands script.base.now script.traced.patches) found.sets none
-    exactly
+    found.totals.number ∙ none_listed (IsFailingUnder script.demands script.base.now script.traced.patches)
+    found.sets none exactly

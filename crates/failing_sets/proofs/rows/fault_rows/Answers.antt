@@ -38,7 +38,8 @@ pub returns : goal.returns
 returns g c =
     let base = c.args.base.now in
     let patches = c.args.graph.now in
-    failing_rows c.args.demands.now base patches c.args.sets.now c.loop-set.summary c.into_rows.result.items c.requires.exactly
+    failing_rows c.args.demands.now base patches c.args.sets.now c.loop-set.summary c.into_rows.result.items
+    c.requires.exactly
     (subst (λ (ss : List ℕ). AreSummed (HasAmong (faults_after c.args.demands.now base patches) ss) c.loop-set.summary)
     (take_all c.loop-set.set-index c.args.sets.now c.loop-set-test.false) c.loop-set.invariant.summed)
     c.into_rows.ensures.same c.into_rows.ensures.ordered

@@ -4,7 +4,8 @@ use Rattle.crash_model.specs.Layout.{is_data}
 use Rattle.fault_deciding.proofs.Found.{AreGathered, gathered_same, gathered_more}
 use Rattle.fault_deciding.proofs.candidates.entries.Goals as goal
 use Rattle.fault_deciding.proofs.candidates.entries.Goals.{then-is_data+then-has, else-is_data}
-use Rattle.fault_deciding.proofs.candidates.entries.Goals.{else-is_data-via-then-is_data+else-has, else-is_data-via-else-is_data}
+use Rattle.fault_deciding.proofs.candidates.entries.Goals.{else-is_data-via-then-is_data+else-has}
+use Rattle.fault_deciding.proofs.candidates.entries.Goals.{else-is_data-via-else-is_data}
 
 pub loop-block-preserved : goal.loop-block-preserved
 loop-block-preserved g c =
@@ -28,7 +29,8 @@ loop-block-preserved g c =
             | else-is_data-via-then-is_data+else-has u ↦
                 let never : true ≡ false = sym (u.has.ensures.1 has) ∙ u.if-has.false in absurd (cc)
             | else-is_data-via-else-is_data u ↦
-                let never : true ≡ false = sym is ∙ ap (λ (d : Disk). is_data d b) (sym c.base-in-loop-block.ensures.base)
+                let never : true ≡ false = sym is ∙ ap (λ (d : Disk). is_data d b)
+                (sym c.base-in-loop-block.ensures.base)
                 ∙ sym c.is_data.ensures.value ∙ u.if-is_data.false in absurd (cc)
           ]) c.loop-block.invariant)
     ]

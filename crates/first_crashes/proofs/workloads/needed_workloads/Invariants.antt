@@ -7,5 +7,6 @@ use Rattle.first_crashes.proofs.workloads.needed_workloads.Given as goal
 abbrev pub invariant-loop-group : goal.invariant-loop-group
 invariant-loop-group g l = record {
   groups : map (λ needed. needed.group) l.needs.items ≡ take l.group-index l.groups;
-  told : All (IsToldNeed (search_by l.rules.judge.now) l.explain) (map (told_need l.rules.judge.now.pool.now) l.needs.items);
+  told : All (IsToldNeed (search_by l.rules.judge.now) l.explain)
+      (map (told_need l.rules.judge.now.pool.now) l.needs.items);
 }

@@ -15,7 +15,8 @@ loop-decided-preserved c =
     let within = c.loop-decided-test.true in
     elim c.if-eq.branch [
       | then-eq w ↦ subst (IsLeastOfKind kind (take (i + 1) faults)) (sym w.least-is)
-          (least_more kind faults i d within c.loop-decided.least w.earlier.result (search rules) c.loop-decided.invariant
+          (least_more kind faults i d within c.loop-decided.least w.earlier.result (search rules)
+          c.loop-decided.invariant
           w.earlier.ensures.one w.earlier.ensures.set w.earlier.ensures.least)
       | else-eq w ↦ subst (IsLeastOfKind kind (take (i + 1) faults)) (sym w.least-is)
           (least_other kind faults i d within c.loop-decided.least (search rules) c.loop-decided.invariant)

@@ -24,7 +24,8 @@ returns-clause-enough g c = λ last of_trace.
     let sets = c.in_ok-found.found.enough.items in
     in_order_alike (model.IsMinimalEnough demands base s t.rules) (model.IsMinimalEnough demands base last t.rules) sets
     (minimal_in_each demands base t s last t.rules (one_tracing base t) of_trace)
-    (in_order_alike (IsMinimalEnough all (EnoughOf demands base s t.rules)) (model.IsMinimalEnough demands base s t.rules)
+    (in_order_alike (IsMinimalEnough all (EnoughOf demands base s t.rules))
+    (model.IsMinimalEnough demands base s t.rules)
     sets (minimal_same demands base s t.rules all (all_places t.rules)) c.in_ok-found.ensures.minimal)
 
 pub returns-clause-needed : goal.returns-clause-needed

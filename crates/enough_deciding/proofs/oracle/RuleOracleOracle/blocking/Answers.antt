@@ -11,7 +11,8 @@ returns-in-None g c =
     let demands = c.args.self.now.demands.now in
     let base = c.args.self.now.base.now in
     let t = c.args.self.now.traced.now in
-    let it = subst (IsFirstBy demands base t (rules_in t.rules c.args.set)) c.in-None.is c.in_ok-first_fault.ensures in (
+    let it = subst (IsFirstBy demands base t (rules_in t.rules c.args.set)) c.in-None.is
+    c.in_ok-first_fault.ensures in (
       it.0,
       it.1,
       λ crash failing.

@@ -13,15 +13,18 @@ returns-clause-total g c =
 
 pub returns-clause-failing : goal.returns-clause-failing
 returns-clause-failing g c =
-    subst (λ s. AreAllInOrder (IsFailingUnder s.demands s.base s.patches) c.in_ok-found.found.broken.items) c.new-space.ensures
-    (c.exploring_finds_the_failing_sets.ensures.failing c.in_ok-found.found.broken.items c.in_ok-found.ensures.found.broken)
+    subst (λ s. AreAllInOrder (IsFailingUnder s.demands s.base s.patches) c.in_ok-found.found.broken.items)
+    c.new-space.ensures
+    (c.exploring_finds_the_failing_sets.ensures.failing c.in_ok-found.found.broken.items
+    c.in_ok-found.ensures.found.broken)
 
 -- no shard has more sets than the limit
 pub for_fullest-room-requires-clause-within : goal.for_fullest-room-requires-clause-within
 for_fullest-room-requires-clause-within g c =
     let counts = c.count_by_remainder.new.counts in
     c.largest.ensures.least c.prime_at_least-limit.result (λ q near.
-    let few = shard_within c.deref.result.now counts c.in-Some.sets c.in-Some.ensures.number.0 c.in-Some.ensures.counts q
+    let few = shard_within c.deref.result.now counts c.in-Some.sets c.in-Some.ensures.number.0 c.in-Some.ensures.counts
+    q
     near in omega (arith, few, c.prime_at_least-limit.ensures.enough))
 
 -- the board is as large as the sets are many, and its rows hold the fullest shard, so it is never too small for them
@@ -33,7 +36,8 @@ returns-in_err-found-clause-too_many g c =
     let same : deps ≡ deps_of c.args.crashes.now.graph.now =
     c.deref.ensures.0 ∙ c.dependencies-deps.ensures.exact in
     refused_otherwise c.args.crashes.now.graph.now c.args.self.now.settings.now.limit c.in_err-found.field-0.0
-    c.from_residual.result c.from_residual.ensures.1 (λ is. not_overfilled deps counts c.in-Some.sets c.in-Some.ensures.number.0 c.in-Some.ensures.counts _
+    c.from_residual.result c.from_residual.ensures.1
+    (λ is. not_overfilled deps counts c.in-Some.sets c.in-Some.ensures.number.0 c.in-Some.ensures.counts _
     (λ set reached. subst (λ deps. IsClosed deps set) (sym same)
     (subst (λ s. IsClosed (deps_of s.patches) set) c.new-space.ensures
     ((c.reach_is_the_closed_sets.ensures set).0 reached)))

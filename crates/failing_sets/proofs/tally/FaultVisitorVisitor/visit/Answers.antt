@@ -12,7 +12,8 @@ returns-then-is_clean_under-clause-told g c = λ sets told.
     let base = c.args.self.now.base in
     let patches = c.args.self.now.patches in
     let same : c.self.inside.demands.now ≡ demands = ap (λ (v : Crashes). v.demands) c.self.view_is in
-    let image = moved_faults c.self.inside.demands.now demands base patches c.args.scratch.now.images c.move_to.new.self c.args.set
+    let image = moved_faults c.self.inside.demands.now demands base patches c.args.scratch.now.images
+    c.move_to.new.self c.args.set
     c.image.result.now same c.requires.own c.move_to.ensures c.image.ensures in
     clean_set (faults_after demands base patches) sets c.args.set c.args.tally.now.failing c.args.tally.now.summary
     (sym image ∙ (c.is_clean_under.ensures.0 c.if-is_clean_under.true).faultless) told
@@ -23,9 +24,11 @@ returns-clause-told g c = λ sets told.
     let base = c.args.self.now.base in
     let patches = c.args.self.now.patches in
     let same : c.self.inside.demands.now ≡ demands = ap (λ (v : Crashes). v.demands) c.self.view_is in
-    let image = moved_faults c.self.inside.demands.now demands base patches c.args.scratch.now.images c.move_to.new.self c.args.set
+    let image = moved_faults c.self.inside.demands.now demands base patches c.args.scratch.now.images
+    c.move_to.new.self c.args.set
     c.image.result.now same c.requires.own c.move_to.ensures c.image.ensures in
-    let again = moved_faults c.self.inside.demands.now demands base patches c.args.scratch.now.images c.move_to.new.self c.args.set
+    let again = moved_faults c.self.inside.demands.now demands base patches c.args.scratch.now.images
+    c.move_to.new.self c.args.set
     c.image-2.result.now same c.requires.own c.move_to.ensures c.image-2.ensures in
     let found : c.deref.result.now ≡ faults_after demands base patches c.args.set = c.deref.ensures.value
     ∙ (c.in_ok-list_faults_under.ensures ∙ again) in

@@ -18,6 +18,7 @@ returns g c =
       λ yes. let no : false ≡ true = yes in absurd (cc),
       λ some.
           let fault = some_fault self.demands.now self.chains.now some.0 some.1 in
-          absurd (none_at_all (HasFaultOf self.demands.now self.chains.now) c.args.faults.now c.loop-fault.fault-index c.requires
+          absurd (none_at_all (HasFaultOf self.demands.now self.chains.now) c.args.faults.now c.loop-fault.fault-index
+          c.requires
           c.loop-fault.invariant c.loop-fault-test.false fault.0 some.0 fault.1),
     )

@@ -11,7 +11,8 @@ returns-in-Some g c =
     let self = c.args.self.now in
     let faults = c.args.faults.now in
     let at = c.loop-fault.fault-index in
-    first_decided (HasFaultOf self.demands.now self.chains.now) faults at (get_or faults at (Dangling 0 0 0)) c.in-Some.first
+    first_decided (HasFaultOf self.demands.now self.chains.now) faults at (get_or faults at (Dangling 0 0 0))
+    c.in-Some.first
     c.requires.all c.requires.ordered c.loop-fault-test.true
     (get_or_default faults at (get_or faults at (Dangling 0 0 0)) (Dangling 0 0 0) c.loop-fault-test.true)
     c.loop-fault.invariant c.in-Some.ensures

@@ -9,7 +9,8 @@ loop-links-preserved g c =
     let high = c.link_counts-values.result.high in
     elim c.if-has.branch [
       | then-has+in_ok-push_above w ↦ rw w.faults-is (low_next low high c.args.inode c.args.most c.loop-links.links
-          c.args.faults.now.items c.loop-links.faults.items w.push_above.new.faults.items w.in_ok-push_above.ensures.kept
+          c.args.faults.now.items c.loop-links.faults.items w.push_above.new.faults.items
+          w.in_ok-push_above.ensures.kept
           w.in_ok-push_above.ensures.above c.loop-links.invariant)
       | else-has w ↦ rw w.faults-is (low_same low high c.args.inode c.args.most c.loop-links.links
           c.args.faults.now.items c.loop-links.faults.items

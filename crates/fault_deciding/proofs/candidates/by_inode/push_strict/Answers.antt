@@ -9,5 +9,6 @@ loop-inode-preserved g c = strict_next c.in-Some.kept c.loop-inode.inode c.args.
     c.in_ok-push_kept.ensures.strict c.loop-inode.invariant
 
 pub returns-clause-strict : goal.returns-clause-strict
-returns-clause-strict g c = subst (λ (kept : Option ℕ). HasStrictUnder kept c.loop-inode.faults.items) (sym c.in-Some.is)
+returns-clause-strict g c = subst (λ (kept : Option ℕ). HasStrictUnder kept c.loop-inode.faults.items)
+    (sym c.in-Some.is)
     (λ inode less. c.loop-inode.invariant.each inode (omega arith))

@@ -17,10 +17,13 @@ loop-before-preserved g c =
     let n = c.loop-before.before in
     elim c.if-has.branch [
       | then-has+in_ok-push_pointer w ↦ rw w.faults-is (blocks_more base low high c.args.inode c.args.slot n
-          c.args.faults.now.items c.loop-before.faults.items w.push_pointer.new.faults.items w.in_ok-push_pointer.ensures.kept
+          c.args.faults.now.items c.loop-before.faults.items w.push_pointer.new.faults.items
+          w.in_ok-push_pointer.ensures.kept
           record {
-            tame = λ is. w.in_ok-push_pointer.ensures.tame (w.is_data.ensures.value ∙ (ap (λ (d : Disk). is_data d (n + 1)) c.base-base.ensures.base ∙ is));
-            wild = λ is. w.in_ok-push_pointer.ensures.wild (w.is_data.ensures.value ∙ (ap (λ (d : Disk). is_data d (n + 1)) c.base-base.ensures.base ∙ is));
+            tame = λ is. w.in_ok-push_pointer.ensures.tame
+                (w.is_data.ensures.value ∙ (ap (λ (d : Disk). is_data d (n + 1)) c.base-base.ensures.base ∙ is));
+            wild = λ is. w.in_ok-push_pointer.ensures.wild
+                (w.is_data.ensures.value ∙ (ap (λ (d : Disk). is_data d (n + 1)) c.base-base.ensures.base ∙ is));
           }
           c.loop-before.invariant)
       | else-has w ↦ rw w.faults-is (blocks_same base low high c.args.inode c.args.slot n c.args.faults.now.items

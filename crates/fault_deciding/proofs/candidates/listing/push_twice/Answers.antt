@@ -12,7 +12,8 @@ loop-block-preserved g c =
     let n = c.loop-block.block in
     elim c.if-is_data.branch [
       | then-is_data+in_ok-push w ↦ rw w.faults-is (below_next (λ b. is_data base b ≡ true) (λ b. Twice b) n
-          c.args.faults.now.items c.loop-block.faults.items w.push.new.self.items w.in_ok-push.ensures.items c.loop-block.invariant)
+          c.args.faults.now.items c.loop-block.faults.items w.push.new.self.items w.in_ok-push.ensures.items
+          c.loop-block.invariant)
       | else-is_data w ↦ rw w.faults-is (below_same (λ b. is_data base b ≡ true) (λ b. Twice b) n
           c.args.faults.now.items c.loop-block.faults.items
           (λ is. let never : true ≡ false = sym is ∙ ap (λ (d : Disk). is_data d n) (sym c.base-base.ensures.base)
@@ -22,4 +23,5 @@ loop-block-preserved g c =
 
 pub returns-clause-twice : goal.returns-clause-twice
 returns-clause-twice g c = twice_listed c.args.bytes.now c.loop-block.block c.args.faults.now.items
-    c.loop-block.faults.items c.base-base.ensures.alike (omega (arith, c.base-base.ensures.disk.most)) c.loop-block.invariant
+    c.loop-block.faults.items c.base-base.ensures.alike (omega (arith, c.base-base.ensures.disk.most))
+    c.loop-block.invariant

@@ -5,4 +5,5 @@ pub returns-clause-first : goal.returns-clause-first
 returns-clause-first c = λ value is. in_first c.args.self.low c.args.self.high c.args.more.low c.args.more.high value is
 
 pub returns-clause-second : goal.returns-clause-second
-returns-clause-second c = λ value is. in_second c.args.self.low c.args.self.high c.args.more.low c.args.more.high value is
+returns-clause-second c = λ value is. in_second c.args.self.low c.args.self.high c.args.more.low c.args.more.high value
+    is

@@ -14,7 +14,8 @@ pub returns-else-value-lt128-clause-added : goal.returns-else-value-lt128-clause
 returns-else-value-lt128-clause-added c =
     let large : 128 ≤ c.args.value = omega (arith, c.if-value-lt128.false) in
     added_high c.args.self.low c.args.self.high c.args.value (c.from-else-value-lt128.result - 128)
-    c.with-else-value-lt128.result large (omega (arith, c.from-else-value-lt128.ensures)) c.with-else-value-lt128.ensures
+    c.with-else-value-lt128.result large (omega (arith, c.from-else-value-lt128.ensures))
+    c.with-else-value-lt128.ensures
 
 pub returns-else-value-lt128-clause-others : goal.returns-else-value-lt128-clause-others
 returns-else-value-lt128-clause-others c = λ other was. kept_high c.args.self.low c.args.self.high

@@ -8,7 +8,8 @@ use Rattle.crash_model.specs.Disk.{Disk, byte, block_of}
 use Rattle.crash_model.specs.Replay.{is_header}
 use Rattle.known_bytes.specs.Reading.{IsKnown, left}
 use Rattle.known_bytes.specs.Headers.{HasNoHeader, HasTargets, AreNoted, may_have}
-use Rattle.known_bytes.proofs.Walked.{walking_start, walking_step, walking_end, none_may, out_of_journal, all_blocks, err_small, IsWalking}
+use Rattle.known_bytes.proofs.Walked.{walking_start, walking_step, walking_end, none_may, out_of_journal, all_blocks}
+use Rattle.known_bytes.proofs.Walked.{err_small, IsWalking}
 use Rattle.known_bytes.proofs.bytes.KnownBytes.homes.Goals as goal
 
 is_none : (r : Result Bool ℕ) → true ≡ result_eq beq eqb r (Ok false) → r ≡ Ok false
@@ -24,7 +25,8 @@ pub returns-in_default-clause-ok : goal.returns-in_default-clause-ok
 returns-in_default-clause-ok g c =
     let f = c.args.self.now in
     let at = c.loop-at.at in
-    let none = subst (λ (o : Option _). MatchOption o (HasNoHeader f at) (λ ts. HasTargets f at ts.items)) c.in_default.is
+    let none = subst (λ (o : Option _). MatchOption o (HasNoHeader f at) (λ ts. HasTargets f at ts.items))
+    c.in_default.is
     c.in_ok-targets.ensures.ok in
     walking_end f c.loop-at.homes.blocks c.loop-at.homes.others c.loop-at.homes.asks at c.loop-at.turn c.loop-at.comes
     c.base.ensures.alike (λ set m. none set m c.loop-at.turn) c.loop-at.invariant
@@ -42,7 +44,13 @@ returns-then-not-may_have-clause-ok g c =
     ∙ sym c.may_have.ensures ∙ c.if-not-may_have.true in
     walking_end f c.loop-at.homes.blocks c.loop-at.homes.others c.loop-at.homes.asks at c.loop-at.turn c.loop-at.comes
     c.base.ensures.alike (λ set m. none_may f at ts c.base.ensures.alike shape never
-    (omega (arith, c.loop-at.invariant.inside, c.loop-at-test.true, c.journal-end.ensures.value, c.base.ensures.disk.room))
+    (omega (
+      arith,
+      c.loop-at.invariant.inside,
+      c.loop-at-test.true,
+      c.journal-end.ensures.value,
+      c.base.ensures.disk.room,
+    ))
     set m c.loop-at.turn) c.loop-at.invariant
 
 pub has_header-is_there-requires-clause-targets : goal.has_header-is_there-requires-clause-targets
@@ -82,7 +90,8 @@ note-requires-clause-patch g c =
     let at = c.loop-at.at in
     let turn = c.loop-at.turn in
     let test = c.loop-at.invariant.test in
-    let read = c.both-is_read.ensures (left f) (λ d. is_header d at turn (block_of d at)) test c.has_header-is_there.ensures
+    let read = c.both-is_read.ensures (left f) (λ d. is_header d at turn (block_of d at)) test
+    c.has_header-is_there.ensures
     c.loop-at.invariant.known in
     err_small f (λ d. (is_header d at turn (block_of d at) && test d) && (byte d at 0 == 0xC7)) c.both-copied.result
     c.base.ensures.few
@@ -102,7 +111,8 @@ loop-at-preserved g c =
     ap (λ (d : Disk). may_have d at ts) (sym c.base-in-loop-at.ensures.base)
     ∙ ap (λ (xs : List ℕ). may_have c.base-in-loop-at.result.now at xs) (sym c.deref.ensures.0)
     ∙ sym c.may_have.ensures ∙ c.if-not-may_have.false in
-    let read = c.both-is_read.ensures (left f) (λ d. is_header d at turn (block_of d at)) test c.has_header-is_there.ensures
+    let read = c.both-is_read.ensures (left f) (λ d. is_header d at turn (block_of d at)) test
+    c.has_header-is_there.ensures
     c.loop-at.invariant.known in
     let copied = c.both-copied.ensures (left f) (λ d. is_header d at turn (block_of d at) && test d)
     (λ d. byte d at 0 == 0xC7) read c.byte_is.ensures in
@@ -123,5 +133,11 @@ returns-clause-ok g c =
     walking_end f c.loop-at.homes.blocks c.loop-at.homes.others c.loop-at.homes.asks c.loop-at.at c.loop-at.turn
     c.loop-at.comes c.base.ensures.alike
     (out_of_journal f c.loop-at.at c.loop-at.turn c.base.ensures.alike
-    (omega (arith, c.loop-at-test.false, c.journal-end.ensures.value, ap (λ (d : Disk). d.journal) c.base.ensures.base)))
+    (omega (
+      arith,
+      c.loop-at-test.false,
+      c.journal-end.ensures.value,
+      ap (λ (d : Disk). d.journal)
+          c.base.ensures.base,
+    )))
     c.loop-at.invariant

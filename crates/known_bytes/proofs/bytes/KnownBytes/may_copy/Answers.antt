@@ -3,7 +3,8 @@ use Rattle.std.proofs.lemmas.Bool.{cases_eq, false≢true}
 use Rattle.crash_model.specs.Disk.{byte}
 use Rattle.known_bytes.specs.Family.{InEach}
 use Rattle.known_bytes.proofs.bytes.KnownBytes.may_copy.Goals as goal
-use Rattle.known_bytes.proofs.bytes.KnownBytes.may_copy.Goals.{else-at-place-via-then-at-place+else-may_name, else-at-place-via-else-at-place}
+use Rattle.known_bytes.proofs.bytes.KnownBytes.may_copy.Goals.{else-at-place-via-then-at-place+else-may_name}
+use Rattle.known_bytes.proofs.bytes.KnownBytes.may_copy.Goals.{else-at-place-via-else-at-place}
 
 pub loop-place-preserved : goal.loop-place-preserved
 loop-place-preserved g c = λ place header less from behind. elim (cases_eq place c.loop-place.place) [

@@ -14,6 +14,7 @@ invariant_of-result g c = record {
     held = c.args.held;
     barred = c.args.barred;
   } c.ids.result c.difference-free.result c.difference-undecided.result
-      (subst (λ (ps : List Patch). (id : ℕ) → (Has c.ids.result id ↔ (id < length ps))) c.graph.ensures.graph c.ids.ensures)
+      (subst (λ (ps : List Patch). (id : ℕ) → (Has c.ids.result id ↔ (id < length ps))) c.graph.ensures.graph
+      c.ids.ensures)
       c.difference-free.ensures c.difference-undecided.ensures;
 }

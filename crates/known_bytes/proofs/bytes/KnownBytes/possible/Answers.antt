@@ -16,7 +16,8 @@ loop-at-preserved g c =
       own = λ set m. new.grown _ (c.loop-at.invariant.own set m);
       copies = λ at from less set m. elim (cases_eq at c.loop-at.at) [
         | inl same ↦ subst (λ (k : ℕ). IsCopyOf (image_of f.base f.patches set) c.args.block k
-            → HasValue v.low v.high (byte (image_of f.base f.patches set) k c.args.offset)) (sym same) (new.copied set m)
+            → HasValue v.low v.high (byte (image_of f.base f.patches set) k c.args.offset)) (sym same)
+            (new.copied set m)
         | inr other ↦ λ is. new.grown _ (c.loop-at.invariant.copies at from (omega arith) set m is)
       ];
     }

@@ -10,7 +10,8 @@ returns g c =
     let r = c.args.self.now in
     let dir = c.args.dir in
     let block = c.args.block in
-    let mark = subst (λ (n : ℕ). IsKnown r (λ d. byte d n 0 == 0x44) c.byte_is.result) c.from-at.ensures c.byte_is.ensures in
+    let mark = subst (λ (n : ℕ). IsKnown r (λ d. byte d n 0 == 0x44) c.byte_is.result) c.from-at.ensures
+    c.byte_is.ensures in
     let own = subst (λ (n : ℕ). IsKnown r (λ d. byte d n 1 == dir) c.byte_is-2.result) c.from-at.ensures
     c.byte_is-2.ensures in
     c.both.ensures r (λ d. kind_of d dir == 2 && pointer_of d dir 0 == block)

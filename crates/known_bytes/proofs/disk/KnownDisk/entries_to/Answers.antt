@@ -10,7 +10,8 @@ loop-dir-init g c =
     record {
       right = c.none-count.ensures.right;
       few = omega (arith, c.none-count.ensures.zero);
-      bounds = dirs_zero c.args.self.now c.args.inode n.least n.most n.ask (c.none-count.ensures.counted c.args.self.now);
+      bounds = dirs_zero c.args.self.now c.args.inode n.least n.most n.ask
+          (c.none-count.ensures.counted c.args.self.now);
     }
 
 pub loop-dir-preserved : goal.loop-dir-preserved

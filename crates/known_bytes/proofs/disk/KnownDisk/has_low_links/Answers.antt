@@ -17,10 +17,13 @@ returns g c =
     let i = c.args.inode in
     let less : c.args.links < c.args.entries = omega arith in
     known_as r (λ d. (is_live d i && (links_of d i == c.args.links)) && (length (entries_to d i) == c.args.entries))
-    (λ d. has_low_links d i && (length (entries_to d i) == c.args.entries && links_of d i == c.args.links)) c.both.result
+    (λ d. has_low_links d i && (length (entries_to d i) == c.args.entries && links_of d i == c.args.links))
+    c.both.result
     (λ set.
     let d = disk_of r (image_of r.family.base r.family.patches set) in
     low_is (is_live d i) (links_of d i) (length (entries_to d i)) c.args.links c.args.entries less)
-    (c.both.ensures r (λ d. is_live d i && (links_of d i == c.args.links)) (λ d. length (entries_to d i) == c.args.entries)
-    (c.both-is_used.ensures r (λ d. is_live d i) (λ d. links_of d i == c.args.links) c.is_live.ensures c.links_are.ensures)
+    (c.both.ensures r (λ d. is_live d i && (links_of d i == c.args.links))
+    (λ d. length (entries_to d i) == c.args.entries)
+    (c.both-is_used.ensures r (λ d. is_live d i) (λ d. links_of d i == c.args.links) c.is_live.ensures
+    c.links_are.ensures)
     c.entries_are.ensures)

@@ -24,6 +24,7 @@ pub returns : goal.returns
 returns g c =
     let r = c.args.self.now in
     known_in r (λ d. pointer_of d c.args.inode c.args.slot == c.args.block && is_live d c.args.inode)
-    (λ d. is_wild d c.args.inode c.args.slot && pointer_of d c.args.inode c.args.slot == c.args.block) c.points_to.result
+    (λ d. is_wild d c.args.inode c.args.slot && pointer_of d c.args.inode c.args.slot == c.args.block)
+    c.points_to.result
     (λ set m. wild_is (disk_of r (image_of r.family.base r.family.patches set)) c.args.inode c.args.slot c.args.block
     (c.is_data.ensures.value set m ∙ c.if-is_data.false) c.if-block-eq0.false) c.points_to.ensures

@@ -34,9 +34,11 @@ loop-k-preserved g c =
     c.from-block.ensures c.byte_is-names.ensures in
     let names = subst (λ (n : ℕ). IsKnown r (λ d. byte d block n == i + 1) c.byte_is-names.result)
     (c.from.ensures ∙ c.entry_offset.ensures) one in
-    let leads = known_in r (λ d. counts_at dir block d && (byte d block (8 + 12 * k) == i + 1)) (λ d. leads_to d dir k i)
+    let leads = known_in r (λ d. counts_at dir block d && (byte d block (8 + 12 * k) == i + 1))
+    (λ d. leads_to d dir k i)
     c.both.result
-    (λ set m. leads_is (disk_of r (image_of r.family.base r.family.patches set)) dir k block i (c.requires.found.its set m))
+    (λ set m. leads_is (disk_of r (image_of r.family.base r.family.patches set)) dir k block i
+    (c.requires.found.its set m))
     (c.both.ensures r (counts_at dir block) (λ d. byte d block (8 + 12 * k) == i + 1) c.requires.found.known names) in
     record {
       right = c.with-count.ensures.right;

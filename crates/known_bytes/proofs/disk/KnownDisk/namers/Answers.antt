@@ -11,7 +11,8 @@ loop-inode-init g c =
     record {
       right = c.none-count.ensures.right;
       few = omega (arith, c.none-count.ensures.zero);
-      bounds = inodes_zero c.args.self.now c.args.block n.least n.most n.ask (c.none-count.ensures.counted c.args.self.now);
+      bounds = inodes_zero c.args.self.now c.args.block n.least n.most n.ask
+          (c.none-count.ensures.counted c.args.self.now);
     }
 
 pub loop-inode-preserved : goal.loop-inode-preserved

@@ -30,7 +30,8 @@ returns g c =
     elim c.match-found.branch [
       | in-Ok w ↦ subst (λ (a : Result Bool ℕ). IsKnown r (λ d. nat_le 1 (entries_in 10 d i dir)) a) (sym w.is_named-is)
           (w.reach-is_named.ensures r (λ d. entries_in 10 d i dir) w.leads_in.ensures.count)
-      | in-Err w ↦ subst (λ (a : Result Bool ℕ). IsKnown r (λ d. nat_le 1 (entries_in 10 d i dir)) a) (sym w.is_named-is)
+      | in-Err w ↦ subst (λ (a : Result Bool ℕ). IsKnown r (λ d. nat_le 1 (entries_in 10 d i dir)) a)
+          (sym w.is_named-is)
           (subst (λ (a : Result (Option Directory) ℕ). IfErr a (IsUndecided r.family)) w.in-Err.is c.requires.err)
     ] in
     known_as r (λ d. is_live d i && nat_le 1 (entries_in 10 d i dir)) (names_live dir i) c.both.result

@@ -8,7 +8,8 @@ use Rattle.known_bytes.proofs.disk.KnownDisk.only.Given as goal
 abbrev pub invariant-loop-other : goal.invariant-loop-other
 invariant-loop-other g l = record {
   first : InEach l.self.family (λ d. is_one_of 0 l.value (byte d l.home l.offset) ≡ true);
-  seen : AreSeen (λ home. InEach l.self.family (λ d. is_one_of 0 l.value (byte d home l.offset) ≡ true)) l.others l.left;
+  seen : AreSeen (λ home. InEach l.self.family (λ d. is_one_of 0 l.value (byte d home l.offset) ≡ true)) l.others
+      l.left;
 }
 
 abbrev pub decreases-loop-other : goal.decreases-loop-other

@@ -29,5 +29,6 @@ returns g c =
     let old = c.loop-dir.invariant in
     record {
       reach = old.reach;
-      all = reached_all c.args.self.now c.loop-dir.reach.may c.loop-dir.unread c.in_default.ensures old.reach.few old.read;
+      all = reached_all c.args.self.now c.loop-dir.reach.may c.loop-dir.unread c.in_default.ensures old.reach.few
+          old.read;
     }

@@ -25,7 +25,8 @@ returns-in-Err-clause-noted c =
 pub returns-in-Err-clause-asks : goal.returns-in-Err-clause-asks
 returns-in-Err-clause-asks c = λ b some.
     let was = c.args.self.now in
-    let small : c.in-Err.id < 128 = subst (λ (r : Result Bool ℕ). IfErr r (λ id. id < 128)) c.in-Err.is c.requires.patch in
+    let small : c.in-Err.id < 128 = subst (λ (r : Result Bool ℕ). IfErr r (λ id. id < 128)) c.in-Err.is
+    c.requires.patch in
     elim (c.ask.ensures.kept b) [
       | inl among ↦
           let asked = c.ask.ensures.new b among in

@@ -14,7 +14,8 @@ pub returns-in-None : goal.returns-in-None
 returns-in-None c = among c.lowest-in-None.result c.args.self.now.may c.args.unread
     c.lowest-in-None.ensures.found c.lowest-in-None.ensures.within
   where
-    among : (o : Option ℕ) (may unread : ℕ) → MatchOption o (bit_and may unread ≡ 0) (λ id. IsLowest (bit_and may unread) id)
+    among : (o : Option ℕ) (may unread : ℕ) → MatchOption o (bit_and may unread ≡ 0)
+        (λ id. IsLowest (bit_and may unread) id)
         → IfSome o (λ id. id < 128)
         → MatchOption o (bit_and may unread ≡ 0) (λ dir. Has may dir × Has unread dir × (dir < 128))
     among None may unread is within = is

@@ -22,7 +22,8 @@ judge_trace-requires g c =
       trace_longer s front c.args.place c.args.begun.now.tracer _ step low refl b.is c.in-Ok.longer
           c.in-Ok.ensures.ok c.in-Ok.ensures.names,
       subst (AreDemandsAt s (front ++ c.args.place ∷ [])) (sym c.into_demands-demands.ensures)
-          (demands_longer s front c.args.place _ step c.args.begun.now.demanding c.in_ok-demanding-in-Ok.demanding low refl
+          (demands_longer s front c.args.place _ step c.args.begun.now.demanding c.in_ok-demanding-in-Ok.demanding low
+          refl
           c.in_ok-demanding-in-Ok.ensures b.demands).demands,
     )
 

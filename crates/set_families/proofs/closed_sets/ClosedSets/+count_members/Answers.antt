@@ -17,7 +17,8 @@ returns-in-None t c =
 
 pub returns-then-rest-eq0 : goal.returns-then-rest-eq0
 returns-then-rest-eq0 t c =
-    members_counted c.args.self.now.deps.now c.args.family c.hold.result c.bar.result c.busiest-id.result c.hold.ensures.members
+    members_counted c.args.self.now.deps.now c.args.family c.hold.result c.bar.result c.busiest-id.result
+    c.hold.ensures.members
     c.bar.ensures.members c.count_members-having.result c.count_members-lacking.result c.count_members-having.ensures
     c.count_members-lacking.ensures
 

@@ -16,7 +16,8 @@ returns-in_ok-push g c = λ sequences is.
     batch_kept (g.J.Judge.search c.args.self.now.judge.now) c.args.self.now.keeps sequences c.extended-places.result
     (c.args.beginning.now.items ++ c.args.place ∷ []) c.in_ok-verdict.verdict c.args.batch.now _ is
     c.extended-places.ensures (c.in_ok-verdict.ensures c.args.beginning.now.items c.requires.begun)
-    (c.add.ensures is.tried is.tally) c.if-self.true (sym c.passes.ensures ∙ c.if-passes.true) c.in_ok-push.ensures.items
+    (c.add.ensures is.tried is.tally) c.if-self.true (sym c.passes.ensures ∙ c.if-passes.true)
+    c.in_ok-push.ensures.items
 
 pub returns-else-self : goal.returns-else-self
 returns-else-self g c = λ sequences is.
