@@ -4,7 +4,7 @@
 options_with_values="--blocks --journal --module --without --with --limit --explorer --workers --search"
 
 # How long a first proof takes from nothing.
-first_proof="20 to 40 minutes on four processors"
+first_proof="15 to 40 minutes on four processors"
 
 # takes_value WORD: whether it is an option whose value is the next word
 takes_value() { [[ " $options_with_values " = *" $1 "* ]]; }
