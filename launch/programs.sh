@@ -1,4 +1,5 @@
-# The programs of this repository: where one is, whether it is built, and how. To be sourced where `top` is its folder.
+# The programs of this repository: where one is kept, whether it is built, and how. To be sourced where `top` is its
+# folder.
 
 # The C library takes memory in huge pages of 2 MB where the system has them, and keeps what is freed. The board and
 # the report take tens of megabytes, which the system would else hand out 4 KB at a time.
@@ -7,14 +8,16 @@ tunables=$tunables:glibc.malloc.mmap_threshold=33554432:glibc.malloc.trim_thresh
 
 say() { echo "crashmap: $*" >&2; }
 
-# program_of NAME: where the program of that crate is once it is built
-program_of() { echo "$top/crates/$1/out/$1"; }
+# program_of NAME [KIND]: where the program of that crate is kept. KIND is `proved`, or `unproved` for one that was
+# compiled with checks in place of proofs. The gate empties the folders out/ of the crates, so none is kept there.
+program_of() { echo "$top/out/${2-proved}/$1"; }
 
-# is_built NAME: whether it is there, and none of its sources has changed since its build began. The file `built` has
-# the rows of crates.txt that it was built by, so that a change of a crate beside them does not count.
+# is_built NAME [KIND]: whether it is there, and none of its sources has changed since its build began. The file
+# NAME.built has the rows of crates.txt that it was built by, so that a change of a crate beside them does not count.
 is_built() {
-    local built=$top/crates/$1/out/built crate sources=("$top/HANDLES")
-    [ -x "$(program_of "$1")" ] && [ -s "$built" ] || return 1
+    local program built crate sources=("$top/HANDLES")
+    program=$(program_of "$@") built=$(program_of "$@").built
+    [ -x "$program" ] && [ -s "$built" ] || return 1
     ! grep -qvxFf "$top/crates.txt" "$built" || return 1
     while IFS=' :' read -r crate _; do
         sources+=("$top/crates/$crate/"{src,specs,proofs})
@@ -34,4 +37,20 @@ need_rt() {
 build() {
     need_rt
     python3 "$top/launch/prove.py" "$top" "$1" </dev/null || exit 2
+}
+
+# How long a first proof takes from nothing.
+first_proof="15 to 40 minutes on four processors"
+
+# need_unproved NAME: says in one line that an unproved program answers. Where none is kept it compiles one first, with
+# checks in place of proofs, or ends with status 2.
+need_unproved() {
+    if is_built "$1" unproved; then
+        say "this answer's program was not proved here; ./crashmap --prove proves it once, in $first_proof"
+        return
+    fi
+    need_rt
+    say "compiles a program without proofs, in one to four minutes, and keeps it for later answers;" \
+        "./crashmap --prove proves it once, in $first_proof"
+    python3 "$top/launch/compile.py" "$top" "$1" </dev/null || exit 2
 }

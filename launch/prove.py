@@ -14,31 +14,12 @@ import subprocess
 import sys
 import tempfile
 
+from keeping import Build, end_by_signals, say
+
 SOURCES = ("src", "specs", "proofs")
 
 # What a program is tried on once it is built, and what it must write.
 TRIAL = ("args", "stdin", "stdout")
-
-
-def say(text):
-    print(f"crashmap: {text}", file=sys.stderr, flush=True)
-
-
-def rows_of(top, program):
-    """Returns the rows of crates.txt for a program and all that it needs in the repository, by name, libraries
-    first."""
-    lines = (top / "crates.txt").read_text().splitlines(keepends=True)
-    rows = {re.match(r"\w+", line)[0]: line for line in lines if line[:1].isalpha()}
-    found = {}
-
-    def visit(name):
-        for library in rows[name].partition(":")[2].split():
-            if library in rows and library not in found:
-                visit(library)
-        found[name] = rows[name]
-
-    visit(program)
-    return found
 
 
 def copy(top, program, rows, room):
@@ -94,21 +75,14 @@ def prove(room, whole):
 
 
 def prove_and_build(top, program):
-    """Returns whether a program is proved and built. No copy is left behind, however that ends."""
-    rows, out = rows_of(top, program), top / "crates" / program / "out"
-    out.mkdir(parents=True, exist_ok=True)
-    # A source that changes from here on is newer than this file.
-    (out / "begun").write_text("".join(rows.values()))
-    say(f"proving and building {program}: {len(rows)} crates")
-    with tempfile.TemporaryDirectory(prefix="crashmap-") as folder:
-        room = pathlib.Path(folder)
-        copy(top, program, rows, room)
-        if not prove(room, len(rows)):
+    """Returns whether a program is proved and built. Nothing else is left behind, however that ends."""
+    with tempfile.TemporaryDirectory(prefix="crashmap-") as folder, Build(top, program, "proved") as build:
+        room, whole = pathlib.Path(folder), len(build.rows)
+        say(f"proving and building {program}: {whole} crates")
+        copy(top, program, build.rows, room)
+        if not prove(room, whole):
             return False
-        # Under another name first, so that no run finds half of it.
-        shutil.copy(room / "crates" / program / "out" / program, out / f"{program}.new")
-        os.replace(out / f"{program}.new", out / program)
-        os.replace(out / "begun", out / "built")
+        build.keep(room / "crates" / program / "out" / program)
     say(f"built {program}")
     return True
 
@@ -118,8 +92,7 @@ def main():
     parser.add_argument("top", type=pathlib.Path, help="the folder of the repository")
     parser.add_argument("program", help="the name of a crate that is a program")
     asked = parser.parse_args()
-    for number in (signal.SIGINT, signal.SIGTERM):
-        signal.signal(number, lambda number, _: sys.exit(128 + number))
+    end_by_signals()
     return 0 if prove_and_build(asked.top.resolve(), asked.program) else 1
 
 

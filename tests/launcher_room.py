@@ -51,7 +51,7 @@ class LauncherTest(unittest.TestCase):
         """A folder of links to the commands that the launcher calls before it needs rt."""
         folder = self.room / "commands"
         folder.mkdir()
-        for name in ("bash", "dirname", "find", "grep", "python3", "env"):
+        for name in ("bash", "cat", "dirname", "find", "grep", "python3", "env", "head", "od", "sed", "tr"):
             (folder / name).symlink_to(shutil.which(name))
         return str(folder)
 

@@ -169,17 +169,18 @@ class Install(unittest.TestCase):
         calls = self.folder / "calls"
         return run.returncode, calls.read_text().splitlines() if calls.exists() else []
 
-    def test_both_are_there(self):
-        self.have("chromium")
-        self.have("node")
+    def test_all_are_there(self):
+        for name in ("chromium", "node", "strace"):
+            self.have(name)
         self.assertEqual(self.install(), (0, []))
 
     def test_one_is_missing(self):
         self.have("node")
+        self.have("strace")
         self.assertEqual(self.install(), (0, ["update", "install -y --no-install-recommends chromium"]))
 
-    def test_both_are_missing(self):
-        self.assertEqual(self.install(), (0, ["update", "install -y --no-install-recommends chromium nodejs"]))
+    def test_all_are_missing(self):
+        self.assertEqual(self.install(), (0, ["update", "install -y --no-install-recommends chromium nodejs strace"]))
 
     def test_they_cannot_be_installed(self):
         self.have("apt-get", f'echo "$*" >>{self.folder}/calls; [ "$1" != update ] || exit 100')

@@ -7,18 +7,21 @@ anything. What rt itself does is not tried here.
 import os
 import pathlib
 import re
+import shutil
 import signal
 import subprocess
 import time
 import unittest
 
+from launch import pages
 from tests.launcher_room import ROWS, LauncherTest
-from tests.program import ROOT, program
+from tests.program import program
 from tests.terminal import typed_on_terminal
 
-UNPROVED = re.compile(r"crashmap: this answer's program was not proved here; \./crashmap --prove proves it once, in"
-                      r" \d+ to \d+ minutes on four processors, and makes each later call immediate")
-READS_INPUT = "crashmap: reads a script from standard input, up to Ctrl-D; --help lists the options"
+PROVES = r"\./crashmap --prove proves it once, in \d+ to \d+ minutes on four processors"
+COMPILES = re.compile(r"crashmap: compiles a program without proofs, in one to four minutes, and keeps it for later"
+                      rf" answers; {PROVES}")
+UNPROVED = re.compile(rf"crashmap: this answer's program was not proved here; {PROVES}")
 NO_RT = "crashmap: the command rt of the Rattle kit is needed to build the program"
 
 
@@ -31,75 +34,72 @@ def is_running(process):
 
 
 class UnprovedAnswers(LauncherTest):
-    """Where nothing is built, an answer comes at once, and one line says that it is not proved."""
+    """Where nothing is proved, an unproved program is compiled once, and one line says that it answers."""
 
     def words(self):
         """The words that the unproved program was run with."""
         return (self.fake / "words").read_text().splitlines()
 
-    def assert_unproved(self, *words, **options):
+    def assert_unproved(self, *words, line=UNPROVED, **options):
         status, output, errors = self.launch(*words, **options)
         self.assertEqual(status, 1)
-        self.assertRegex(errors[0], UNPROVED)
+        self.assertRegex(errors[0], line)
         self.assertEqual(errors[1:], ["crashmap: what the program says"])
         self.assert_nothing_left()
         return output
 
-    def test_an_answer_where_nothing_is_built(self):
-        self.assertEqual(self.assert_unproved("--strict", "--module", "async"), "unproved: --strict --module async\n")
+    def test_the_first_answer_compiles_and_later_ones_do_not(self):
+        words, said = ("--strict", "--module", "async"), "unproved: --strict --module async\n"
+        self.assertEqual(self.assert_unproved(*words, line=COMPILES), said)
         self.assertEqual(len(self.calls()), 1)
         self.assertTrue(self.calls()[0].startswith("try "))
+        self.assertEqual(self.assert_unproved(*words), said)
+        self.assertEqual(self.assert_unproved(*words, PATH=self.path_without_rt()), said)
+        self.assertEqual(len(self.calls()), 1)
 
     def test_a_script_on_standard_input(self):
-        self.assertEqual(self.assert_unproved(text="start\n"), "unproved: \nstart\n")
+        for line in (COMPILES, UNPROVED):
+            self.assertEqual(self.assert_unproved(text="start\n", line=line), "unproved: \nstart\n")
 
     def test_a_script_that_is_typed(self):
-        """With no words, on a terminal, it says that it reads standard input."""
         run = typed_on_terminal([self.top / "crashmap"], b"start\n", cwd=self.top, env=self.environment)
-        first, second, third, rest = run.terminal.decode().split("\r\n")
+        first, second, rest = run.terminal.decode().split("\r\n")
         self.assertEqual((run.status, run.output, rest), (1, b"unproved: \nstart\n", ""))
-        self.assertRegex(first, UNPROVED)
-        self.assertEqual(second, READS_INPUT)
-        self.assertEqual(third, "crashmap: what the program says")
+        self.assertRegex(first, COMPILES)
+        self.assertEqual(second, "crashmap: what the program says")
 
-    def test_words_with_spaces_and_stars(self):
-        self.assert_unproved("--module", "a b *", "")
-        self.assertEqual(self.words(), ["--module", "a b *", ""])
+    def test_the_program_gets_the_words_as_they_are_in_the_same_folder(self):
+        words = ["--module", "a b *", "", "some/script", "--", "--strict"]
+        for line in (COMPILES, UNPROVED):
+            self.assert_unproved(*words, line=line, folder=self.room)
+            self.assertEqual(self.words(), words)
+            self.assertEqual((self.fake / "folder").read_text(), f"{self.room}\n")
 
-    def test_the_script_is_found_from_another_folder(self):
-        self.assert_unproved("--module", "soft", "some/script", "--strict", folder=self.room)
-        self.assertEqual(self.words(), ["--module", "soft", f"{self.room}/some/script", "--strict"])
+    def test_a_change_of_a_source_compiles_again(self):
+        self.assert_unproved(line=COMPILES)
+        (self.top / "crates/beside/src/lib.rt").write_text("changed\n")
+        self.assert_unproved()
+        (self.top / "crates/low/src/lib.rt").write_text("changed\n")
+        self.assert_unproved(line=COMPILES)
+        self.assert_unproved()
 
-    def test_a_script_with_a_whole_path_stays(self):
-        self.assert_unproved("/some/script")
-        self.assertEqual(self.words(), ["/some/script"])
+    def test_a_source_that_changes_while_the_program_is_compiled(self):
+        self.set_mode("changes")
+        self.assert_unproved(line=COMPILES)
+        self.assert_unproved(line=COMPILES)
 
-    def test_a_value_that_is_the_name_of_a_file_stays(self):
-        for name in ("soft", "16", "--limit"):
-            (self.room / name).write_text("start\n")
-        self.assert_unproved("--module", "soft", "--limit", "16", "soft", folder=self.room)
-        self.assertEqual(self.words(), ["--module", "soft", "--limit", "16", f"{self.room}/soft"])
+    def test_the_gate_takes_no_program_away(self):
+        """The gate empties the folders out/ of all crates when it begins."""
+        self.assert_unproved(line=COMPILES)
+        self.empty_crates_out()
+        self.assert_unproved()
+        self.prove()
+        self.empty_crates_out()
+        self.assertEqual(self.launch("a"), (1, "proved: a\n", []))
 
-    def test_a_value_joined_to_its_option_stays(self):
-        self.assert_unproved("--module=soft", "script", folder=self.room)
-        self.assertEqual(self.words(), ["--module=soft", f"{self.room}/script"])
-
-    def test_a_script_after_dashes(self):
-        self.assert_unproved("--strict", "--", "--module", folder=self.room)
-        self.assertEqual(self.words(), ["--strict", "--", f"{self.room}/--module"])
-
-    def test_one_word_alone_is_the_script(self):
-        self.assert_unproved("a", "b", folder=self.room)
-        self.assertEqual(self.words(), [f"{self.room}/a", "b"])
-
-    def test_a_report_that_is_too_long(self):
-        self.set_mode("too-long")
-        status, output, errors = self.launch("--json")
-        self.assertEqual((status, output), (2, ""))
-        self.assertRegex(errors[0], UNPROVED)
-        self.assertEqual(errors[1:], ["crashmap: the report is longer than the 1 MiB that an unproved run can give;"
-                                      " ./crashmap --prove lifts this limit"])
-        self.assert_nothing_left()
+    def empty_crates_out(self):
+        for folder in (self.top / "crates").glob("*/out"):
+            shutil.rmtree(folder)
 
     def test_a_program_that_does_not_compile(self):
         self.set_mode("does-not-compile")
@@ -107,14 +107,50 @@ class UnprovedAnswers(LauncherTest):
         self.assertEqual((status, output), (2, ""))
         self.assertIn("error[E0425]: cannot find value", errors)
         self.assert_nothing_left()
+        self.assertEqual([it for it in (self.top / "out").rglob("*") if it.is_file()], [])
 
     def test_without_rt(self):
         self.assertEqual(self.launch(PATH=self.path_without_rt()), (2, "", [NO_RT]))
 
-    def test_the_options_with_values_are_those_of_the_program(self):
-        usage = subprocess.run([program(), "--help"], capture_output=True, text=True, check=True).stdout
-        listed = re.search(r'^options_with_values="(.*)"$', (ROOT / "launch/unproved.sh").read_text(), re.MULTILINE)
-        self.assertEqual(sorted(listed[1].split()), sorted(re.findall(r"^ +(--[a-z]+) <", usage, re.MULTILINE)))
+
+class Pages(LauncherTest):
+    """Help, rules and version are shown from files at once, whether a program is there or not."""
+
+    def assert_shown(self, page, *words):
+        """These words show the page, without a program and without rt."""
+        wanted = (0, (self.top / "launch/pages" / page).read_text(), [])
+        self.assertEqual(self.launch(*words, PATH=str(self.commands)), wanted, words)
+
+    def setUp(self):
+        super().setUp()
+        self.commands = self.path_without_rt()
+
+    def test_each_page_by_its_words(self):
+        for page, words in pages.WORDS.items():
+            self.assert_shown(page, *words)
+        for page, words in (("help", ["-h"]), ("version", ["-V"]), ("rules-soft", ["--rules"])):
+            self.assert_shown(page, *words)
+        for module in pages.MODULES:
+            self.assert_shown(f"rules-{module}", "--rules", f"--module={module}")
+            self.assert_shown(f"rules-{module}", f"--module={module}", "--rules")
+            self.assert_shown(f"rules-{module}", "--module", module, "--rules")
+        self.assertEqual(self.calls(), [])
+
+    def test_other_words_are_the_programs(self):
+        for words in (["--rules", "--module", "other"], ["--rules", "--module=../help"], ["--rules --module", "soft"],
+                      ["--help", "--strict"], ["--", "--help"], ["--strict", "--rules"]):
+            self.assertEqual(self.launch(*words)[1], f"unproved: {' '.join(words)}\n")
+
+    def test_the_proved_program_answers_for_itself(self):
+        self.prove()
+        self.assertEqual(self.launch("--help"), (1, "proved: --help\n", []))
+        self.assertEqual(self.launch("--proved", "--help"), (1, "proved: --help\n", []))
+
+    def test_the_pages_are_what_the_program_prints(self):
+        """launch/pages.py writes them anew."""
+        self.assertEqual(sorted(it.name for it in pages.FOLDER.iterdir()), sorted(pages.WORDS))
+        for page, words in pages.WORDS.items():
+            self.assertEqual(pages.printed(program(), words), (pages.FOLDER / page).read_bytes(), page)
 
 
 class Proofs(LauncherTest):
@@ -160,7 +196,7 @@ class Proofs(LauncherTest):
         self.assertEqual((status, output), (2, ""))
         self.assertIn("fn low::f: not proved", errors)
         self.assertIn("rt: low NOT PROVED", errors)
-        self.assertFalse((self.top / "crates/crashmap/out/crashmap").exists())
+        self.assertEqual([it for it in (self.top / "out").rglob("*") if it.is_file()], [])
         self.assert_nothing_left()
         self.assertEqual(self.launch("--proved")[0], 2)
 
@@ -202,7 +238,7 @@ class Changes(LauncherTest):
         self.assert_proved(False)
 
     def test_the_program_is_gone(self):
-        (self.top / "crates/crashmap/out/crashmap").unlink()
+        (self.top / "out/proved/crashmap").unlink()
         self.assert_proved(False)
 
     def test_a_crate_beside_the_program(self):
@@ -216,7 +252,7 @@ class Changes(LauncherTest):
         self.assert_proved(True)
 
     def test_a_source_that_changes_while_the_program_is_built(self):
-        (self.top / "crates/crashmap/out/crashmap").unlink()
+        (self.top / "out/proved/crashmap").unlink()
         self.set_mode("changes")
         self.assertEqual(self.launch("--prove")[0], 0)
         self.assert_proved(False)
@@ -247,9 +283,9 @@ class Interrupts(LauncherTest):
             os.killpg(run.pid, signal.SIGKILL)
             run.wait()
 
-    def assert_ended(self, run, processes, status=2):
+    def assert_ended(self, run, processes):
         began = time.monotonic()
-        self.assertEqual(run.wait(timeout=20), status)
+        self.assertEqual(run.wait(timeout=20), 2)
         self.assertLess(time.monotonic() - began, 10)
         latest = time.monotonic() + 5
         while any(map(is_running, processes)) and time.monotonic() < latest:
@@ -271,7 +307,7 @@ class Interrupts(LauncherTest):
     def test_an_interrupt_of_an_unproved_answer(self):
         run, processes = self.start()
         os.killpg(run.pid, signal.SIGINT)
-        self.assert_ended(run, processes, -signal.SIGINT)
+        self.assert_ended(run, processes)
 
 
 if __name__ == "__main__":
