@@ -64,11 +64,17 @@ class InABrowser(unittest.TestCase):
     def test_the_page_says_what_it_shows(self):
         self.passes("test_words.mjs")
 
+    def test_paper_has_all_of_it(self):
+        self.passes("test_paper.mjs")
+
     def test_bad_reports_leave_a_page_that_says_what_is_wrong(self):
         self.passes("test_bad.mjs")
 
     def test_what_is_enough_is_shown(self):
         self.passes("test_enough.mjs")
+
+    def test_searches_are_shown(self):
+        self.passes("test_search.mjs")
 
     def test_the_gallery_is_shown(self):
         scripts = sorted((ROOT / "gallery").glob("*.script"))
@@ -250,6 +256,43 @@ class CrashmapPage(unittest.TestCase):
         words = ["--enough", self.script]
         self.assertEqual(self.make(*words), (0, self.page_of_case("enough", "a script", CLEAN, words), b""))
 
+    def workload(self, name, *steps):
+        """A workload of a search's case, with what the program answers about it."""
+        case = cases()[name]
+        begin = case["script"][:case["script"].index("start") + 1]
+        words = [word for word in case["words"] if word not in ("--search", "2", "--enough")]
+        script = script_of({"script": [*begin, *steps]})
+        status, out, _ = run([program(), *words, "--decide", "--json", "--explain"], script)
+        self.assertIn(status, (0, 1))
+        return {"steps": list(steps), "report": json.loads(out)}
+
+    def is_the_search(self, name, *shown):
+        """The page of a search's case has the reports on its workloads, and first that on no operation."""
+        case = cases()[name]
+        self.script.write_bytes(script_of(case))
+        words = [*case["words"], "--", str(self.script)]
+        run_of = {"script": "a script", "text": script_of(case).decode(), "words": words,
+                  "workloads": [self.workload(name, *steps) for steps in ((), *shown)]}
+        self.assertEqual(self.make(*words), (1 if name == "search" else 0, page_of(report_of(name), run_of), b""))
+
+    def test_a_search(self):
+        self.is_the_search("search", ("link /a /b", "unlink /a"))
+
+    def test_a_search_for_rules(self):
+        """A workload that shows more than one group is asked about once."""
+        self.is_the_search("search_enough", ("mkdir /d",), ("unlink /a",))
+
+    def test_a_search_that_finds_nothing(self):
+        self.is_the_search("search_clean")
+
+    def test_a_search_of_a_pool_that_can_be_read_but_once(self):
+        """The page has the report alone, since the pool's lines are gone."""
+        self.script.write_bytes(script_of(cases()["search"]))
+        command = 'exec "$0" --search=2 --strict <(cat "$1")'
+        words = ["bash", "-c", command, ROOT / "crashmap-page", self.script]
+        status, out, err = run(words, CRASHMAP_PROGRAM=str(program()))
+        self.assertEqual((status, err, b"workloads\": [" in out), (1, b"", False))
+
     def test_a_terminal(self):
         """With no words, on a terminal, it says that it reads standard input; elsewhere it says nothing."""
         ours, theirs = pty.openpty()
@@ -274,6 +317,14 @@ class CrashmapPage(unittest.TestCase):
         words = ["bash", "-c", command, ROOT / "crashmap-page", self.script]
         wanted = b"crashmap-page: cannot write the page: No space left on device\n"
         self.assertEqual(run(words, CRASHMAP_PROGRAM=str(program())), (2, b"", wanted))
+
+    def test_a_reader_that_leaves_early(self):
+        """The page is longer than a pipe holds, so writing it fails where nobody reads on."""
+        for reader, wanted in (("head -1", b"<!doctype html>\n"), ("true", b"")):
+            with self.subTest(reader):
+                command = f'set -o pipefail; "$0" --module async "$1" | {reader}'
+                words = ["bash", "-c", command, ROOT / "crashmap-page", self.script]
+                self.assertEqual(run(words, CRASHMAP_PROGRAM=str(program())), (1, wanted, b""))
 
 
 class Stitch(unittest.TestCase):

@@ -47,11 +47,12 @@ function checkReason(place, one, id) {
   must(one.why.length > 0, `${place}.why`, "a list of at least one reason", one.why);
 }
 
-/** A failing set with the block writes that lead to it and the blocks that replay changes. */
-function checkSet(place, one, report) {
+/** A failing set with the block writes that lead to it and the blocks that replay changes. A search has no trace and
+    no base; those of its workloads may be known. */
+export function checkSet(place, one, report) {
   checkList(`${place}.set`, one.set);
   one.set.forEach((id, k) => {
-    checkCount(`${place}.set[${k}]`, id, 0, report.trace.length - 1);
+    checkCount(`${place}.set[${k}]`, id, 0, (report.trace?.length ?? MOST_PATCHES) - 1);
     must(k === 0 || id > one.set[k - 1], `${place}.set[${k}]`, "larger than the one before it", id);
   });
   checkList(`${place}.writes`, one.writes);
@@ -65,18 +66,20 @@ function checkSet(place, one, report) {
 
 function checkWrite(place, write, set, report) {
   checkObject(place, write);
-  checkCount(`${place}.block`, write.block, 0, report.base.length - 1);
+  checkCount(`${place}.block`, write.block, 0, lastBlock(report));
   checkList(`${place}.patches`, write.patches);
   must(write.patches.length > 0, `${place}.patches`, "a list of at least one patch", write.patches);
   write.patches.forEach((id, k) => {
-    const holds = set.includes(id) && report.trace[id].block === write.block;
+    const holds = set.includes(id) && (!report.trace || report.trace[id].block === write.block);
     must(holds, `${place}.patches[${k}]`, `a patch of the set, in block ${write.block}`, id);
   });
 }
 
+const lastBlock = ({ base }) => (base?.length ?? MOST_BLOCKS) - 1;
+
 function checkChange(place, change, report) {
   checkObject(place, change);
-  checkCount(`${place}.block`, change.block, 0, report.base.length - 1);
+  checkCount(`${place}.block`, change.block, 0, lastBlock(report));
   checkHex(`${place}.bytes`, change.bytes, BLOCK_BYTES, BLOCK_BYTES);
 }
 
@@ -97,7 +100,7 @@ function checkFault(place, one, report) {
 }
 
 /** Rules of which one is needed, with a fault that comes without them. */
-function checkGroup(place, one, report) {
+export function checkGroup(place, one, report) {
   checkFault(place, one, report);
   checkTexts(`${place}.rules`, one.rules);
   must(one.rules.length > 0, `${place}.rules`, "a list of at least one rule", one.rules);
@@ -115,16 +118,16 @@ function checkRule(place, one, report) {
   if (one.first !== undefined) checkFailing(`${place}.first`, one.first, report);
 }
 
-function checkFailing(place, one, report) {
+export function checkFailing(place, one, report) {
   checkObject(place, one);
   checkTexts(`${place}.faults`, one.faults);
   must(one.faults.length > 0, `${place}.faults`, "a list of at least one fault", one.faults);
   checkSet(place, one, report);
 }
 
-/** The head of a report: counts, the module, and what differs from its ordering. */
+/** The head of a report: the ordering and its counts. */
 function checkHead(json) {
-  checkText("module", json.module);
+  checkOrdering(json);
   if (isDecision(json) || isOfEnough(json)) {
     const holds = typeof json.closed === "string" && /^[1-9]\d*$/.test(json.closed);
     must(holds, "closed", "the digits of a whole number, at least 1", json.closed);
@@ -134,6 +137,11 @@ function checkHead(json) {
   if (json.patches !== undefined) {
     must(json.patches === json.trace.length, "patches", `the length of trace (${json.trace.length})`, json.patches);
   }
+}
+
+/** The module, what differs from its ordering, and what else the checker and the disk were asked for. */
+export function checkOrdering(json) {
+  checkText("module", json.module);
   for (const list of ["with", "without"]) if (json[list] !== undefined) checkTexts(list, json[list]);
   for (const flag of ["atomic", "strict", "whole_blocks"]) {
     if (json[flag] !== undefined) must(typeof json[flag] === "boolean", flag, "true or false", json[flag]);
@@ -170,10 +178,6 @@ function checkLists(json) {
 /** Throws a `ReportError` where the page cannot show this. */
 export function checkReport(json) {
   if (!isObject(json)) throw new ReportError(`A report is a JSON object, but this file holds ${kindOf(json)}.`);
-  if (json.search !== undefined) {
-    throw new ReportError("This is the report of a search. The page shows the report of one script: make it of the " +
-      "steps of a workload.");
-  }
   if (json.base === undefined || json.trace === undefined) {
     throw new ReportError("This report does not say what its patches are. Make it with --json --explain --summary.");
   }

@@ -1,4 +1,5 @@
 // The list of what can be looked at, and what holds of all crashes together.
+import { searchVerdict } from "./search.js";
 import { actions, byId, choiceNow, choicesNow, element, view } from "./view.js";
 import { countOf } from "./words.js";
 
@@ -8,6 +9,7 @@ export function drawChoices() {
     drawVerdict(report), drawCut(report),
     element("ol", { class: "list" }, choicesNow().flatMap(drawChoice)));
   const current = byId("choices").querySelector("[aria-current]");
+  if (!current) return;
   scrollInto(current.closest(".list"), current);
   if (hadFocus) current.focus();
 }
@@ -18,7 +20,7 @@ function drawChoice(choice, at, choices) {
   const kind = choice.faults.length ? "bad" : choice.isEnough ? "enough" : "";
   const button = element("button", { class: kind, disabled: choice.off,
     "aria-current": isNow ? "true" : null, onclick: () => actions.choose(at), onkeydown: moveFocus },
-  choice.count !== undefined && element("span", { class: "sum" }, countOf(choice.count, "set", "sets")),
+  choice.count !== undefined && element("span", { class: "sum" }, countOf(choice.count, ...choice.units)),
   element("b", {}, choice.number ? `${choice.number} ` : "", choice.label),
   choice.more && element("small", {}, choice.more));
   const isFirst = choice.part && choice.part !== choices[at - 1]?.part;
@@ -30,6 +32,7 @@ const FIRST_WORDS = "This report has the first fault. One made with --decide has
 /** What holds of all crashes together, where the choices do not say it. */
 function drawVerdict(report) {
   const { failing, closed, asks, choices } = report;
+  if (asks === "search") return drawSearchVerdict(report);
   if (asks === "enough") return failing ? element("p", { class: "verdict" }, FIRST_WORDS) : "";
   if (failing === 0) return element("p", { class: "verdict good" }, nothingFails(report));
   if (asks !== "rules") return "";
@@ -38,6 +41,9 @@ function drawVerdict(report) {
     `${still} ${failing} of ${closed} crashes leave a broken disk. Without --needs the report lists them.`);
 }
 
+const drawSearchVerdict = report =>
+  element("p", { class: report.search.failing ? "verdict" : "verdict good" }, searchVerdict(report));
+
 function nothingFails({ closed, asks }) {
   const crashes = closed === 1 ? "the one crash that is possible" : `each of the ${closed} crashes that are possible`;
   return `${asks === "rules" ? "With all of them nothing fails" : "None"}: after ${crashes}, `
@@ -45,12 +51,13 @@ function nothingFails({ closed, asks }) {
 }
 
 /** A list that is too long to look through. */
-function drawCut({ listed, choices, title, asks }) {
+function drawCut({ listed, choices, title, asks, enough }) {
   const shown = choices.length - 1;
   if (listed <= shown) return "";
   const advice = asks === "sets" ? " A report made with --summary has each fault once." : "";
-  const names = asks === "enough" ? "sets and groups of rules" : title.toLowerCase();
-  const part = asks === "enough" ? `${shown.toLocaleString("en")} of them` : `the first ${shown}`;
+  const isOfRules = asks === "enough" || enough !== undefined;
+  const names = isOfRules ? "sets and groups of rules" : title.toLowerCase();
+  const part = isOfRules ? `${shown.toLocaleString("en")} of them` : `the first ${shown}`;
   return element("p", { class: "verdict cut" }, `This report lists ${listed.toLocaleString("en")} `
     + `${names}, and the page shows ${part}.${advice}`);
 }

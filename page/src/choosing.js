@@ -15,7 +15,8 @@ export function choicesOf(json, report) {
 const changesOf = replay => (replay ?? []).map(({ block, bytes }) => ({ block, bytes: bytesOf(bytes) }));
 export const crashOf = one => ({ set: one.set, writes: one.writes, replay: changesOf(one.replay) });
 
-export const faultChoice = one => ({ ...faultWords(one.fault), count: one.sets, faults: [one.fault], ...crashOf(one) });
+export const faultChoice = one => ({ ...faultWords(one.fault), count: one.sets, units: ["set", "sets"],
+  faults: [one.fault], ...crashOf(one) });
 
 const setChoice = one =>
   ({ label: `set ${one.set.join(" ")}`, more: one.faults.join("; "), faults: one.faults, ...crashOf(one) });

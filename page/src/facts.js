@@ -3,25 +3,27 @@ import { rulesWords } from "./enough.js";
 import { isHalfDone, meaningsOf } from "./faults.js";
 import { halvesWords } from "./halves.js";
 import { pickedWords } from "./pick.js";
+import { searchNeedsWords, searchSetWords } from "./search.js";
 import { copyWords } from "./steps.js";
 import { element, view } from "./view.js";
 import { listOf } from "./words.js";
 
-/** The faults with what they mean, and which set this is. */
+/** The faults with what they mean, and which set this is. A search's workload may come without states. */
 export function drawFacts(choice, states) {
   const said = (kind, words) => element("p", { class: kind }, words);
-  return [choice.rules ? said("needed", rulesWords(choice)) : null,
+  return [choice.rules ? said("needed", view.report.search ? searchNeedsWords(choice) : rulesWords(choice)) : null,
+    choice.steps ? said("workload", `Workload: ${choice.steps.join("; ")}`) : null,
     ...choice.faults.map(text => said("fault", `Fault ${text}`)),
     ...meaningsOf(choice.faults).map(words => said("meaning", words)),
     ...halvesOf(choice).map(words => said("half", words)),
     choice.faults.length || choice.isPicked ? said("which", setWords(choice)) : null,
     choice.isPicked ? said("picked", pickedWords(view.report, choice)) : null,
-    choice.isWhole && view.report.trace.length ? said("walk", walkWords(states)) : null];
+    choice.isWhole && view.report.trace?.length ? said("walk", walkWords(states)) : null];
 }
 
 /** Where an operation is half done: which one. */
 function halvesOf(choice) {
-  const words = isHalfDone(choice.faults) && halvesWords(view.report, view.after ?? view.crash);
+  const words = isHalfDone(choice.faults) && view.report.trace && halvesWords(view.report, view.after ?? view.crash);
   return words ? [words] : [];
 }
 
@@ -42,6 +44,7 @@ function setWords(choice) {
 /** Which one of several sets this is. */
 function whichWords({ isPicked, rules, without, count }) {
   if (isPicked) return "";
+  if (view.report.search) return searchSetWords({ rules, count });
   if (rules) return "; the first set with this fault";
   if (without) return `; the first crash that ${listOf(without)} prevents`;
   return count > 1 ? `; the first of ${count}` : "";

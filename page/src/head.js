@@ -1,5 +1,6 @@
 // The head: which script this is, what was run, the ordering, the disk, and the counts.
 import { foundWords } from "./enough.js";
+import { refusedWords, searchTitle } from "./search.js";
 import { actions, element, view } from "./view.js";
 import { countOf, quoted, shortened } from "./words.js";
 
@@ -24,10 +25,12 @@ const checkersOf = ({ strict, atomic }) => [...strict ? ["strict"] : [], ...atom
 /** The title of the window: script, result, ordering and size of the disk. */
 export function titleNow() {
   const { report } = view, asked = ["", ...checkersOf(report)].join(", ");
-  const found = report.enough ? foundWords(report)
+  const found = report.search ? searchTitle(report)
+    : report.enough ? foundWords(report)
     : report.isDecision ? `${countOf(report.failing, "fault", "faults")} in ${report.closed} sets`
-    : `${report.failing} of ${report.closed} sets fail`;
-  return `${nameNow()}: ${found} under ${orderingWords(report)}${asked}, ${diskWords(report)} - crashmap`;
+    : `${neededWords(report)}${report.failing} of ${report.closed} sets fail`;
+  const disk = report.base ? `, ${diskWords(report)}` : "";
+  return `${nameNow()}: ${found} under ${orderingWords(report)}${asked}${disk} - crashmap`;
 }
 
 export function drawHead() {
@@ -36,7 +39,7 @@ export function drawHead() {
   const command = words && element("code", { id: "command" }, "crashmap", words);
   return element("header", { id: "head" },
     element("h1", {}, "crashmap ", element("span", { id: "name" }, shortened(nameNow(), MOST_LETTERS))),
-    drawCounts(report), report.failing && !report.isDecision && !report.enough ? drawShare(report) : null,
+    drawCounts(report), drawShare(report),
     drawOrdering(report), drawOpener(),
     element("div", { id: "about" }, element("div", {}, command, drawAbout(report)), drawScript()));
 }
@@ -45,14 +48,26 @@ function drawCounts(report) {
   const fact = (name, value, kind) =>
     element("div", { class: kind }, element("dt", {}, name), element("dd", {}, String(value)));
   const counted = (count, one, many, kind) => fact(count === 1 ? one : many, count, kind);
-  const { count, names, isBad } = resultOf(report);
-  return element("dl", {}, fact("module", report.module, "module"), counted(report.trace.length, "patch", "patches"),
-    counted(report.closed, "closed set", "closed sets"),
-    counted(count, ...names, isBad ? "bad" : ""));
+  const { count, names, isBad } = resultOf(report), { search } = report;
+  const sizes = search ? [counted(search.pool, "operation in the pool", "operations in the pool"),
+    counted(search.workloads, "workload", "workloads")]
+    : [counted(report.trace.length, "patch", "patches"), counted(report.closed, "closed set", "closed sets")];
+  return element("dl", {}, fact("module", report.module, "module"), sizes,
+    counted(count, ...names, isBad ? "bad" : ""),
+    report.asks === "rules" ? counted(neededIn(report), ...NEEDED_NAMES, "") : null);
 }
 
+const NEEDED_NAMES = ["needed rule", "needed rules"];
+
+/** How many rules prevent a crash, as `--needs` says. */
+const neededIn = ({ choices }) => choices.filter(choice => choice.without && choice.faults.length).length;
+const neededWords = report => report.asks === "rules" ? `${countOf(neededIn(report), ...NEEDED_NAMES)}, ` : "";
+
 /** The number that the report is about, and its words for one and for more. */
-function resultOf({ enough, failing, isDecision }) {
+function resultOf({ enough, failing, isDecision, search }) {
+  if (search && !enough) {
+    return { count: search.failing, names: ["failing workload", "failing workloads"], isBad: search.failing > 0 };
+  }
   if (enough?.[0]?.length === 0) return { count: 0, names: ["rule is needed", "rules are needed"] };
   const names = ["set of rules is enough", "sets of rules are enough"];
   if (enough) return { count: enough.length, names, isBad: enough.length === 0 };
@@ -60,9 +75,12 @@ function resultOf({ enough, failing, isDecision }) {
     isBad: failing > 0 };
 }
 
-function drawShare({ failing, closed }) {
-  return element("div", { class: "share", title: `${failing} of ${closed} closed sets fail` },
-    element("i", { style: `width:${100 * failing / closed}%` }));
+/** How large a part fails, where the report is about that. */
+function drawShare({ failing, closed, isDecision, enough, search }) {
+  const [part, whole, names] = search ? [search.failing, search.workloads, "workloads"]
+    : [isDecision ? 0 : failing, closed, "closed sets"];
+  return part && !enough ? element("div", { class: "share", title: `${part} of ${whole} ${names} fail` },
+    element("i", { style: `width:${100 * part / whole}%` })) : null;
 }
 
 /** What differs from the module's own ordering and checker. */
@@ -78,7 +96,9 @@ function drawAbout(report) {
   const meaning = MODULES[report.module] ? ` (${MODULES[report.module]})` : "";
   return element("p", { class: "soft" },
     part("Ordering", orderingWords(report).replace(report.module, `${report.module}${meaning}`)),
-    part("Disk", diskWords(report)), part("Checker", checkersOf(report).join(", ") || "the usual one"));
+    report.base ? part("Disk", diskWords(report)) : null,
+    part("Checker", checkersOf(report).join(", ") || "the usual one"),
+    report.search ? part("Refused", refusedWords(report.search)) : null);
 }
 
 function drawOpener() {

@@ -5,6 +5,7 @@ import { patchesNamed, placesNamed } from "./faults.js";
 import { drawHead, titleNow } from "./head.js";
 import { pickedChoice } from "./pick.js";
 import { drawGraph, paintGraph } from "./picture.js";
+import { drawPlain } from "./plain.js";
 import { drawSteps, paintSteps } from "./steps.js";
 import { drawDisk } from "./tables.js";
 import { actions, byId, choiceNow, choicesNow, element, idsAt, view } from "./view.js";
@@ -18,11 +19,25 @@ export function drawPage() {
   choose(view.choice, view.step);
 }
 
-/** Looks at a choice, at a step of its block writes (the last where none is named). */
+/** Looks at a choice, at a step of its block writes (the last where none is named). A search may have no choice with a
+    crash, and may lack the patches of a workload. */
 function choose(at, step) {
-  const { report } = view, choices = choicesNow();
+  const choices = choicesNow();
   view.choice = choices[at]?.set ? at : choices.findIndex(choice => choice.set);
-  const choice = choiceNow();
+  view.report = choiceNow()?.report ?? view.report;
+  if (view.report.trace) choosePatches(step); else chooseWithoutPatches();
+}
+
+function chooseWithoutPatches() {
+  view.step = 0;
+  drawChoices();
+  drawPlain();
+  history.replaceState(null, "", addressNow());
+}
+
+function choosePatches(step) {
+  const { report } = view, choice = choiceNow();
+  for (const id of ["graph", "steps", "disk"]) byId(id).hidden = false;
   view.step = Math.min(Math.max(step ?? choice.writes.length, 0), choice.writes.length);
   view.block = view.stripAt = null;
   view.crash = imageOf(report, choice.set);
@@ -38,6 +53,7 @@ function choose(at, step) {
 
 /** Shows the disk after a number of block writes. */
 function goTo(step) {
+  if (!view.report.trace) return;
   view.step = Math.min(Math.max(step, 0), choiceNow().writes.length);
   paintSteps();
   paintGraph();
@@ -53,14 +69,16 @@ function pick(id) {
 
 /** Looks at these patches, under the ordering without these rules. */
 function pickAll(ids, without) {
-  view.picked = pickedChoice(view.report, ids, without);
-  choose(view.report.choices.length);
+  const { report } = view;
+  view.picked = { ...pickedChoice(report, ids, without), report };
+  choose(report.choices.length);
 }
 
 function addressNow() {
-  const { isPicked, set, without } = choiceNow(), words = new URLSearchParams();
+  const { isPicked, set, without } = choiceNow() ?? {}, words = new URLSearchParams(), { report } = view;
   if (isPicked) words.set("set", set.join(" ")); else words.set("choice", view.choice);
   if (isPicked) for (const rule of without) words.append("rule", rule);
+  if (isPicked && report.search) words.set("of", report.choices.findIndex(choice => choice.report === report));
   words.set("step", view.step);
   return `#${words}`;
 }

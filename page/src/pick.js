@@ -24,11 +24,15 @@ export function closureOf(report, { set, without }) {
   return [...set, ...set.flatMap(id => [...before[id]])];
 }
 
+/** The choices that are on the same patches; each workload of a search has its own. */
+const choicesOn = report =>
+  report.choices.filter(choice => choice.set && (!choice.report || choice.report === report));
+
 /** Whether the disk of a closed set has faults, as far as the report says; no ordering changes what a set leaves. */
 function knownFaults(report, set, without) {
-  const same = report.choices.filter(choice => choice.set?.join() === set.join());
+  const same = choicesOn(report).filter(choice => choice.set?.join() === set.join());
   const faults = [...new Set(same.flatMap(choice => choice.faults))];
-  if (faults.length && ["faults", "enough"].includes(report.asks)) {
+  if (faults.length && ["faults", "enough", "search"].includes(report.asks)) {
     return { faults, verdict: "The report lists this set with what is said above; it can have other faults." };
   }
   if (faults.length) return { faults, verdict: "The report lists this set among those that fail." };
@@ -36,7 +40,7 @@ function knownFaults(report, set, without) {
   if (!without.length && (report.failing === 0 || areAllListed)) {
     return { faults, verdict: "After replay this disk is clean, since the report does not list it as failing." };
   }
-  if (report.choices.some(choice => choice.isEnough && without.every(rule => choice.without.includes(rule)))) {
+  if (choicesOn(report).some(choice => choice.isEnough && without.every(rule => choice.without.includes(rule)))) {
     return { faults, verdict: "After replay this disk is clean, since the report says that these rules are enough." };
   }
   return { faults,

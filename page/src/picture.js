@@ -20,7 +20,8 @@ export function drawGraph() {
   const implied = edges.some(edge => edge.implied) && element("label", {},
     element("input", { type: "checkbox", id: "all-implied", onchange: () => drawImplied() }), "implied arrows");
   const advice = element("span", { class: "soft advice" }, "Click patches to try a set of your own.");
-  card.replaceChildren(element("header", {}, heading, advice, implied || "", drawKey(edges)), scroll);
+  card.replaceChildren(element("header", {}, heading, advice, implied || "", drawKey(edges)), scroll,
+    drawOnPaper(plan));
   fitPicture(plan, scroll);
   scroll.scrollLeft = place.left;
   if (place.id !== undefined) focusNode(place.id);
@@ -245,6 +246,32 @@ function drawOverview(plan, scroll) {
   shape("use", { href: "#drawing" }), shape("rect", { class: "window", y: TOP + 2, height: plan.height - TOP - 4 })));
 }
 
+/* --- on paper --- */
+
+/** Paper cannot be scrolled, so there the picture is cut between operations into strips of about this width, all drawn
+    at one scale. A narrow picture is not made larger. A strip also shows a little of the room beside its operations,
+    where arrows go on into the next one. */
+const STRIP_WIDTH = 900, PAPER_WIDTH = 680, EDGE = 5;
+
+function drawOnPaper(plan) {
+  const strips = stripsOf(plan.columns), widest = Math.max(PAPER_WIDTH, ...strips.map(widthOf));
+  return element("div", { class: "paper", "aria-hidden": "true" }, strips.map(strip =>
+    shape("svg", { viewBox: `${strip.left} 0 ${widthOf(strip)} ${plan.height}`,
+      style: `width:${100 * widthOf(strip) / widest}%` }, shape("use", { href: "#drawing" }))));
+}
+
+const widthOf = strip => strip.right - strip.left;
+
+/** From where to where each strip reads; an operation that is wider than a strip has one of its own. */
+function stripsOf(columns) {
+  const strips = [];
+  for (const { left, width } of columns) {
+    const last = strips.at(-1), right = left + width + EDGE;
+    if (last && right - last.left <= STRIP_WIDTH) last.right = right;
+    else strips.push({ left: left - EDGE, right });
+  }
+  return strips;
+}
 export function showWindow() {
   const frame = document.querySelector("#whole .window"), scroll = byId("graph")?.querySelector(".scroll");
   if (!frame) return;

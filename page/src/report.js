@@ -1,38 +1,31 @@
-// A report as `crashmap --json --explain --summary` prints it (or with `--needs`, `--decide` or `--enough`), brought
-// into the one form that the page works on: the patches with their bytes, the script's operations, and what a person
-// can choose to look at.
+// The report of a script as `crashmap --json --explain --summary` prints it (or with `--needs`, `--decide` or
+// `--enough`), brought into the one form that the page works on: the patches with their bytes, the script's operations,
+// and what a person can choose to look at.
 import { checkReport, isDecision, isOfEnough } from "./check.js";
 import { choicesOf } from "./choosing.js";
 import { JOURNAL_START, explainPatches } from "./disk.js";
 import { enoughChoices } from "./enough.js";
-import { ReportError } from "./form.js";
 import { bytesOf } from "./words.js";
 
-function parsed(text) {
-  if (!text.trim()) throw new ReportError("This file is empty.");
-  try {
-    return JSON.parse(text);
-  } catch (error) {
-    throw new ReportError(`This file is not JSON, so it is no report: ${error.message}.`);
-  }
-}
-
-/** Throws a `ReportError` where the text is no report, or one that does not say what its patches are. */
-export function readReport(text) {
-  const json = parsed(text);
+/** Throws a `ReportError` where this is no report, or one that does not say what its patches are. */
+export function scriptReport(json) {
   checkReport(json);
   const base = json.base.map(bytesOf), [, blocks, journal] = base[0];
   const trace = json.trace.map((patch, id) =>
     ({ ...patch, id, bytes: bytesOf(patch.new), undo: bytesOf(patch.undo) }));
   const report = {
-    module: json.module, closed: numberOf(json.closed), isDecision: isDecision(json), failing: failingOf(json),
-    without: json.without ?? [], with: json.with ?? [], strict: json.strict ?? false,
-    atomic: json.atomic ?? false, wholeBlocks: json.whole_blocks ?? false, enough: json.enough,
-    base, blocks, journal, root: JOURNAL_START + journal, trace,
+    ...orderingOf(json), closed: numberOf(json.closed), isDecision: isDecision(json), failing: failingOf(json),
+    enough: json.enough, base, blocks, journal, root: JOURNAL_START + journal, trace,
   };
   Object.assign(report, operationsOf(trace));
   explainPatches(report);
   return Object.assign(report, isOfEnough(json) ? enoughChoices(json, report) : choicesOf(json, report));
+}
+
+/** The ordering, and what else the checker and the disk were asked for. */
+export function orderingOf(json) {
+  return { module: json.module, without: json.without ?? [], with: json.with ?? [], strict: json.strict ?? false,
+    atomic: json.atomic ?? false, wholeBlocks: json.whole_blocks ?? false };
 }
 
 /** A number of closed sets, which a decision writes as a text since it can have 38 digits. */

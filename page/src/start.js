@@ -3,7 +3,7 @@ import { ReportError } from "./form.js";
 import { drawPage } from "./page.js";
 import { pickedChoice } from "./pick.js";
 import { showWindow } from "./picture.js";
-import { readReport } from "./report.js";
+import { readReport } from "./reading.js";
 import { actions, byId, element, view } from "./view.js";
 import { shortened } from "./words.js";
 
@@ -18,8 +18,8 @@ function drawDrop(error) {
       onchange: event => actions.open(event.target.files[0]) }),
     element("p", { class: "soft" }, "A report is what ",
       element("code", {}, "crashmap SCRIPT --json --explain --summary"), " prints, or what it prints with ",
-      element("code", {}, "--needs"), ", ", element("code", {}, "--decide"), " or ", element("code", {}, "--enough"),
-      " in place of ", element("code", {}, "--summary"), ".")));
+      element("code", {}, "--needs"), ", ", element("code", {}, "--decide"), ", ", element("code", {}, "--enough"),
+      " or ", element("code", {}, "--search N"), " in place of ", element("code", {}, "--summary"), ".")));
   document.title = error ? "crashmap: this report cannot be shown" : "crashmap";
 }
 
@@ -27,7 +27,7 @@ function drawDrop(error) {
 function show(text, run) {
   Object.assign(view, { report: null, run, picked: null });
   try {
-    view.report = readReport(text);
+    view.report = readReport(text, run);
     readPicked();
     drawPage();
   } catch (error) {
@@ -64,14 +64,16 @@ function readAddress() {
   view.step = number("step");
 }
 
-/** `#set=0+2` names picked patches, each `&rule=..` a rule that the ordering is looked at without. */
+/** `#set=0+2` names picked patches, each `&rule=..` a rule that the ordering is looked at without, and `&of=1` the
+    choice of a search whose workload they are of. */
 function readPicked() {
-  const words = addressWords(), { report } = view;
+  const words = addressWords(), { choices } = view.report;
   if (!words.has("set")) return;
   const ids = words.get("set").split(" ").filter(Boolean).map(Number);
-  if (!ids.every(id => report.trace[id])) return;
-  view.picked = pickedChoice(report, ids, words.getAll("rule"));
-  view.choice = report.choices.length;
+  const report = choices[Number(words.get("of"))]?.report ?? view.report;
+  if (!ids.every(id => report.trace?.[id])) return;
+  view.picked = { ...pickedChoice(report, ids, words.getAll("rule")), report };
+  view.choice = choices.length;
 }
 
 /* --- keys and files --- */

@@ -87,12 +87,23 @@ export class Browser {
 
   /** `light` or `dark`. */
   async scheme(value) {
-    await this.#call("Emulation.setEmulatedMedia", { features: [{ name: "prefers-color-scheme", value }] });
+    await this.media("", value);
   }
 
-  /** A picture of what is in view, as PNG bytes. */
-  async picture() {
-    const { data } = await this.#call("Page.captureScreenshot", { format: "png" });
+  /** Lays the page out for `screen` or `print`, and for a scheme of `light` or `dark`. */
+  async media(media, value = "light") {
+    await this.#call("Emulation.setEmulatedMedia", { media, features: [{ name: "prefers-color-scheme", value }] });
+  }
+
+  /** The page on paper of the usual size, as PDF bytes. */
+  async paper() {
+    const { data } = await this.#call("Page.printToPDF", { preferCSSPageSize: true });
+    return Buffer.from(data, "base64");
+  }
+
+  /** A picture of what is in view, or of all of the page, as PNG bytes. */
+  async picture(captureBeyondViewport = false) {
+    const { data } = await this.#call("Page.captureScreenshot", { format: "png", captureBeyondViewport });
     return Buffer.from(data, "base64");
   }
 

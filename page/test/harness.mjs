@@ -5,6 +5,7 @@ import { tmpdir } from "node:os";
 import { join } from "node:path";
 import { fileURLToPath } from "node:url";
 import { Browser } from "./browser.mjs";
+import { cases } from "./cases.mjs";
 
 const here = fileURLToPath(new URL(".", import.meta.url));
 const folder = mkdtempSync(join(tmpdir(), "crashmap-page-"));
@@ -21,9 +22,9 @@ export function check(name, got, wanted) {
   if (!isSame) console.log(`FAIL ${name}\n     got    ${JSON.stringify(got)}\n     wanted ${JSON.stringify(wanted)}`);
 }
 
-/** Runs the tests of a file; the last line is `N passed, M failed`. */
-export async function run(tests) {
-  await browser.size(1280, 800);
+/** Runs the tests of a file in a window of this width; the last line is `N passed, M failed`. */
+export async function run(tests, width = 1280) {
+  await browser.size(width, 800);
   for (const test of tests) {
     try {
       await test();
@@ -79,13 +80,33 @@ export async function open(name, address = "") {
 
 /** Opens what crashmap-page makes of a script's bytes and these words, where the program prints one of `reports/`. */
 export async function openMade(name, script, words, address = "") {
-  const path = join(folder, "a script");
+  const program = { CRASHMAP_PROGRAM: join(here, "print_report"), REPORT: join(here, "reports", `${name}.json`) };
+  return openPage(name, script, words, program, address);
+}
+
+async function openPage(name, script, words, program, address) {
+  const path = join(folder, "a script"), env = { ...process.env, ...program };
   writeFileSync(path, script);
-  const report = join(here, "reports", `${name}.json`);
-  const env = { ...process.env, CRASHMAP_PROGRAM: join(here, "print_report"), REPORT: report };
   const made = spawnSync(join(here, "../../crashmap-page"), [path, ...words], { env, maxBuffer: 1 << 30 });
   await openBytes(name, made.stdout, address);
   return path;
+}
+
+/* --- pages of the reference program, which answers whatever it is asked --- */
+
+const textOf = script => script.map(line => `${line}\n`).join("");
+
+/** Opens what crashmap-page makes of a case where the reference answers, and answers the report. */
+export async function openAnswered(name, address = "") {
+  const { script, words } = cases[name];
+  await openPage(name, textOf(script), words, { CRASHMAP_PROGRAM: join(here, "reference") }, address);
+  return reportOf(name);
+}
+
+/** What the reference prints for a script and words, as JSON. */
+export function answered(script, words) {
+  const printed = spawnSync(join(here, "reference"), [...words, "--json", "--explain"], { input: textOf(script) });
+  return JSON.parse(printed.stdout);
 }
 
 /** The page that asks for a report. */
@@ -102,7 +123,7 @@ const DROP = `async (text) => {
   dispatchEvent(new DragEvent("drop", { dataTransfer: data, cancelable: true }));
   await seen;
   const error = document.querySelector("#drop .error")?.textContent;
-  return error ?? (document.querySelector("#disk header") ? "shown" : "neither shown nor refused");
+  return error ?? (document.querySelector("#choices header") ? "shown" : "neither shown nor refused");
 }`;
 
 export const drop = text => browser.ask(`(${DROP})(${JSON.stringify(text)})`);
@@ -123,11 +144,11 @@ export function differences(wanted, page) {
   return [...rows, ...parts.filter(key => JSON.stringify(page[key]) !== JSON.stringify(wanted[key]))];
 }
 
-/** Leaves a picture of what is in view, where pictures are wanted. */
-export async function keepPicture(name) {
+/** Leaves a picture of what is in view, or of all of the page, where pictures are wanted. */
+export async function keepPicture(name, isWhole = false) {
   if (!pictures) return;
   mkdirSync(pictures, { recursive: true });
-  writeFileSync(join(pictures, `${name}.png`), await browser.picture());
+  writeFileSync(join(pictures, `${name}.png`), await browser.picture(isWhole));
 }
 
 /* --- what a page shows --- */

@@ -31,11 +31,6 @@ const noReports = [
   ["a text with HTML", JSON.stringify(HTML), "A report is a JSON object, but this file holds the text \"</script>"],
   ["a list", "[1,2]", "A report is a JSON object, but this file holds a list of 2."],
   ["an empty object", "{}", "This report does not say what its patches are. Make it with --json --explain --summary."],
-  ["a search", '{"failing":0,"kinds":[],"module":"soft","pool":0,"refused":[],"search":8,"workloads":0}\n',
-    "This is the report of a search. The page shows the report of one script: make it of the steps of a workload."],
-  ["a search for rules", '{"enough":[[]],"failing":0,"module":"soft","needs":[],"pool":0,"refused":[],"search":8,' +
-    '"workloads":0}\n',
-    "This is the report of a search. The page shows the report of one script: make it of the steps of a workload."],
   ["a report without --explain", changed("create", ({ base, trace, ...rest }) => rest),
     "This report does not say what its patches are. Make it with --json --explain --summary."],
 ];
@@ -139,6 +134,21 @@ const odd = [
   ["enough", r => { r.first = r.needs[0]; }, "first must be missing where rules are enough, but it is an object."],
   ["not_enough", r => { delete r.first; }, "first must be an object, but it is missing."],
   ["not_enough", r => { r.first.replay = [1]; }, "first.replay[0] must be an object, but it is the number 1."],
+  ["search", r => { r.search = 9; }, "search must be a whole number from 1 to 8, but it is the number 9."],
+  ["search", r => { r.failing = 9; }, "failing must be a whole number from 0 to 8, but it is the number 9."],
+  ["search", r => { r.with = "Ptr:InitFile"; }, "with must be a list, but it is the text \"Ptr:InitFile\"."],
+  ["search", r => { r.refused[1].count = 0; },
+    "refused[1].count must be a whole number, at least 1, but it is the number 0."],
+  ["search", r => { r.kinds = null; }, "kinds must be a list, but it is null."],
+  ["search", r => { delete r.kinds[0].steps; }, "kinds[0].steps must be a list, but it is missing."],
+  ["search", r => { r.kinds[0].writes = []; },
+    "kinds[0].writes must be writes of exactly the patches in set, but it is a list of 0."],
+  ["search", r => { r.kinds[0].workloads = 9; },
+    "kinds[0].workloads must be a whole number from 1 to 8, but it is the number 9."],
+  ["search_enough", r => { r.enough = 2; }, "enough must be a list, but it is the number 2."],
+  ["search_enough", r => { r.needs[2].rules = []; },
+    "needs[2].rules must be a list of at least one rule, but it is a list of 0."],
+  ["search_enough", r => { r.needs[3].steps = [1]; }, "needs[3].steps[0] must be a text, but it is the number 1."],
   ["sets", r => { r.failing = 36; }, "failing must be a list, but it is the number 36."],
   ["sets", r => { r.failing[35].set = {}; }, "failing[35].set must be a list, but it is an object."],
 ];
@@ -242,7 +252,8 @@ async function testReplacedValues() {
   const strange = [null, true, -1, 0, 3, 1e9, 0.5, "", "x", "00", [], {}, [[]], [null], { set: 1 }];
   const draw = numbersFrom(57), answers = [];
   await open("create");
-  for (const name of ["create", "pointer", "reuse", "lost", "needs", "sets", "groups", "enough", "not_enough"]) {
+  for (const name of ["create", "pointer", "reuse", "lost", "needs", "sets", "groups", "enough", "not_enough",
+    "search_kinds", "search_some"]) {
     for (let k = 0; k < 60; k++) {
       const report = reportOf(name), places = placesIn(report), [holder, key] = places[draw(places.length)];
       holder[key] = strange[draw(strange.length)];

@@ -1,8 +1,8 @@
 // node page/test/test_reports.mjs [FOLDER]: checks what pages show against their reports and against what is known of
 // the scripts. With FOLDER, pictures of pages are left there to be looked at.
-import { reasonsOf, reduction } from "./arrows.mjs";
+import { reasonsOf, reduction, traceWithout } from "./arrows.mjs";
 import { cases } from "./cases.mjs";
-import { browser, check, keepPicture, open, openEmpty, run, shown } from "./harness.mjs";
+import { browser, check, clickChoice, keepPicture, open, openEmpty, run, shown } from "./harness.mjs";
 
 /* --- what holds of every page, said from its report alone --- */
 
@@ -122,6 +122,20 @@ async function testImmense() {
   await keepPicture("immense");
 }
 
+/** Each rule that prevents a crash can be looked at, on the graph without it. */
+async function checkNeededRules({ rules, trace }, { facts, title, choices }) {
+  const needed = rules.filter(rule => rule.first);
+  check("the head has the number of needed rules", facts.at(-1), `needed rules${needed.length}`);
+  const begin = `needs.json: ${needed.length} needed rules, 0 of 7 sets fail under soft`;
+  check("and the title", title.slice(0, begin.length), begin);
+  for (const { rule, first } of needed) {
+    await clickChoice(choices.findIndex(words => words.startsWith(rule)));
+    const page = await shown(), left = traceWithout(trace, [rule]);
+    check(`${rule}: its crash`, [page.faults, page.disk], [first.faults.map(text => `Fault ${text}`), first.set]);
+    check(`${rule}: the arrows without it`, page.edges, reduction(left));
+  }
+}
+
 async function testOrderings() {
   await open("lost", "#choice=1");
   const lost = await shown();
@@ -136,6 +150,7 @@ async function testOrderings() {
   check("the first rule that prevents a crash is looked at", needs.faults, faults);
   check("its crash is on the disk", needs.disk, first.first.set);
   await keepPicture("needs");
+  await checkNeededRules(report, needs);
   await open("unruly");
   check("an ordering with no rule says so", (await shown()).verdict, ["This ordering has no rule: "
     + "36 of 48 crashes leave a broken disk. Without --needs the report lists them."]);
@@ -197,7 +212,7 @@ async function testNoReport() {
   await openEmpty();
   const words = await browser.ask("document.body.textContent");
   check("a page without a report asks for one", words.includes("Drop a report here"), true);
-  check("every case is tested", Object.keys(cases).length, 22);
+  check("every case is tested", Object.keys(cases).length, 29);
 }
 
 await run([testCreate, testReuse, testPointer, testTwice, testNothingFails, testDecisions, testImmense, testOrderings,
