@@ -2,9 +2,18 @@
 
 from collections import namedtuple
 
-from .disk import DIRECTORY_MARK, ENTRY_SIZE, FILE_MARK, INODE_SIZE
+from .disk import DIRECTORY_MARK, ENTRY_SIZE, FILE_MARK, INODE_SIZE, POINTERS
 
 Change = namedtuple("Change", "block offset new role")
+
+FIRST_POINTER = 4
+"""The byte of an inode that is its first pointer."""
+
+TIME_BYTE = 8
+"""The byte of an inode that stands for its time."""
+
+DATA_BYTE = 3
+"""The byte of a file's block that stands for its data."""
 
 
 def spelled_name(name):
@@ -12,21 +21,27 @@ def spelled_name(name):
     return bytes([len(name)]) + name.encode("ascii").ljust(10, b"\0")
 
 
+def next_byte(byte):
+    """One more, modulo 256."""
+    return (byte + 1) % 256
+
+
 def inode_place(inode):
     """The block and the offset of an inode."""
     return 2 + inode // 8, INODE_SIZE * (inode % 8)
 
 
-def inode_init(inode, kind):
-    """A new inode with one link."""
+def inode_init(image, inode, kind):
+    """A new inode with one link. It keeps its generation."""
     block, offset = inode_place(inode)
-    return Change(block, offset, bytes([kind, 1]) + bytes(14), "InodeInit")
+    return Change(block, offset, bytes([kind, 1, image.generation(inode)]) + bytes(13), "InodeInit")
 
 
-def inode_free(inode):
-    """An inode of zeros."""
+def inode_free(image, inode):
+    """An inode of zeros, but for its generation, which is one more."""
     block, offset = inode_place(inode)
-    return Change(block, offset, bytes(16), "InodeFree")
+    generation = next_byte(image.generation(inode)) if image.generations else 0
+    return Change(block, offset, bytes([0, 0, generation]) + bytes(13), "InodeFree")
 
 
 def entry_set(image, directory, k, inode, name):
@@ -50,20 +65,37 @@ def map_clear(block):
     return Change(1, block, bytes([0]), "MapClear")
 
 
-def init_file(block, inode):
+def init_file(image, block, inode):
     """The block becomes an empty block of a file."""
-    return Change(block, 0, bytes([FILE_MARK, inode]) + bytes(126), "InitFile")
+    return Change(block, 0, bytes([FILE_MARK, inode, image.generation(inode)]) + bytes(125), "InitFile")
 
 
-def init_directory(block, inode):
+def init_directory(image, block, inode):
     """The block becomes an empty directory."""
-    return Change(block, 0, bytes([DIRECTORY_MARK, inode]) + bytes(126), "InitDir")
+    return Change(block, 0, bytes([DIRECTORY_MARK, inode, image.generation(inode)]) + bytes(125), "InitDir")
 
 
 def pointer_set(inode, slot, block):
     """A slot of an inode points to a block."""
     place, offset = inode_place(inode)
-    return Change(place, offset + 4 + slot, bytes([block]), "Ptr")
+    return Change(place, offset + FIRST_POINTER + slot, bytes([block]), "Ptr")
+
+
+def pointers_clear(inode):
+    """No slot of an inode points anywhere."""
+    block, offset = inode_place(inode)
+    return Change(block, offset + FIRST_POINTER, bytes(POINTERS), "PtrClear")
+
+
+def new_data(image, block):
+    """Other data in a block of a file."""
+    return Change(block, DATA_BYTE, bytes([next_byte(image.byte(block, DATA_BYTE))]), "NewData")
+
+
+def touch(image, inode):
+    """Another time in an inode."""
+    block, offset = inode_place(inode)
+    return Change(block, offset + TIME_BYTE, bytes([next_byte(image.inode_byte(inode, TIME_BYTE))]), "Touch")
 
 
 def links_set(inode, links, role):

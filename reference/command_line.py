@@ -4,8 +4,9 @@ import argparse
 import re
 
 from .answer import answer
+from .faults import FAULT_NAMES
 from .refusals import Refusal, TooMuch
-from .rules import MODULE_RULES, MODULES, read_rule
+from .rules import MODULES, read_rule, rules_of
 from .settings import MOST_PATCHES, Settings
 
 MOST_BYTES = 1048576
@@ -23,7 +24,8 @@ NUMBERS = {"blocks": (16, 16, 128), "journal": (0, 0, 122), "limit": (4096, 1, 1
 CHOICES = {"module": ("soft", MODULES), "explorer": ("auto", ("auto", "board", "sweep"))}
 """Options with a word: the word without the option, and all words."""
 
-FLAGS = ("json", "explain", "summary", "needs", "strict", "atomic", "whole-blocks", "decide", "enough")
+FLAGS = ("json", "explain", "summary", "needs", "strict", "atomic", "whole-blocks", "decide", "enough", "generations",
+         "durable", "syncs")
 
 
 class CommandLineFault(Exception):
@@ -67,6 +69,17 @@ def one_of(values):
     return check
 
 
+def numbers_of_faults(parser, option, value):
+    """The numbers of faults that count: ascending, with commas between."""
+    words = value.split(",")
+    if not set(words) <= set(map(str, FAULT_NAMES)):
+        parser.error("%s: not numbers of faults: %s" % (option, value))
+    numbers = tuple(map(int, words))
+    if any(one >= other for one, other in zip(numbers, numbers[1:])):
+        parser.error("%s: not ascending: %s" % (option, value))
+    return numbers
+
+
 def parser_of_words():
     """The parser with all options."""
     parser = Parser(prog="reference", allow_abbrev=False, add_help=False)
@@ -77,6 +90,7 @@ def parser_of_words():
         parser.add_argument("--" + name, default=default, action=once(one_of(values)))
     for name in FLAGS:
         parser.add_argument("--" + name, action="store_true")
+    parser.add_argument("--faults", dest="counted", action=once(numbers_of_faults))
     parser.add_argument("--with", dest="added", default=[], action="append")
     parser.add_argument("--without", default=[], action="append")
     return parser
@@ -94,7 +108,7 @@ def check_rules(parser, call):
         if every.count(word) > 1:
             parser.error("given twice: %s" % word)
     for word in call.without:
-        if word not in MODULE_RULES[call.module]:
+        if word not in rules_of(call.module):
             parser.error("--without: not a rule of %s: %s" % (call.module, word))
 
 
@@ -110,6 +124,8 @@ def check_questions(parser, call):
             parser.error("--%s with --%s" % (asked[0], name))
     if call.decide and len(asked) > 1:
         parser.error("--decide with --%s" % asked[1])
+    if call.syncs and (not call.enough or call.search is not None):
+        parser.error("--syncs without --enough of one script")
     if call.explorer == "board" and call.limit > MOST_ON_A_BOARD:
         parser.error("--explorer board: a limit above %d" % MOST_ON_A_BOARD)
 

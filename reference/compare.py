@@ -18,9 +18,9 @@ import tempfile
 from collections import namedtuple
 
 from .command_line import MOST_ON_A_BOARD, TOO_MUCH
-from .level import LEVEL
+from .level import LEVEL, LEVELS, raise_to
 from .random_cases.big import make_big_case
-from .random_cases.make import LEVELS, make_case
+from .random_cases.make import make_case
 from .runs import Run, differences, run_program, run_reference, run_second_way
 
 EXPLORERS = ("board", "sweep")
@@ -139,6 +139,7 @@ def read_call(words):
 def main(words):
     """The command; gives the exit status."""
     call = read_call(words)
+    raise_to(call.options)
     plan = Plan(tuple(call.program), call.seed, BIG if call.big else call.options, call.workers, call.timeout)
     results = compare(plan, call.count, call.jobs)
     differing = [result for result in results if result.differences]

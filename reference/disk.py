@@ -15,16 +15,18 @@ FILE_MARK, DIRECTORY_MARK = 0x46, 0x44
 
 
 class Image:
-    """The bytes of a disk of `blocks` blocks, `journal` of which hold the journal."""
+    """The bytes of a disk of `blocks` blocks, `journal` of which hold the journal. Where it has generations, an inode
+    and its blocks say how often the inode was freed."""
 
-    def __init__(self, blocks, journal, data):
+    def __init__(self, blocks, journal, data, generations=False):
         self.blocks = blocks
         self.journal = journal
         self.data = data
+        self.generations = generations
 
     def copy(self):
         """Another image with the same bytes."""
-        return Image(self.blocks, self.journal, bytearray(self.data))
+        return Image(self.blocks, self.journal, bytearray(self.data), self.generations)
 
     def put(self, block, offset, new):
         """Writes bytes into one block."""
@@ -73,25 +75,33 @@ class Image:
         """Whether the block map has the block as used."""
         return self.byte(1, block) != 0
 
+    def generation(self, inode):
+        """How often the inode was freed, modulo 256; 0 where the disk has no generations."""
+        return self.inode_byte(inode, 2) if self.generations else 0
+
+    def has_mark(self, block, mark, inode):
+        """Whether the block says that it belongs to this inode, and of which kind it is."""
+        return (self.byte(block, 0) == mark and self.byte(block, 1) == inode
+                and (not self.generations or self.byte(block, 2) == self.generation(inode)))
+
     def counts(self, directory):
         """Whether this inode is a directory whose first block is in the data area and says that it is this one's."""
         if self.kind(directory) != DIRECTORY:
             return False
         block = self.pointer(directory, 0)
-        return (self.in_data_area(block) and self.byte(block, 0) == DIRECTORY_MARK
-                and self.byte(block, 1) == directory)
+        return self.in_data_area(block) and self.has_mark(block, DIRECTORY_MARK, directory)
 
     def entry(self, directory, k):
         """The bytes of entry k of a directory that counts."""
         return self.range(self.pointer(directory, 0), 8 + ENTRY_SIZE * k, ENTRY_SIZE)
 
 
-def formatted(blocks, journal):
+def formatted(blocks, journal, generations=False):
     """A disk that holds only the root directory. Other sizes than 16 to 128 blocks, and a journal that leaves fewer
     than 6 blocks, are refused."""
     if not 16 <= blocks <= 128 or not 0 <= journal <= blocks - 6:
         raise Refusal(1)
-    image = Image(blocks, journal, bytearray(blocks * BLOCK_SIZE))
+    image = Image(blocks, journal, bytearray(blocks * BLOCK_SIZE), generations)
     image.put(0, 0, bytes([0x53, blocks, journal]))
     image.put(1, 0, bytes([1]) * (JOURNAL_START + journal + 1))
     image.put(2, 0, bytes([DIRECTORY, 1, 0, 0, JOURNAL_START + journal]))
@@ -102,6 +112,12 @@ def formatted(blocks, journal):
 def live_inodes(image):
     """The set of inodes that are not free."""
     return set(inode for inode in range(INODES) if image.kind(inode) != FREE)
+
+
+def blocks_named(image, inode):
+    """The blocks of the data area that the pointers of an inode name, by ascending slot."""
+    named = [image.pointer(inode, slot) for slot in range(POINTERS)]
+    return [block for block in named if image.in_data_area(block)]
 
 
 def target_of(image, directory, k):

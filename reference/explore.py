@@ -4,33 +4,40 @@ from collections import namedtuple
 
 from .closed_sets import closed_sets
 from .disk import formatted
-from .enough import enough_of
+from .enough import enough_lines_of, enough_of
 from .needs import needs_of
 from .rules import ordering, put_in, taken_out
-from .script import build_base, read_script
+from .script import PROMISE_ACTS, WAIT_ACTS, build_base, read_script
 from .search import search
 from .trace import trace
 from .work import Work
 
-Found = namedtuple("Found", "base patches closed failing without added needs enough search",
-                   defaults=(None, None, None, None, None, None, None, None))
+Found = namedtuple("Found", "base patches closed failing without added needs enough search"
+                            " promises waits tells_promises",
+                   defaults=(None, None, None, None, None, None, None, None, (), (), False))
 """The parts of an answer: the base, the patches, the closed and the failing sets, the rules that were taken out and
-put in, and what `--needs`, `--enough` and `--search` found. What was not asked for is None."""
+put in, and what `--needs`, `--enough` and `--search` found. What was not asked for is None. `promises` and `waits` are
+those of the script, and `tells_promises` says whether it has a line of either kind."""
 
 
 def start(script, settings):
     """The base of a script, the steps after `start`, and the rules."""
     steps = read_script(script)
-    base = formatted(settings.blocks, settings.journal)
+    base = formatted(settings.blocks, settings.journal, settings.generations)
     build_base(base, steps.base)
     return base, steps.traced, ordering(settings.module, settings.without, settings.added)
+
+
+def has_promises(steps):
+    """Whether one of the steps waits or promises."""
+    return any(step.act in WAIT_ACTS or step.act in PROMISE_ACTS for step in steps)
 
 
 def explore(script, settings):
     """The answer to a script; `Refusal` where it is refused, `TooMuch` where it is too big for the reference."""
     base, steps, rules = start(script, settings)
     found = Found(base, without=taken_out(settings.module, settings.without),
-                  added=put_in(settings.module, settings.added))
+                  added=put_in(settings.module, settings.added), tells_promises=has_promises(steps))
     if settings.search is not None:
         searched, passing = search(base, steps, rules, settings)
         enough = enough_of(rules, passing) if settings.enough else None
@@ -44,7 +51,10 @@ def found_without_limit(found, steps, rules, settings):
     """The answer to `--decide`, and to `--enough` of one script."""
     trace(found.base, steps, settings, rules)
     work = Work(found.base, steps, settings)
-    found = found._replace(patches=work.graph(rules), closed=work.closed(rules), failing=work.failing(rules))
+    found = found._replace(patches=work.graph(rules), closed=work.closed(rules), failing=work.failing(rules),
+                           promises=work.promises(), waits=work.waits())
+    if settings.syncs:
+        return found._replace(enough=enough_lines_of(rules, work))
     return found._replace(enough=enough_of(rules, [work])) if settings.enough else found
 
 
@@ -53,9 +63,11 @@ def found_within_limit(found, steps, rules, settings):
     patches = trace(found.base, steps, settings, rules)
     closed = closed_sets(patches, settings.limit)
     work = Work(found.base, steps, settings)
-    failing = work.judge.failing(patches, closed)
+    promises = work.promises()
+    failing = work.judge.failing(patches, closed, promises)
     needs = needs_of(work, rules, patches) if settings.needs else None
-    return found._replace(patches=patches, closed=closed, failing=failing, needs=needs)
+    return found._replace(patches=patches, closed=closed, failing=failing, needs=needs, promises=promises,
+                          waits=work.waits())
 
 
 def fails(found):

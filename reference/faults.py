@@ -7,7 +7,10 @@ from .disk import (DIRECTORY, DIRECTORY_MARK, FILE, FILE_MARK, FREE, INODES, POI
 
 FAULT_NAMES = {1: "dangling entry", 2: "block used twice", 3: "unwritten pointer", 4: "low link count",
                5: "used block marked free", 6: "wild pointer", 7: "lost inode",
-               8: "directory without a block", 9: "half-done operation"}
+               8: "directory without a block", 9: "half-done operation", 10: "broken promise"}
+
+BROKEN_PROMISE = 10
+"""The number of the fault of sets that break a promise. The other faults are those of an image."""
 
 
 def text_of(number, **places):
@@ -37,7 +40,7 @@ def pointers_of(image):
 def is_written(image, inode, block):
     """Whether the block says that it belongs to this inode, and of which kind it is."""
     right = {FILE: FILE_MARK, DIRECTORY: DIRECTORY_MARK}.get(image.kind(inode))
-    return right is not None and image.byte(block, 0) == right and image.byte(block, 1) == inode
+    return right is not None and image.has_mark(block, right, inode)
 
 
 def entry_faults(image, entries):

@@ -17,9 +17,9 @@ import sys
 from .command_line import TOO_MUCH
 from .compare import wanted_of
 from .faults import FAULT_NAMES
-from .level import LEVEL
+from .level import LEVEL, LEVELS, has, raise_to
 from .random_cases.case import FLAGS
-from .random_cases.make import HEAVY_SHARE, LEVELS, REFUSALS, make_case
+from .random_cases.make import HEAVY_SHARE, REFUSALS, make_case
 from .rules import MODULES
 
 REFUSAL = re.compile(rb"crashmap: (?:line [0-9]+: )?([0-9]+) ")
@@ -56,7 +56,7 @@ def reached(case, wanted):
         return collections.Counter({"refusal %2d" % int(REFUSAL.match(wanted.err)[1]): 1})
     found = collections.Counter({"reports": 1, "reports of " + case.module: 1})
     found["reports of %s with failing sets" % case.module] += wanted.status
-    for name in ("json", "added", "without", "search") + FLAGS:
+    for name in ("json", "added", "without", "search", "counted") + FLAGS:
         found["reports with " + name] += bool(getattr(case, name))
     for number, name in FAULT_NAMES.items():
         found["reports with fault %d" % number] += b"%d %s" % (number, name.encode()) in wanted.out
@@ -84,13 +84,15 @@ def main(words):
     """The command; gives the exit status."""
     call = read_call(words)
     os.makedirs(call.out, exist_ok=True)
+    raise_to(call.options)
     with multiprocessing.Pool(call.jobs) as pool:
         counts = sum(pool.imap_unordered(functools.partial(write_case, call), range(call.count), 8),
                      collections.Counter())
     print("%d cases, seed %s, options %s" % (call.count, call.seed, call.options))
     for name in sorted(name for name in counts if counts[name]):
         print("%7d  %s" % (counts[name], name))
-    missed = [number for number in REFUSALS if not counts["refusal %2d" % number]]
+    wanted = REFUSALS + [22] * has("promises") + [23] * has("syncs")
+    missed = [number for number in wanted if not counts["refusal %2d" % number]]
     print("refusals that no case has: %s" % (missed or "none"))
     return 0
 

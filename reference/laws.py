@@ -10,6 +10,10 @@ search: `--search` finds what single scripts find for all sequences of lines of 
 full: under the full journal nothing fails with `--atomic --strict`, whatever rules are put in.
 before: the closed sets under a rule for all operations before are among those under the rule for the operation before.
 two ways: the second way decides, counts and finds enough rules as enumeration does.
+full journal keeps promises: no promise is broken there that stands before the first operation, behind a `sync`, or
+    behind an `fsync` of its one path, and none of `--durable`.
+syncs: where more lines wait, no more sets fail, and a set of lines is enough where a script with these lines alone is.
+durable: an `fsync` promises what a `hold` behind it promises, of sets that have begun no later operation.
 
 Prints what differs, how often each law was tried, and a last line `N passed, M failed`.
 """
@@ -24,11 +28,13 @@ from .answer import answer
 from .closed_sets import closed_sets
 from .enough import sublists
 from .explore import explore, start
-from .faults import FAULT_NAMES, number_of
+from .faults import BROKEN_PROMISE, FAULT_NAMES, number_of
+from .level import LEVELS, raise_to
+from .promise_laws import check_promises
 from .random_cases.make import chance_of, make_case
 from .refusals import Refusal, TooMuch
 from .report_json import compact
-from .rules import JOURNAL_RULES, MODULE_RULES, PARTS, ordering, written
+from .rules import JOURNAL_RULES, PARTS, ordering, rules_of, written
 from .script import read_script, spelled
 from .second_way import decide
 from .settings import Settings
@@ -44,6 +50,13 @@ BEFORE = ("EntryClear:before-EntrySet", "Done:before-Done", "InPlace:before-Comm
 
 class Laws:
     """Checks laws, and counts them."""
+
+    def attempt(self, law):
+        """Tries a law. One that does not fit its case, since the script is refused or too big, is left out."""
+        try:
+            law()
+        except (Refusal, TooMuch):
+            self.done["left out"] += 1
 
     def __init__(self):
         self.done = collections.Counter()
@@ -84,7 +97,7 @@ def check_decide(laws, script, settings):
 def is_safe(script, settings, rules):
     """Whether nothing fails under a list of rules, by `--without` and `--with` alone."""
     words = [written(rule) for rule in rules]
-    without = tuple(word for word in MODULE_RULES[settings.module] if word not in words)
+    without = tuple(word for word in rules_of(settings.module) if word not in words)
     added = tuple(word for word in settings.added if word in words)
     return not limited(script, settings, summary=True, json=False, without=without, added=added)[1]
 
@@ -124,11 +137,17 @@ def check_enough_needs(laws, script, settings, value):
     least = [sorted(some) for some in hitting if not any(one < some for one in hitting)]
     laws.check("enough, needs", sorted(least), sorted(map(sorted, value["enough"])))
     for one in value["needs"]:
-        without = tuple(word for word in MODULE_RULES[settings.module]
+        without = tuple(word for word in rules_of(settings.module)
                         if word in settings.without or word in one["rules"])
         added = tuple(word for word in settings.added if word not in one["rules"])
         block = first_block(script, settings, without=without, added=added)
         laws.check("enough, block", dict(block, rules=one["rules"]), one)
+
+
+def without_shows(value):
+    """A set of a report without what paths show. A search says it where any line of the pool waits or promises, and a
+    single script where its own lines do."""
+    return {key: one for key, one in value.items() if key != "shows"}
 
 
 class SingleScripts:
@@ -138,7 +157,8 @@ class SingleScripts:
         read = read_script(script)
         self.settings = settings
         self.base = [spelled(step) for step in read.base]
-        self.pool = [spelled(step) for step in read.traced]
+        self.keeps = [spelled(step) for step in read.traced if step.act == "keep"]
+        self.pool = [spelled(step) for step in read.traced if step.act != "keep"]
         self.known = {}
 
     def verdict(self, places):
@@ -149,10 +169,11 @@ class SingleScripts:
 
     def run(self, places):
         """As `verdict`, found again."""
-        rows = self.base + ["start"] + [self.pool[place] for place in places]
+        rows = self.base + ["start"] + self.keeps + [self.pool[place] for place in places]
         script = "".join(row + "\n" for row in rows).encode()
         try:
-            return json.loads(limited(script, self.settings, json=True, summary=False)[0])["failing"]
+            return list(map(without_shows, json.loads(
+                limited(script, self.settings, json=True, summary=False)[0])["failing"]))
         except Refusal as refusal:
             return refusal.number
 
@@ -190,13 +211,15 @@ def check_search(laws, script, settings):
                 settings.search])
     laws.check("search, refusals", [(one["number"], one["count"]) for one in value["refused"]],
                sorted(refused.items()))
-    laws.check("search, kinds", value["kinds"], sum((single.kind(number, workloads) for number in FAULT_NAMES), []))
+    laws.check("search, kinds", list(map(without_shows, value["kinds"])),
+               sum((single.kind(number, workloads) for number in FAULT_NAMES), []))
 
 
 def check_full(laws, case):
-    """Nothing fails under the full journal."""
+    """Nothing fails under the full journal, but for promises that are broken."""
     added = tuple(rule for rule in case.added if rule not in JOURNAL_RULES)
-    settings = Settings("full", case.blocks, case.journal, 3000, added=added, strict=True, atomic=True)
+    settings = Settings("full", case.blocks, case.journal, 3000, added=added, strict=True, atomic=True,
+                        generations=case.generations, counted=tuple(range(1, BROKEN_PROMISE)))
     laws.check("full", answer(case.script, settings)[1], False)
 
 
@@ -240,20 +263,17 @@ def check_question(laws, chance, case):
 
 
 def check_case(laws, seed, index):
-    """Tries all laws on one case. A law that does not fit the case, since its script is refused, is left out."""
-    case, _ = make_case(seed, index)
+    """Tries all laws on one case, and those about promises on another."""
+    chance = chance_of(seed, index, "laws")
+    check_promises(laws, chance, seed, index)
+    case, _ = make_case(seed, index, level="all" if index % 2 else "promises")
     if not case.is_plain():
         return
-    chance = chance_of(seed, index, "laws")
-    tries = [lambda: check_full(laws, case) if case.module == "full" else None,
-             lambda: check_before(laws, chance, case),
-             lambda: check_two_ways(laws, chance, case),
-             lambda: check_question(laws, chance, case)]
-    for law in tries:
-        try:
-            law()
-        except (Refusal, TooMuch):
-            laws.done["left out"] += 1
+    for law in (lambda: check_full(laws, case) if case.module == "full" else None,
+                lambda: check_before(laws, chance, case),
+                lambda: check_two_ways(laws, chance, case),
+                lambda: check_question(laws, chance, case)):
+        laws.attempt(law)
 
 
 def try_laws(seed, count):
@@ -271,6 +291,7 @@ def main(words):
     parser.add_argument("--count", type=int, default=100)
     parser.add_argument("--seed", default="1")
     call = parser.parse_args(words)
+    raise_to(LEVELS[-1])
     laws = try_laws(call.seed, call.count)
     tried = laws.done.total() - laws.done["left out"]
     for law in sorted(laws.done):

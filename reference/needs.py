@@ -28,7 +28,7 @@ def need_of(rule, work, rules, patches):
         closed = closed_sets(freer, work.settings.limit)
     except Refusal:
         return Need(rule, pairs, None, None, None)
-    failing = work.judge.failing(freer, closed)
+    failing = work.judge.failing(freer, closed, work.promises())
     prevented = [one for one in failing if not is_closed(patches, one.patch_set)]
     return Need(rule, pairs, len(closed), len(failing), prevented[0] if prevented else None)
 

@@ -3,11 +3,12 @@
 from collections import namedtuple
 
 from . import changes as make
-from .disk import DIRECTORY, ENTRIES, FILE, FREE, INODES, MOST_LINKS, POINTERS, target_of, used_entries
+from .disk import (DIRECTORY, ENTRIES, FILE, FREE, INODES, MOST_LINKS, POINTERS, blocks_named, target_of,
+                   used_entries)
 from .refusals import Refused
 
-Operation = namedtuple("Operation", "name paths")
-"""An operation's name, and its paths, each a tuple of names."""
+Operation = namedtuple("Operation", "name paths slot", defaults=(None,))
+"""An operation's name, its paths, each a tuple of names, and the slot of `overwrite P K` or None."""
 
 
 def find_entry(image, directory, name):
@@ -64,8 +65,8 @@ def free_slot(image, inode):
 
 
 class Place:
-    """Where the first path of an operation leads: the parent directory, the last name, its entry and its inode.
-    The last two are None where there is no such entry."""
+    """Where a path of an operation leads: the parent directory, the last name, its entry and its inode. The last two
+    are None where there is no such entry."""
 
     def __init__(self, image, path):
         self.parent = parent_of(image, path)
@@ -78,7 +79,7 @@ def plan_create(image, place):
     """A new empty file."""
     inode = free_inode(image)
     k = free_entry(image, place.parent)
-    return [make.inode_init(inode, FILE), make.entry_set(image, place.parent, k, inode, place.name)]
+    return [make.inode_init(image, inode, FILE), make.entry_set(image, place.parent, k, inode, place.name)]
 
 
 def plan_mkdir(image, place):
@@ -86,7 +87,7 @@ def plan_mkdir(image, place):
     inode = free_inode(image)
     block = free_block(image)
     k = free_entry(image, place.parent)
-    return [make.inode_init(inode, DIRECTORY), make.map_set(block), make.init_directory(block, inode),
+    return [make.inode_init(image, inode, DIRECTORY), make.map_set(block), make.init_directory(image, block, inode),
             make.pointer_set(inode, 0, block), make.entry_set(image, place.parent, k, inode, place.name)]
 
 
@@ -96,7 +97,7 @@ def plan_write(image, place):
         raise Refused(13)
     block = free_block(image)
     slot = free_slot(image, place.target)
-    return [make.map_set(block), make.init_file(block, place.target),
+    return [make.map_set(block), make.init_file(image, block, place.target),
             make.pointer_set(place.target, slot, block)]
 
 
@@ -105,12 +106,35 @@ def plan_unlink(image, place):
     target = place.target
     if image.kind(target) != FILE:
         raise Refused(13)
-    cleared = make.entry_clear(image, place.parent, place.entry)
-    if image.links(target) > 1:
-        return [cleared, make.links_set(target, image.links(target) - 1, "LinkDown")]
-    named = [image.pointer(target, slot) for slot in range(POINTERS)]
-    return [cleared, make.inode_free(target)] + [
-        make.map_clear(block) for block in named if image.in_data_area(block)]
+    return [make.entry_clear(image, place.parent, place.entry)] + one_name_fewer(image, target)
+
+
+def one_name_fewer(image, inode):
+    """What a file loses with one of its names: a link, or with the last one the inode and its blocks."""
+    if image.links(inode) > 1:
+        return [make.links_set(inode, image.links(inode) - 1, "LinkDown")]
+    return [make.inode_free(image, inode)] + [make.map_clear(block) for block in blocks_named(image, inode)]
+
+
+def plan_truncate(image, place):
+    """A file without its blocks."""
+    if image.kind(place.target) != FILE:
+        raise Refused(13)
+    return [make.pointers_clear(place.target)] + [
+        make.map_clear(block) for block in blocks_named(image, place.target)]
+
+
+def plan_overwrite(image, place, slot):
+    """Other data in all blocks of a file, or in the block of one slot."""
+    if image.kind(place.target) != FILE:
+        raise Refused(13)
+    blocks = blocks_named(image, place.target)
+    if slot is not None:
+        block = image.pointer(place.target, slot)
+        if block == 0:
+            raise Refused(10)
+        blocks = [block] if image.in_data_area(block) else []
+    return [make.new_data(image, block) for block in blocks] + [make.touch(image, place.target)]
 
 
 def plan_rmdir(image, place):
@@ -121,7 +145,7 @@ def plan_rmdir(image, place):
     if used_entries(image, target):
         raise Refused(14)
     block = image.pointer(target, 0)
-    return [make.entry_clear(image, place.parent, place.entry), make.inode_free(target)] + (
+    return [make.entry_clear(image, place.parent, place.entry), make.inode_free(image, target)] + (
         [make.map_clear(block)] if image.in_data_area(block) else [])
 
 
@@ -147,9 +171,27 @@ def plan_rename(image, place, new_path):
         make.entry_clear(image, place.parent, place.entry), make.links_set(place.target, links, "LinkDown")]
 
 
+def plan_replace(image, place, new_path):
+    """A file's name moves to a name that is there. The file of that name loses it."""
+    there = Place(image, new_path)
+    if there.entry is None:
+        raise Refused(10)
+    if image.kind(place.target) != FILE or image.kind(there.target) != FILE:
+        raise Refused(13)
+    if place.target == there.target:
+        raise Refused(12)
+    links = image.links(place.target)
+    if links >= MOST_LINKS:
+        raise Refused(19)
+    return [make.links_set(place.target, links + 1, "LinkUp"),
+            make.entry_set(image, there.parent, there.entry, place.target, there.name),
+            make.entry_clear(image, place.parent, place.entry),
+            make.links_set(place.target, links, "LinkDown")] + one_name_fewer(image, there.target)
+
+
 NEW = {"create": plan_create, "mkdir": plan_mkdir}
-OLD = {"write": plan_write, "unlink": plan_unlink, "rmdir": plan_rmdir}
-TWO_PATHS = {"link": plan_link, "rename": plan_rename}
+OLD = {"write": plan_write, "unlink": plan_unlink, "rmdir": plan_rmdir, "truncate": plan_truncate}
+TWO_PATHS = {"link": plan_link, "rename": plan_rename, "replace": plan_replace}
 
 
 def plan(image, operation):
@@ -163,4 +205,6 @@ def plan(image, operation):
         raise Refused(10)
     if operation.name in OLD:
         return OLD[operation.name](image, place)
+    if operation.name == "overwrite":
+        return plan_overwrite(image, place, operation.slot)
     return TWO_PATHS[operation.name](image, place, operation.paths[1])

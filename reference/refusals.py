@@ -15,6 +15,8 @@ REFUSAL_TEXTS = {
     19: "too many links",
     20: "journal full",
     21: "group fault",
+    22: "only after start",
+    23: "too many syncs",
     30: "too many closed sets",
     40: "not UTF-8",
     41: "bad line",
@@ -31,6 +33,9 @@ MOST_SETS = 200000
 
 MOST_RULES = 14
 """The most rules whose sublists the reference tries one by one."""
+
+MOST_LINES = 8
+"""The most lines `sync` and `fsync` whose sublists the reference tries one by one."""
 
 
 class Refusal(Exception):

@@ -4,9 +4,12 @@ import json
 
 from .closed_sets import ids_of
 from .faults import FAULT_NAMES
+from .promises import allowed_to_some, spare_texts
 from .refusals import REFUSAL_TEXTS
 from .rules import written
+from .script import spelled_path
 from .summary import each_fault
+from .verdicts import shows_of
 
 
 def compact(value):
@@ -21,17 +24,38 @@ def head_value(found, settings):
         value["without"] = found.without
     if found.added:
         value["with"] = found.added
-    flags = (("strict", settings.strict), ("atomic", settings.atomic), ("whole_blocks", settings.whole_blocks))
-    value.update((name, True) for name, is_asked in flags if is_asked)
+    flags = ("strict", "atomic", "whole_blocks", "generations", "durable")
+    value.update((name, True) for name in flags if getattr(settings, name))
+    if settings.counted:
+        value["counted"] = settings.counted
     return value
 
 
+class Detail:
+    """How much is reported of a set: `explained` what replay changes, `shown` what paths show too."""
+
+    def __init__(self, found, settings):
+        self.explained = settings.explain
+        self.shown = settings.explain and found.tells_promises
+
+
 def trace_value(found, settings):
-    """The members with the base and the patches, where they are asked for."""
-    if not settings.explain:
+    """The members with the base, the patches, the lines that wait and the promises, where they are asked for."""
+    detail = Detail(found, settings)
+    if not detail.explained:
         return {}
-    return {"base": [found.base.block(block).hex() for block in range(found.base.blocks)],
-            "trace": [patch_value(patch) for patch in found.patches]}
+    value = {"base": [found.base.block(block).hex() for block in range(found.base.blocks)],
+             "trace": [patch_value(patch) for patch in found.patches]}
+    if detail.shown:
+        value["promises"] = [promise_value(promise) for promise in found.promises]
+        value["waits"] = [{"ids": wait.ids, "line": wait.line, "step": wait.step} for wait in found.waits]
+    return value
+
+
+def promise_value(promise):
+    """A promise with what it allows and its spares."""
+    return {"after": ids_of(promise.ids), promise.word: [spelled_path(path) for path in promise.paths],
+            "line": promise.line, "shows": allowed_to_some(promise), "spares": spare_texts(promise)}
 
 
 def patch_value(patch):
@@ -46,21 +70,22 @@ def patch_value(patch):
             "undo": patch.undo.hex()}
 
 
-def set_value(one, explain):
+def set_value(one, detail):
     """A failing set without its faults."""
     value = {"set": ids_of(one.patch_set),
              "writes": [{"block": block, "patches": ids} for block, ids in one.writes]}
-    if explain:
+    if detail.explained:
         value["replay"] = [{"block": block, "bytes": after.hex()} for block, after in one.replay]
     return value
 
 
-def section_value(one, explain):
+def section_value(one, detail):
     """A failing set with its faults."""
-    return dict(set_value(one, explain), faults=one.faults)
+    shows = {"shows": one.shows} if detail.shown else {}
+    return dict(set_value(one, detail), faults=one.faults, **shows)
 
 
-def need_value(need, explain):
+def need_value(need, detail):
     """What one rule is needed for."""
     value = {"rule": written(need.rule), "pairs": need.pairs}
     if need.pairs and need.closed is None:
@@ -69,65 +94,74 @@ def need_value(need, explain):
         value["closed"] = need.closed
         value["failing"] = need.failing
         if need.first:
-            value["first"] = section_value(need.first, explain)
+            value["first"] = section_value(need.first, detail)
     return value
 
 
-def fault_value(fault, explain):
+def fault_value(fault, detail):
     """A fault and the first set that has it."""
     text, _, first = fault
-    return dict(set_value(first, explain), fault=text)
+    shows = shows_of(first)
+    shown = {"shows": [shows[text]] if text in shows else []} if detail.shown else {}
+    return dict(set_value(first, detail), fault=text, **shown)
 
 
-def enough_value(enough, explain, with_steps):
-    """The members that say which rules are enough, and why."""
-    value = {"enough": [[written(rule) for rule in some] for some in enough.rules], "needs": []}
+def asked_values(some):
+    """Rules as they are written, or numbers of lines."""
+    return [one if isinstance(one, int) else written(one) for one in some]
+
+
+def enough_value(enough, settings, detail):
+    """The members that say which rules are enough, or which lines that wait, and why."""
+    word = "syncs" if settings.syncs else "rules"
+    value = {"enough": [asked_values(some) for some in enough.rules], "needs": []}
     for gone, work, fault in enough.needs:
-        need = dict(fault_value(fault, explain), rules=[written(rule) for rule in gone])
-        if with_steps:
+        need = dict(fault_value(fault, detail), **{word: asked_values(gone)})
+        if settings.search is not None:
             need["steps"] = work.spelled_steps()
         value["needs"].append(need)
     if enough.first:
-        value["first"] = fault_value(enough.first, explain)
+        value["first"] = fault_value(enough.first, detail)
     return value
 
 
-def kind_value(kind, explain):
+def kind_value(kind, detail):
     """A kind of fault that a search found."""
-    return dict(section_value(kind.first, explain), kind=kind.kind, name=FAULT_NAMES[kind.kind],
+    return dict(section_value(kind.first, detail), kind=kind.kind, name=FAULT_NAMES[kind.kind],
                 workloads=kind.workloads, steps=kind.steps)
 
 
 def search_value(found, settings):
     """The report of a search."""
-    one = found.search
+    one, detail = found.search, Detail(found, settings)
     value = dict(search=one.most, pool=one.pool, workloads=one.workloads, failing=one.failing,
                  refused=[{"number": number, "text": REFUSAL_TEXTS[number], "count": count}
                           for number, count in one.refused])
     if found.enough is not None:
-        return dict(value, **enough_value(found.enough, settings.explain, True))
-    return dict(value, kinds=[kind_value(kind, settings.explain) for kind in one.kinds])
+        return dict(value, **enough_value(found.enough, settings, detail))
+    return dict(value, kinds=[kind_value(kind, detail) for kind in one.kinds])
 
 
 def decision_value(found, settings, closed, decided):
     """The report of `--decide`, and of `--enough` of one script, from the number of closed sets and the faults."""
+    detail = Detail(found, settings)
     value = dict(trace_value(found, settings), patches=len(found.patches), closed=str(closed))
     if found.enough is not None:
-        return dict(value, **enough_value(found.enough, settings.explain, False))
-    return dict(value, faults=[fault_value(fault, settings.explain) for fault in decided])
+        return dict(value, **enough_value(found.enough, settings, detail))
+    return dict(value, faults=[fault_value(fault, detail) for fault in decided])
 
 
 def report_value(found, settings):
     """The report of all other questions."""
-    explain = settings.explain
+    detail = Detail(found, settings)
     value = dict(trace_value(found, settings), closed=len(found.closed), patches=len(found.patches))
     if found.needs is not None:
-        return dict(value, failing=len(found.failing), rules=[need_value(need, explain) for need in found.needs])
+        return dict(value, failing=len(found.failing), rules=[need_value(need, detail) for need in found.needs])
     if settings.summary:
         return dict(value, sets=len(found.failing), faults=[
-            dict(set_value(having[0], explain), fault=text, sets=len(having))
+            dict(fault_value((text, None, having[0]), detail), sets=len(having))
             for text, having in each_fault(found.failing)])
-    return dict(value, failing=[section_value(one, explain) for one in found.failing])
+    return dict(value, failing=[section_value(one, detail) for one in found.failing])
 
 
 def text_of(found, settings, value):

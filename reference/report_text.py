@@ -2,9 +2,12 @@
 
 from .closed_sets import ids_of
 from .faults import FAULT_NAMES
+from .promises import allowed_to_some, spare_texts
 from .refusals import REFUSAL_TEXTS
 from .rules import written
+from .script import spelled_path
 from .summary import counted_faults
+from .verdicts import shows_of
 
 
 def numbers(some):
@@ -17,15 +20,28 @@ def head_lines(found, settings):
     lines = ["module %s" % settings.module]
     lines += ["without " + word for word in found.without]
     lines += ["with " + word for word in found.added]
-    flags = (("whole blocks", settings.whole_blocks), ("strict", settings.strict), ("atomic", settings.atomic))
-    return lines + [word for word, is_asked in flags if is_asked]
+    flags = (("generations", settings.generations), ("whole blocks", settings.whole_blocks),
+             ("strict", settings.strict), ("atomic", settings.atomic), ("durable", settings.durable))
+    lines += [word for word, is_asked in flags if is_asked]
+    return lines + (["faults" + numbers(settings.counted)] if settings.counted else [])
 
 
 def trace_lines(found, settings):
-    """The patches with their reasons, where they are asked for."""
+    """The patches with their reasons, the lines that wait, and the promises, where they are asked for."""
     if not settings.explain:
         return []
-    return [line for identity, patch in enumerate(found.patches) for line in patch_lines(identity, patch)]
+    return ([line for identity, patch in enumerate(found.patches) for line in patch_lines(identity, patch)]
+            + ["wait line %d %s:%s" % (wait.line, wait.step, numbers(wait.ids)) for wait in found.waits]
+            + [line for promise in found.promises for line in promise_lines(promise)])
+
+
+def promise_lines(promise):
+    """A promise: its paths, its patches, what it allows, and its spares."""
+    paths = "".join(" " + spelled_path(path) for path in promise.paths)
+    lines = ["promise line %d %s%s" % (promise.line, promise.word, paths)]
+    lines += ["after" + numbers(ids_of(promise.ids))] if promise.ids else []
+    lines += ["shows " + text for text in allowed_to_some(promise)]
+    return lines + ["spare " + text for text in spare_texts(promise)]
 
 
 def patch_lines(identity, patch):
@@ -37,17 +53,22 @@ def patch_lines(identity, patch):
 
 def set_lines(one, explain):
     """A failing set without its faults."""
-    ids = ids_of(one.patch_set)
-    lines = ["set" + numbers(ids) if ids else "set "]
+    lines = ["set" + numbers(ids_of(one.patch_set))]
     lines += ["write block %d:%s" % (block, numbers(some)) for block, some in one.writes]
     if explain:
         lines += ["replay block %d: %s" % (block, after.hex()) for block, after in one.replay]
     return lines
 
 
+def told_lines(one, text, explain):
+    """A fault of a failing set. With `--explain` a broken promise says what its paths show."""
+    shows = shows_of(one)
+    return ["fault " + text] + (["shows " + shows[text]] if explain and text in shows else [])
+
+
 def section_lines(one, explain):
     """A failing set with its faults."""
-    return set_lines(one, explain) + ["fault " + text for text in one.faults]
+    return set_lines(one, explain) + [line for text in one.faults for line in told_lines(one, text, explain)]
 
 
 def need_lines(need, explain):
@@ -64,22 +85,23 @@ def need_lines(need, explain):
 def fault_lines(fault, explain):
     """A fault and the first set that has it."""
     text, _, first = fault
-    return ["fault " + text] + set_lines(first, explain)
+    return told_lines(first, text, explain) + set_lines(first, explain)
 
 
-def rule_line(word, rules):
-    """A line with a word and then rules."""
-    return " ".join([word] + [written(rule) for rule in rules])
+def asked_line(word, some):
+    """A line with a word and then rules, or numbers of lines."""
+    return " ".join([word] + [str(one) if isinstance(one, int) else written(one) for one in some])
 
 
-def enough_lines(enough, explain, with_steps):
-    """Which rules are enough, and why."""
-    lines = ["enough %d" % len(enough.rules)] + [rule_line("rules", some) for some in enough.rules]
+def enough_lines(enough, settings):
+    """Which rules are enough, or which lines that wait, and why."""
+    word = "syncs" if settings.syncs else "rules"
+    lines = ["enough %d" % len(enough.rules)] + [asked_line(word, some) for some in enough.rules]
     for gone, work, fault in enough.needs:
-        lines.append(rule_line("needs", gone))
-        lines += ["step " + step for step in work.spelled_steps()] if with_steps else []
-        lines += fault_lines(fault, explain)
-    return lines + (fault_lines(enough.first, explain) if enough.first else [])
+        lines.append(asked_line("needs", gone))
+        lines += ["step " + step for step in work.spelled_steps()] if settings.search is not None else []
+        lines += fault_lines(fault, settings.explain)
+    return lines + (fault_lines(enough.first, settings.explain) if enough.first else [])
 
 
 def kind_lines(kind, explain):
@@ -94,7 +116,7 @@ def search_lines(found, settings):
     lines = ["search %d" % one.most, "pool %d" % one.pool, "workloads %d" % one.workloads, "failing %d" % one.failing]
     lines += ["refused %d %s: %d" % (number, REFUSAL_TEXTS[number], count) for number, count in one.refused]
     if found.enough is not None:
-        return lines + enough_lines(found.enough, settings.explain, True)
+        return lines + enough_lines(found.enough, settings)
     return lines + [line for kind in one.kinds for line in kind_lines(kind, settings.explain)]
 
 
@@ -102,14 +124,15 @@ def decision_lines(found, settings, closed, decided):
     """The report of `--decide`, and of `--enough` of one script, from the number of closed sets and the faults."""
     lines = ["patches %d" % len(found.patches), "closed %d" % closed] + trace_lines(found, settings)
     if found.enough is not None:
-        return lines + enough_lines(found.enough, settings.explain, False)
+        return lines + enough_lines(found.enough, settings)
     return lines + [line for fault in decided for line in fault_lines(fault, settings.explain)]
 
 
 def summary_lines(found, settings):
     """Each fault once."""
     return [line for text, sets, first in counted_faults(found.failing)
-            for line in ["fault " + text, "sets %d" % sets] + set_lines(first, settings.explain)]
+            for line in told_lines(first, text, settings.explain) + ["sets %d" % sets]
+            + set_lines(first, settings.explain)]
 
 
 def report_lines(found, settings):

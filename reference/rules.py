@@ -3,10 +3,15 @@
 import re
 from collections import namedtuple
 
+from . import level
+
 MODULES = ("async", "soft", "meta", "full")
 
+LATE_ROLES = ("PtrClear", "NewData", "Touch")
+"""The roles of `overwrite` and `truncate`."""
+
 ROLES = ("InodeInit", "EntrySet", "EntryClear", "MapSet", "MapClear", "InitFile", "InitDir",
-         "Ptr", "LinkUp", "LinkDown", "InodeFree")
+         "Ptr", "LinkUp", "LinkDown", "InodeFree") + LATE_ROLES
 PARTS = ROLES + ("FileData", "Copy", "Commit", "Done", "InPlace")
 
 Rule = namedtuple("Rule", "later scope earlier")
@@ -21,7 +26,7 @@ SOFT_RULES = (
     "InitFile:MapSet", "InitDir:MapSet",
     "Ptr:InitFile", "Ptr:InitDir", "Ptr:MapSet",
     "LinkDown:EntryClear", "InodeFree:EntryClear", "MapClear:InodeFree",
-    "EntryClear:EntrySet",
+    "EntryClear:EntrySet", "MapClear:PtrClear",
 )
 JOURNAL_RULES = (
     "FileData:previous-Commit",
@@ -30,6 +35,9 @@ JOURNAL_RULES = (
     "Done:InPlace", "Done:previous-Done",
 )
 MODULE_RULES = {"async": (), "soft": SOFT_RULES, "meta": JOURNAL_RULES, "full": JOURNAL_RULES}
+
+LATE_RULES = ("MapClear:PtrClear",)
+"""The rules that came with `truncate`."""
 
 
 def read_rule(word):
@@ -45,25 +53,37 @@ def written(rule):
     return "%s:%s%s" % (rule.later, "" if rule.scope == "same" else rule.scope + "-", rule.earlier)
 
 
+def rules_of(module):
+    """The rules of an ordering, as they are written."""
+    late = () if level.has("operations") else LATE_RULES
+    return tuple(word for word in MODULE_RULES[module] if word not in late)
+
+
 def taken_out(module, without):
     """The rules of the module that are taken out, in the module's order."""
-    return [word for word in MODULE_RULES[module] if word in without]
+    return [word for word in rules_of(module) if word in without]
 
 
 def put_in(module, added):
     """The rules that are put in, in their order, but those that the module has already."""
-    return [word for word in added if word not in MODULE_RULES[module]]
+    return [word for word in added if word not in rules_of(module)]
 
 
 def ordering(module, without=(), added=()):
     """The rules of the module that are left, and then those put in."""
-    words = [word for word in MODULE_RULES[module] if word not in without]
+    words = [word for word in rules_of(module) if word not in without]
     return [read_rule(word) for word in words + put_in(module, added)]
 
 
+def is_in_place(patch):
+    """Whether a patch is a change in its own place that the journal has a copy of, or would have. File data that the
+    metadata journal leaves out are not."""
+    return patch.part in ROLES and not patch.is_data
+
+
 def has_part(patch, part):
-    """Whether a patch is of this part. `InPlace` is every part that is a role."""
-    return patch.part == part or (part == "InPlace" and patch.part in ROLES)
+    """Whether a patch is of this part. `InPlace` is every change in its own place."""
+    return patch.part == part or (part == "InPlace" and is_in_place(patch))
 
 
 def in_scope(scope, later, earlier):

@@ -7,14 +7,25 @@ from .changes import apply
 from .plan import Operation, plan
 from .refusals import Refusal, Refused
 
-Step = namedtuple("Step", "line act words")
-"""One line that does something: its number from 1, its first word, and its paths or group names."""
+Step = namedtuple("Step", "line act words slot", defaults=(None,))
+"""One line that does something: its number from 1, its first word, its paths or group names, and the slot of
+`overwrite P K` or None. The root directory, which `fsync` may name, is the path without names."""
 
 Script = namedtuple("Script", "base traced")
 """The steps before `start`, and those after it."""
 
-OPERATIONS = {"create": 1, "write": 1, "link": 2, "unlink": 1, "rename": 2, "mkdir": 1, "rmdir": 1}
+OPERATIONS = {"create": 1, "write": 1, "link": 2, "unlink": 1, "rename": 2, "mkdir": 1, "rmdir": 1,
+              "overwrite": 1, "truncate": 1, "replace": 2}
 """The operations, with their numbers of paths."""
+
+WAIT_ACTS = {"sync": (0,), "fsync": (1,)}
+"""The steps that wait, with the numbers of paths that they may have."""
+
+PROMISE_ACTS = {"keep": (1, 2, 3, 4), "hold": (1,), "spare": (2,)}
+"""The steps that promise, with the numbers of paths that they may have."""
+
+SLOTS = ("0", "1", "2", "3")
+"""The words that name one slot in `overwrite P K`."""
 
 GROUP_ACTS = {"group": 1, "end": 0, "depend": 2}
 """The steps that speak of patch groups, with their numbers of group names."""
@@ -28,14 +39,25 @@ def read_path(word):
     return None if PATH.fullmatch(word) is None else tuple(word.split("/")[1:])
 
 
+def spelled_path(path):
+    """A path as lines spell it."""
+    return "/" + "/".join(path)
+
+
 def spelled(step):
-    """An operation as its line spells it."""
-    return " ".join([step.act] + ["/" + "/".join(path) for path in step.words])
+    """A step with paths as its line spells it."""
+    slot = [] if step.slot is None else [str(step.slot)]
+    return " ".join([step.act] + [spelled_path(path) for path in step.words] + slot)
+
+
+def is_operation(step):
+    """Whether a step is an operation."""
+    return step.act in OPERATIONS
 
 
 def operation_of(step):
     """The operation of a step."""
-    return Operation(step.act, step.words)
+    return Operation(step.act, step.words, step.slot)
 
 
 def lines_of(script):
@@ -58,19 +80,41 @@ def words_of(raw, number):
     return words
 
 
+def read_paths(first, words, number):
+    """The paths of a line. `fsync` alone may name the root directory."""
+    paths = tuple(() if (first, word) == ("fsync", "/") else read_path(word) for word in words)
+    if None in paths:
+        raise Refusal(42, number)
+    return paths
+
+
+def counts_of(first):
+    """The numbers of words that may follow the first word of a line; none where no line begins with it."""
+    if first == "overwrite":
+        return (1, 2)
+    if first in OPERATIONS:
+        return (OPERATIONS[first],)
+    if first in GROUP_ACTS:
+        return (GROUP_ACTS[first],)
+    return WAIT_ACTS.get(first) or PROMISE_ACTS.get(first) or ()
+
+
 def read_step(words, number):
-    """The step of a line that is not `start`. A wrong number of words comes before a bad path."""
+    """The step of a line that is not `start`. A wrong number of words comes before a bad path, and a bad path before
+    the word behind it."""
     first, rest = words[0], words[1:]
-    if len(rest) != OPERATIONS.get(first, GROUP_ACTS.get(first)):
+    if len(rest) not in counts_of(first):
         raise Refusal(41, number)
     if first in GROUP_ACTS:
         if not all(GROUP_NAME.fullmatch(word) for word in rest):
             raise Refusal(41, number)
         return Step(number, first, tuple(rest))
-    paths = tuple(read_path(word) for word in rest)
-    if None in paths:
-        raise Refusal(42, number)
-    return Step(number, first, paths)
+    if first == "overwrite" and len(rest) == 2:
+        paths = read_paths(first, rest[:1], number)
+        if rest[1] not in SLOTS:
+            raise Refusal(41, number)
+        return Step(number, first, paths, int(rest[1]))
+    return Step(number, first, read_paths(first, rest, number))
 
 
 def read_script(script):
@@ -94,8 +138,8 @@ def read_script(script):
 def build_base(image, steps):
     """Does the steps before `start` on the image. The first one that cannot be done refuses the script."""
     for step in steps:
-        if step.act in GROUP_ACTS:
-            raise Refusal(21, step.line)
+        if not is_operation(step):
+            raise Refusal(21 if step.act in GROUP_ACTS else 22, step.line)
         try:
             changes = plan(image, operation_of(step))
         except Refused as refused:
@@ -107,7 +151,7 @@ def disks_after(base, steps):
     """The base after the first k operations of the steps, for each k. All of them can be done."""
     disks = [base.copy()]
     for step in steps:
-        if step.act not in GROUP_ACTS:
+        if is_operation(step):
             disk = disks[-1].copy()
             apply(disk, plan(disk, operation_of(step)))
             disks.append(disk)

@@ -18,10 +18,11 @@ such set there."""
 
 
 class Searcher:
-    """Tries workloads, shorter ones first. Only those that pass are made longer."""
+    """Tries workloads, shorter ones first. Only those that pass are made longer. `keeps` are promises that every
+    workload makes before its first step."""
 
-    def __init__(self, base, rules, settings):
-        self.base, self.rules, self.settings = base, rules, settings
+    def __init__(self, base, keeps, rules, settings):
+        self.base, self.keeps, self.rules, self.settings = base, keeps, rules, settings
         self.refused = Counter()
         self.found = []
 
@@ -32,7 +33,7 @@ class Searcher:
         except Refusal as refusal:
             self.refused[refusal.number] += 1
             return False
-        work = Work(self.base, steps, self.settings)
+        work = Work(self.base, self.keeps + steps, self.settings)
         failing = work.failing(self.rules)
         self.found.append((work, failing))
         return not failing
@@ -52,12 +53,14 @@ class Searcher:
         return Kind(number, len(showing), showing[0][0].spelled_steps(), showing[0][1][0])
 
 
-def search(base, pool, rules, settings):
-    """What the search finds, and the workloads that pass."""
-    for step in pool:
-        if step.act in GROUP_ACTS:
+def search(base, lines, rules, settings):
+    """What the search finds, and the workloads that pass. The lines `keep` are no steps of workloads."""
+    for step in lines:
+        if step.act in GROUP_ACTS or step.act in ("hold", "spare"):
             raise Refusal(21, step.line)
-    searcher = Searcher(base, rules, settings)
+    keeps = [step for step in lines if step.act == "keep"]
+    pool = [step for step in lines if step.act != "keep"]
+    searcher = Searcher(base, keeps, rules, settings)
     beginnings = [[]]
     for _ in range(settings.search):
         beginnings = searcher.longer(beginnings, pool)

@@ -2,16 +2,19 @@
 
 from .closed_sets import closed_sets, is_closed
 from .needs import pairs_of
+from .promises import promises_of
 from .refusals import TooMuch
 from .script import spelled
 from .summary import counted_faults
 from .trace import trace
 from .verdicts import Judge
+from .waits import waits_of
 
 NOT_YET = object()
 
 class Work:
-    """A base with traced steps, and what is asked of the sets of their patches."""
+    """A base with traced steps, and what is asked of the sets of their patches. Where `waiting` is given only its lines
+    wait."""
 
     def __init__(self, base, steps, settings):
         self.base, self.steps, self.settings = base, steps, settings
@@ -20,9 +23,17 @@ class Work:
         self.without_rules = NOT_YET
         self.graphs = {}
 
-    def graph(self, rules):
+    def graph(self, rules, waiting=None):
         """The patches under the rules."""
-        return trace(self.base, self.steps, self.settings, rules)
+        return trace(self.base, self.steps, self.settings, rules, waiting)
+
+    def promises(self, waiting=None):
+        """The promises of the steps, which no rule changes."""
+        return promises_of(self.base, self.steps, self.graph(()), self.settings, waiting)
+
+    def waits(self):
+        """The lines that wait, with what each forces."""
+        return waits_of(self.base, self.steps, self.graph(()), self.settings.module)
 
     def graph_by(self, rule):
         """The patches where this is the only rule."""
@@ -30,13 +41,17 @@ class Work:
             self.graphs[rule] = self.graph((rule,))
         return self.graphs[rule]
 
-    def closed(self, rules):
+    def closed(self, rules, waiting=None):
         """All closed sets under the rules, without the limit of the settings."""
-        return closed_sets(self.graph(rules))
+        return closed_sets(self.graph(rules, waiting))
 
-    def failing(self, rules):
+    def failing(self, rules, waiting=None):
         """The failing sets under the rules, in their order."""
-        return self.judge.failing(self.graph(rules), self.closed(rules))
+        return self.judge.failing(self.graph(rules, waiting), self.closed(rules, waiting), self.promises(waiting))
+
+    def first_faults(self, rules, waiting):
+        """The first fault under the rules, in a list, or an empty list."""
+        return counted_faults(self.failing(rules, waiting))[:1]
 
     def matter(self, rules):
         """Those of the rules that put a pair of patches in order. The others change nothing."""
@@ -75,5 +90,5 @@ class Work:
         return self.verdicts[matter]
 
     def spelled_steps(self):
-        """The steps as their lines spell them."""
-        return [spelled(step) for step in self.steps]
+        """The steps as their lines spell them. The promises of a search, which are made before any step, are none."""
+        return [spelled(step) for step in self.steps if step.act != "keep"]

@@ -18,7 +18,8 @@ class TheReference(unittest.TestCase):
         laws = try_laws("laws", 24)
         self.assertEqual(laws.failed, 0)
         self.assertEqual({law.split(",")[0] for law in laws.done} - {"left out"},
-                         {"decide", "enough", "search", "full", "before", "two ways"})
+                         {"decide", "enough", "search", "full", "before", "two ways", "full journal keeps promises",
+                          "syncs", "durable"})
 
 
 class TheLaws(unittest.TestCase):

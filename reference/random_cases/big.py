@@ -1,7 +1,7 @@
 """Big scripts for `--decide`: 100 to 124 patches, with far too many closed sets to enumerate."""
 
 from ..refusals import Refusal
-from ..rules import MODULE_RULES, MODULES
+from ..rules import MODULES, rules_of
 from ..script import Step, read_path
 from ..settings import Settings
 from ..trace import Tracer
@@ -65,7 +65,7 @@ def big_script(chance, module):
 
 def give_rules(case, chance):
     """Takes rules out and puts rules in, in half of the cases."""
-    own = MODULE_RULES[case.module]
+    own = rules_of(case.module)
     if own and chance.random() < 0.4:
         case.without = chance.sample(own, chance.choice([1, 1, 2, len(own)]))
     if chance.random() < 0.2:

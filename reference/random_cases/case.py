@@ -8,7 +8,8 @@ from ..rules import ordering
 from ..settings import MOST_PATCHES, Settings
 from ..trace import trace
 
-FLAGS = ("explain", "summary", "needs", "strict", "atomic", "whole_blocks", "decide", "enough")
+FLAGS = ("explain", "summary", "needs", "strict", "atomic", "whole_blocks", "decide", "enough", "generations",
+         "durable", "syncs")
 
 
 class Case:
@@ -27,6 +28,8 @@ class Case:
         self.explain = self.summary = self.needs = self.strict = False
         self.atomic = self.whole_blocks = self.decide = self.enough = False
         self.search = None
+        self.generations = self.durable = self.syncs = False
+        self.counted = None
 
     def is_plain(self):
         """Whether there is a script, and a command line that is not at fault."""
@@ -36,17 +39,18 @@ class Case:
         """What is asked of the script."""
         flags = {name: getattr(self, name) for name in FLAGS}
         return Settings(self.module, self.blocks, self.journal, 4096 if self.limit is None else self.limit,
-                        self.json, MOST_PATCHES, tuple(self.without), tuple(self.added), search=self.search, **flags)
+                        self.json, MOST_PATCHES, tuple(self.without), tuple(self.added), search=self.search,
+                        counted=self.counted, **flags)
 
     def rules(self):
         """The rules that the options leave and put in."""
         return ordering(self.module, self.without, self.added)
 
-    def closed_count(self, cap, rules):
-        """The number of closed sets of the script under these rules; `Refusal` 30 where there are more than the cap,
-        and other refusals of the script."""
+    def closed_count(self, cap, rules, waiting=None):
+        """The number of closed sets of the script under these rules, where the lines of `waiting` wait, or all without
+        it; `Refusal` 30 where there are more than the cap, and other refusals of the script."""
         base, steps, _ = start(self.script, self.settings())
-        return len(closed_sets(trace(base, steps, Settings(self.module), rules), cap))
+        return len(closed_sets(trace(base, steps, Settings(self.module), rules, waiting), cap))
 
     def has_too_many(self, cap, rules):
         """Whether there are more closed sets than the cap. A script that is refused has not."""

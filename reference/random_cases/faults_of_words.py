@@ -1,6 +1,7 @@
 """Command lines that are at fault."""
 
-from ..rules import JOURNAL_RULES, MODULE_RULES, PARTS, SOFT_RULES
+from ..rules import JOURNAL_RULES, rules_of
+from .options import FIRST_PARTS
 
 PLAIN_FAULTS = [
     ["--limit", "0"], ["--limit", "1000000001"], ["--explorer", "tree"], ["--explorer", "board", "--limit", "32769"],
@@ -26,13 +27,13 @@ QUESTIONS = [["--decide"], ["--enough"], ["--search", "1"], ["--search=8", "--en
 def seventeen_rules():
     """A rule more than may be put in."""
     return [word for one in range(17)
-            for word in ("--with", "Ptr:" + ("previous-" if one > 14 else "") + PARTS[one % 15])]
+            for word in ("--with", "Ptr:" + ("previous-" if one > 14 else "") + FIRST_PARTS[one % 15])]
 
 
 def extended_fault(chance, module):
     """A fault in rules, or in ways to read a report."""
-    own = MODULE_RULES[module]
-    absent = chance.choice([rule for rule in SOFT_RULES + JOURNAL_RULES + ("Ptr:Ptr",) if rule not in own])
+    own = rules_of(module)
+    absent = chance.choice([rule for rule in rules_of("soft") + JOURNAL_RULES + ("Ptr:Ptr",) if rule not in own])
     rule = chance.choice(own or ("Ptr:Ptr",))
     kinds = [["--without", absent], ["--with", absent, "--with", absent], ["--needs", "--summary"],
              ["--summary", "--explain", "--needs", "--json"], ["--with"], ["--without"],

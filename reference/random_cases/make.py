@@ -2,25 +2,28 @@
 
 import random
 
+from ..level import LEVELS
 from ..rules import MODULES
 from .accepted import accepted_case
 from .case import Case, joined
 from .faults_of_words import (PLAIN_FAULTS, choosing_fault, decide_fault, deciding_fault, extended_fault,
                               reaching_fault, searching_fault)
 from .options import choose, decide, deciding, extend, reach, search
+from .promising import promise_or_leave
 from .refused import bad_geometry, group_fault, journal_full, many_patches, refused_by_plan
+from .refused_promises import fault as new_fault
 from .spoiled import mutate, spoil
 
-LEVELS = ("plain", "extended", "deciding", "choosing", "searching", "reaching", "all")
-"""Which options a case may have: those of the first release; rules, ways to read a report and strict checkers too;
-`--decide` too; `--enough` too; `--search` too; `--whole-blocks`, `before`, and searches for rules too; all."""
+WITH_NEW_LINES = LEVELS[LEVELS.index("operations"):]
+"""Levels whose scripts may have lines that the others have not."""
 
 WITH_QUESTIONS = {"deciding": (0.04, decide_fault, decide), "choosing": (0.04, choosing_fault, choose),
                   "searching": (0.05, searching_fault, search), "reaching": (0.06, reaching_fault, reach),
-                  "all": (0.06, deciding_fault, deciding)}
+                  **dict.fromkeys(("all",) + WITH_NEW_LINES, (0.06, deciding_fault, deciding))}
 """Levels with questions about all sets: the share of command lines at fault, and what makes these and the options."""
 
 REFUSALS = [1, 2, 10, 11, 12, 13, 14, 15, 16, 17, 18, 19, 20, 21, 30, 40, 41, 42, 43]
+"""The refusals of scripts without lines that wait or promise."""
 
 HEAVY_SHARE = 0.02
 """The share of cases with up to 32,768 closed sets."""
@@ -123,6 +126,15 @@ def deciding_pieces(case, chance):
     return pieces
 
 
+def new_pieces(case, chance):
+    """The words of options about generations, promises and lines that wait, in pieces that stay together."""
+    pieces = [["--" + name] for name in ("generations", "durable", "syncs") if getattr(case, name)]
+    if case.counted is not None:
+        pieces.append(joined(chance, "--faults", ",".join(map(str, case.counted))))
+    chance.shuffle(pieces)
+    return pieces
+
+
 def around(chance, pieces, words):
     """The words with some of the pieces before them and the rest after them."""
     front = chance.randrange(len(pieces) + 1)
@@ -145,12 +157,18 @@ def make_case(seed, index, modules=MODULES, level="all", heavy_share=HEAVY_SHARE
         give_options(case, more, 0.05, extended_fault, extend)
     if with_most and case.is_plain():
         give_options(case, most, *WITH_QUESTIONS[level])
+    if level in WITH_NEW_LINES and case.is_plain():
+        new = chance_of(seed, index, level, "new")
+        give_options(case, new, 0.06, lambda dice, module: new_fault(dice, module, level),
+                     lambda one, dice: promise_or_leave(one, dice, level))
     words = case.basic_words(chance)
     if with_more and case.words is None:
         words = around(more, extended_pieces(case, more), words)
         words = strict_words(case, chance_of(seed, index, "strict"), words)
         if with_most:
             words = around(most, deciding_pieces(case, most), words)
+        if level in WITH_NEW_LINES:
+            words = around(new, new_pieces(case, new), words)
     return case, words
 
 

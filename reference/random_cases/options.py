@@ -1,6 +1,6 @@
 """Options of random cases: rules, ways to read a report, strict checkers, and whole questions."""
 
-from ..rules import JOURNAL_RULES, MODULE_RULES, PARTS, SOFT_RULES
+from ..rules import JOURNAL_RULES, LATE_ROLES, PARTS, rules_of
 from .groups import encoded, with_comments
 from .shapes import pick_shape
 from .world import World
@@ -24,14 +24,18 @@ POOL_LINES = ["create /a", "write /a", "unlink /a", "mkdir /d", "rmdir /d", "lin
 QUESTIONS = ["decide", "decide", "enough", "enough", "search", "search", "search enough", "none"]
 
 
+FIRST_PARTS = tuple(part for part in PARTS if part not in LATE_ROLES)
+"""The parts that rules may name at every level."""
+
+
 def random_rule(chance, module):
     """A rule, most often one that puts something in order."""
     roll = chance.random()
     if roll < 0.5:
         return chance.choice(NEAR_JOURNAL_RULES if module in ("meta", "full") else NEAR_RULES)
     if roll < 0.75:
-        return chance.choice(SOFT_RULES + JOURNAL_RULES)
-    return "%s:%s%s" % (chance.choice(PARTS), chance.choice(["", "previous-"]), chance.choice(PARTS))
+        return chance.choice(rules_of("soft") + JOURNAL_RULES)
+    return "%s:%s%s" % (chance.choice(FIRST_PARTS), chance.choice(["", "previous-"]), chance.choice(FIRST_PARTS))
 
 
 def extend(case, chance):
@@ -40,14 +44,14 @@ def extend(case, chance):
     case.explain = chance.random() < 0.5
     case.summary = chance.random() < 0.3
     case.needs = not case.summary and chance.random() < 0.45
-    own = MODULE_RULES[case.module]
+    own = rules_of(case.module)
     if own and chance.random() < 0.6:
         count = chance.choice([1, 1, 1, 1, 2, 2, 3, len(own)])
         case.without = chance.sample(own, min(count, len(own)))
     if chance.random() < 0.4:
         add_rules(case, chance)
     if case.module == "async" and chance.random() < 0.15:
-        case.added = list(SOFT_RULES)
+        case.added = list(rules_of("soft"))
     if case.wish != "30" and chance.random() >= 0.15:
         bring_rules_back(case, chance)
 
@@ -133,7 +137,7 @@ def ask_one_of(case, chance, questions):
     prepare(case, chance, question)
     ask(case, chance, question)
     drop_other_questions(case)
-    while case.enough and len(case.added) > 3 and case.added != list(SOFT_RULES):
+    while case.enough and len(case.added) > 3 and case.added != list(rules_of("soft")):
         case.added.pop()
 
 
@@ -155,10 +159,10 @@ def prepare(case, chance, question):
     """Makes it likely that the answer is no empty one."""
     if "enough" in question and chance.random() < 0.7:
         case.without = []
-        case.added = list(SOFT_RULES) if case.module == "async" else case.added[:2]
+        case.added = list(rules_of("soft")) if case.module == "async" else case.added[:2]
         case.atomic = case.atomic and case.module == "full"
     elif "search" in question and case.module == "soft" and chance.random() < 0.6:
-        case.without = [chance.choice(SOFT_RULES)] if chance.random() < 0.7 else []
+        case.without = [chance.choice(rules_of("soft"))] if chance.random() < 0.7 else []
         case.added = [rule for rule in case.added if rule not in case.without]
         case.atomic = False
     fits = case.journal <= case.blocks - 6

@@ -1,10 +1,10 @@
 """A file system that grows by random operations."""
 
 from ..changes import apply
-from ..disk import DIRECTORY, FILE, formatted, target_of, used_entries
-from ..plan import Operation, plan
+from ..disk import DIRECTORY, FILE, POINTERS, formatted, target_of, used_entries
+from ..plan import Operation, Place, plan
 from ..refusals import Refused
-from ..script import read_path
+from ..script import OPERATIONS, SLOTS, read_path
 
 NAMES = ["a", "b", "c", "d", "e", "f", "g", "h", "x", "y", "z", "0", "9", "a1",
          "abcdefghij", "0123456789"]
@@ -13,10 +13,21 @@ EVERYTHING = {"create": 4, "write": 5, "link": 3, "unlink": 4, "rename": 4, "mkd
 """How likely each operation is."""
 
 
+ALL_OPERATIONS = {"create": 4, "write": 6, "link": 2, "unlink": 3, "rename": 2, "mkdir": 2, "rmdir": 1,
+                  "overwrite": 6, "truncate": 4, "replace": 6}
+"""As `EVERYTHING`, with the operations that change data or take another file's name."""
+
+
 def operation_of_line(line):
     """The operation of a line."""
     words = line.split(" ")
-    return Operation(words[0], tuple(read_path(word) for word in words[1:]))
+    slot = int(words.pop()) if words[-1] in SLOTS else None
+    return Operation(words[0], tuple(read_path(word) for word in words[1:]), slot)
+
+
+def is_operation_line(line):
+    """Whether a line is an operation."""
+    return line.split(" ")[0] in OPERATIONS
 
 
 class World:
@@ -39,6 +50,15 @@ class World:
             if kind == DIRECTORY and here.count("/") < 4:
                 found += self.entries(inode, here)
         return found
+
+    def paths(self):
+        """The paths of all entries."""
+        return [path for path, _ in self.entries()]
+
+    def slots(self, path):
+        """The slots of a file that point to a block."""
+        inode = Place(self.image, read_path(path)).target
+        return [slot for slot in range(POINTERS) if self.image.pointer(inode, slot) != 0]
 
     def files(self):
         """The paths of all files."""
@@ -70,6 +90,22 @@ class World:
         except Refused:
             return None
 
+    def after(self, lines):
+        """A world like this one before its first step, with the operations of these lines."""
+        other = World(self.chance, self.image.blocks, self.image.journal)
+        for line in lines:
+            if is_operation_line(line):
+                other.do(line)
+        return other
+
+    def do_some(self, lines, most):
+        """Does the lines that are not refused, up to a number of them, and gives those that were done."""
+        done = []
+        for line in lines:
+            if len(done) < most and self.do(line):
+                done.append(line)
+        return done
+
     def do(self, line):
         """Does a line where it is not refused; whether it did."""
         changes = self.accepts(line)
@@ -90,8 +126,10 @@ class World:
         if not old:
             return None
         path = self.chance.choice(old)
-        if act in ("write", "unlink", "rmdir"):
+        if act in ("write", "unlink", "rmdir", "overwrite", "truncate"):
             return "%s %s" % (act, path)
+        if act == "replace":
+            return "replace %s %s" % (path, self.chance.choice(old))
         other = self.fresh()
         return None if other is None else "%s %s %s" % (act, path, other)
 

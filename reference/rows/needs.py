@@ -2,7 +2,7 @@
 
 
 from ..closed_sets import ids_of
-from ..rules import JOURNAL_RULES, SOFT_RULES
+from ..rules import JOURNAL_RULES, rules_of
 from .support import (
     BLOCK_REUSE, CREATE, CREATE_IN_DIRECTORY, CREATE_LINK, CREATE_WRITE, DANGLING, DIRECTORY_REUSE,
     FIVE_OPERATIONS, META_WORDS, Rows, WRITE, answered, counts, lines, needs_table, parts, program, script_of)
@@ -51,7 +51,8 @@ class Needs(Rows):
             0, None), (1, 360, 64, [5, 7, 9]), (1, 326, 38, [0, 1, 3]), (2, 288, 0, None), (1, 432, 16, [0, 1, 2, 3,
             5, 6, 10, 11, 13]), (1, 296, 4, [0, 1, 2, 3] + list(range(5, 14)) + [15]), (1, 496, 64, [5, 7, 8, 9, 16]),
             (1, 384, 0, None)]
-        self.assertEqual(needs_table(FIVE_OPERATIONS), ((17, 288, 0), [(rule,) + row for rule, row in zip(SOFT_RULES,
+        rules = rules_of("soft")
+        self.assertEqual(needs_table(FIVE_OPERATIONS), ((17, 288, 0), [(rule,) + row for rule, row in zip(rules,
             numbers)]))
 
     def test_the_rules_of_the_metadata_journal(self):
@@ -73,7 +74,7 @@ class Needs(Rows):
             "Ptr:MapSet": '{"closed":11,"failing":0,"pairs":1,"rule":"%s"}'}
         self.assertEqual(answered(CREATE_WRITE, "--needs --limit 11 --json"), (
             '{"closed":11,"failing":0,"module":"soft","patches":5,"rules":[' + ",".join((answers.get(rule,
-            '{"pairs":0,"rule":"%s"}') % rule for rule in SOFT_RULES)) + "]}\n", 0))
+            '{"pairs":0,"rule":"%s"}') % rule for rule in rules_of("soft"))) + "]}\n", 0))
         self.assertEqual(program("--needs --limit 10".split(), script_of(CREATE_WRITE)), ("",
             "crashmap: 30 too many closed sets\n", 2))
         self.assertEqual(answered("start", "--module async --needs --json"), (

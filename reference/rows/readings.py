@@ -1,7 +1,7 @@
 """Ways to read a report: with patches, by faults, and by rules."""
 
 
-from ..rules import PARTS, SOFT_RULES
+from ..rules import PARTS, rules_of
 from .support import (
     BLOCK_REUSE, CREATE, CREATE_WRITE, DANGLING, DIRECTORY_REUSE, MARKED_FREE, META_WORDS, Rows, UNWRITTEN,
     answered, lines, reuse_report, run, whole)
@@ -107,11 +107,12 @@ class Readings(Rows):
             '{"closed":1,"faults":[],"module":"async","patches":0,"sets":0}\n', 0))
 
     def test_rules_put_in_and_taken_out(self):
-        self.assertEqual(answered(BLOCK_REUSE, "--module async", *("--with " + rule for rule in SOFT_RULES)), (lines(
-            "module async", *("with " + rule for rule in SOFT_RULES)) + lines("patches 6", "closed 7", "failing 0"),
+        rules = rules_of("soft")
+        self.assertEqual(answered(BLOCK_REUSE, "--module async", *("--with " + rule for rule in rules)), (lines(
+            "module async", *("with " + rule for rule in rules)) + lines("patches 6", "closed 7", "failing 0"),
             0))
-        self.assertEqual(answered(BLOCK_REUSE, *("--without " + rule for rule in reversed(SOFT_RULES))), (lines(
-            "module soft", *("without " + rule for rule in SOFT_RULES)) + run(BLOCK_REUSE)[0].split("\n", 1)[1], 1))
+        self.assertEqual(answered(BLOCK_REUSE, *("--without " + rule for rule in reversed(rules))), (lines(
+            "module soft", *("without " + rule for rule in rules)) + run(BLOCK_REUSE)[0].split("\n", 1)[1], 1))
 
     def test_data_that_waits_for_done_is_safe(self):
         self.answers(DIRECTORY_REUSE, META_WORDS + " --with FileData:previous-Done", 0, """
@@ -153,9 +154,9 @@ class Readings(Rows):
             "--without Ptr:Ptr", "--with Ptr:Ptr --with Ptr:Ptr", "--without Ptr:MapSet --without Ptr:MapSet",
             "--without Ptr:MapSet --with Ptr:MapSet", "--with Ptr", "--with Data:Copy", "--with ptr:Ptr",
             "--with Ptr:same-Ptr", "--with Ptr:previous-", "--with=", "--with", "--needs --summary", " ".join((
-            "--with %s:previous-InPlace" % part for part in PARTS)) + " --with Ptr:Ptr"):
+            "--with %s:previous-InPlace" % part for part in PARTS[:16])) + " --with Ptr:Ptr"):
             self.assertEqual(answered("start", words), ("", 2))
 
     def test_sixteen_rules_can_be_put_in(self):
-        self.assertEqual((len(PARTS), answered("start", *("--with %s:previous-InPlace" % part for part in PARTS))[1]),
-            (16, 0))
+        words = ["--with %s:previous-InPlace" % part for part in PARTS[:16]]
+        self.assertEqual((len(words), answered("start", *words)[1]), (16, 0))

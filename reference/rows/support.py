@@ -7,8 +7,9 @@ import io
 import json
 import re
 import unittest
+from unittest import mock
 
-from .. import command_line
+from .. import command_line, level
 from ..answer import answer
 from ..changes import apply
 from ..closed_sets import ids_of
@@ -250,3 +251,52 @@ def patch_row(found, k):
     """The place, the bytes and the dependencies of a patch."""
     patch = found.patches[k]
     return patch.block, patch.offset, patch.new, ids_of(patch.deps)
+
+
+class LateRows(Rows):
+    """Rows about lines and options that crashmap is to have."""
+
+    def setUp(self):
+        patch = mock.patch.object(level, "LEVEL", level.LEVELS[-1])
+        patch.start()
+        self.addCleanup(patch.stop)
+
+    def check_counts(self, table, words, *more):
+        """Each script has these numbers of closed and of failing sets."""
+        for rows, wanted in table.items():
+            with self.subTest(rows + " " + words):
+                self.assertEqual(closed_and_failing(rows, words, *more), wanted)
+
+    def check_refusals(self, table, *words):
+        """Each line on standard error, without its first word, comes for these scripts."""
+        for error, scripts in table.items():
+            for rows in scripts:
+                with self.subTest(rows):
+                    self.assertEqual(program(list(words), script_of(rows)), ("", "crashmap: %s\n" % error, 2))
+
+
+def with_number(word, text):
+    """The number behind a word that begins a line."""
+    return int(re.search(r"(?m)^%s (\d+)$" % word, text)[1])
+
+
+def closed_and_failing(rows, *words):
+    """The numbers of closed and of failing sets of a script."""
+    text, _ = answered(rows, *words)
+    return with_number("closed", text), with_number("failing", text)
+
+
+def first_failing(rows, *words):
+    """The first failing set as a report has it, or None."""
+    found = re.search(r"(?m)^set(.*)$", answered(rows, *words)[0])
+    return None if found is None else found[1].strip()
+
+
+def lines_of(text, *first_words):
+    """The lines of a text that begin with one of these words."""
+    return [line for line in text.split("\n") if line.split(" ")[0] in first_words]
+
+
+def enough_of(rows, *words):
+    """The lines of a report on what is enough that say so."""
+    return lines_of(answered(rows, "--enough", *words)[0], "enough", "rules", "syncs", "needs", "fault", "set")

@@ -10,6 +10,7 @@ without it, whose `outside` has the patch and all that depend on it, and the set
 and all that it depends on. Otherwise the verdict holds for every set of the family: the patches of one byte overlap, so
 each depends on those before it, and whichever of them a set has, the answer is the same. A test that asks for several
 bytes can be settled while some of them are open: "all of these" by one that is surely no, "at least two" by two that
-are surely yes. The least set of a family is `inside`, so of families in the order of these sets the first one for which
+are surely yes. A promise is asked about more than one family, one for each of the rests that sets can have reached. The
+least set of a family is `inside`, so of families in the order of these sets the first one for which
 a test holds has the first set.
 """

@@ -5,7 +5,7 @@ import re
 from ..answer import decision, report
 from ..closed_sets import canonical_key
 from ..enough import enough_of
-from ..explore import Found, fails, start
+from ..explore import Found, fails, has_promises, start
 from ..refusals import Refusal, TooMuch
 from ..rules import put_in, taken_out
 from ..trace import trace
@@ -47,9 +47,9 @@ class SecondWork(Work):
 
     def problem(self, rules):
         """The problem of deciding the sets under these rules."""
-        return Problem(self.base, self.graph(rules), self.judge)
+        return Problem(self.base, self.graph(rules), self.judge, self.promises())
 
-    def closed(self, rules):
+    def closed(self, rules, waiting=None):
         raise AssertionError("nothing is enumerated here")
 
     def has_failing(self, rules):
@@ -58,7 +58,8 @@ class SecondWork(Work):
     def all_faults(self, rules):
         """Each fault with the first set that has it. The number of its sets is not known."""
         problem = self.problem(rules)
-        return [(text, None, self.judge.judged(problem.patches, one)) for text, one in firsts(problem)]
+        return [(text, None, self.judge.judged(problem.patches, one, problem.promises))
+                for text, one in firsts(problem)]
 
     def first_fault(self, rules):
         return self.all_faults(rules)[0]
@@ -71,14 +72,15 @@ def prepared(script, settings):
     patches = trace(base, steps, settings, rules)
     work = SecondWork(base, steps, settings)
     found = Found(base, patches, without=taken_out(settings.module, settings.without),
-                  added=put_in(settings.module, settings.added))
+                  added=put_in(settings.module, settings.added), promises=work.promises(), waits=work.waits(),
+                  tells_promises=has_promises(steps))
     return work, rules, found, work.problem(rules).order.closed_sets()
 
 
 def answer(script, settings):
     """The report on a script, and whether the exit status is 1, without enumeration: for `--decide`, for `--enough` of
     one script, and for a report without failing sets. `Refusal` where the script is refused, `TooMuch` for all else."""
-    if settings.search is not None or settings.needs:
+    if settings.search is not None or settings.needs or settings.syncs:
         raise TooMuch("a question that the second way does not answer")
     work, rules, found, closed = prepared(script, settings)
     if settings.enough:

@@ -1,8 +1,10 @@
-"""The nine faults, as tests of single texts."""
+"""The faults, as tests of single texts."""
 
 import itertools
 
 from ..disk import DIRECTORY, DIRECTORY_MARK, ENTRIES, FILE, FILE_MARK, INODES, POINTERS
+from ..faults import number_of
+from .promise_tests import Broken
 from .reader import Reader, all_of, between, entry_offset, equals, itself, tried
 from .search import first
 
@@ -37,8 +39,7 @@ def unwritten(inode, slot, block):
         if not points(reader, inode, slot, block):
             return False
         mark = {FILE: FILE_MARK, DIRECTORY: DIRECTORY_MARK}.get(reader.inode(inode, 0, itself))
-        return mark is None or not all_of(lambda: reader.ask(block, 0, equals(mark)),
-                                          lambda: reader.ask(block, 1, equals(inode)))
+        return mark is None or not reader.has_mark(block, mark, inode)
     return "3 unwritten pointer: inode %d slot %d block %d" % (inode, slot, block), test
 
 
@@ -123,7 +124,12 @@ def tests_of_pointers(problem):
 
 
 def tests_of(problem):
-    """All tests of a problem, as texts of faults with the questions whether they hold."""
+    """The tests of all faults that count, as texts with the questions whether they hold."""
+    return ((text, test) for text, test in all_tests_of(problem) if problem.counts(number_of(text)))
+
+
+def all_tests_of(problem):
+    """The tests of all faults."""
     base = problem.base
     yield from tests_of_entries(problem)
     yield from map(used_twice, range(base.root_block(), base.blocks))
@@ -133,3 +139,5 @@ def tests_of(problem):
         yield from map(bare, range(INODES))
     if problem.disks is not None:
         yield "9 half-done operation", half_done
+    for promise in problem.promises:
+        yield "10 broken promise: line %d" % promise.line, Broken(problem, promise)

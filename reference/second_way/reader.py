@@ -17,11 +17,12 @@ class Undecided(Exception):
 
 
 class Problem:
-    """The base and the patches of a script, the kept inodes under `--strict`, the disks between operations under
-    `--atomic`, and the patches that write each byte, ascending."""
+    """The base and the patches of a script, its promises, what counts as a fault, the kept inodes under `--strict`, the
+    disks between operations under `--atomic`, and the patches that write each byte, ascending."""
 
-    def __init__(self, base, patches, judge):
+    def __init__(self, base, patches, judge, promises):
         self.base, self.patches, self.kept, self.disks = base, patches, judge.kept, judge.disks
+        self.counts, self.promises = judge.counts, promises
         self.order = Order(patches)
         self.writers = {}
         for p, patch in enumerate(patches):
@@ -207,8 +208,13 @@ class Reader:
         """Whether a directory counts, with this block."""
         return all_of(lambda: self.inode(directory, 4, equals(block)),
                       lambda: self.inode(directory, 0, equals(DIRECTORY)),
-                      lambda: self.ask(block, 0, equals(DIRECTORY_MARK)),
-                      lambda: self.ask(block, 1, equals(directory)))
+                      lambda: self.has_mark(block, DIRECTORY_MARK, directory))
+
+    def has_mark(self, block, mark, inode):
+        """Whether the block says that it belongs to this inode, and of which kind it is."""
+        return all_of(lambda: self.ask(block, 0, equals(mark)), lambda: self.ask(block, 1, equals(inode)),
+                      lambda: not self.problem.base.generations
+                      or self.ask(block, 2, equals(self.inode(inode, 2, itself))))
 
     def has_entry(self, directory, block, k, inode):
         """Whether an inode is named by entry k of a directory that counts, with this block."""

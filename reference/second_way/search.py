@@ -11,27 +11,36 @@ def halves(order, inside, outside, patch):
     return [(inside | order.below[patch], outside), (inside, outside | order.above[patch])]
 
 
+def beginnings(test):
+    """The families that a test is asked about, each with the question. Most tests are asked about all sets; one with
+    parts has a question for each of its parts."""
+    parts = [(part, part.family) for part in test.parts] if hasattr(test, "parts") else [(test, (0, 0))]
+    return [(question, inside, outside) for question, (inside, outside) in parts if not inside & outside]
+
+
 def families(problem, test):
     """The families for which a test holds: (inside, outside)."""
-    waiting = [(0, 0)]
+    waiting = beginnings(test)
     while waiting:
-        inside, outside = waiting.pop()
+        question, inside, outside = waiting.pop()
         try:
-            if test(Reader(problem, inside, outside)):
+            if question(Reader(problem, inside, outside)):
                 yield inside, outside
         except Undecided as split:
-            waiting += halves(problem.order, inside, outside, split.patch)
+            waiting += [(question, *half) for half in halves(problem.order, inside, outside, split.patch)]
 
 
 def first(problem, test):
     """The first set for which a test holds, or None. Families that begin earlier are asked first."""
-    waiting = [(canonical_key(0), 0, 0)]
+    questions = beginnings(test)
+    waiting = [(canonical_key(inside), inside, outside, k) for k, (_, inside, outside) in enumerate(questions)]
+    heapq.heapify(waiting)
     while waiting:
-        _, inside, outside = heapq.heappop(waiting)
+        _, inside, outside, k = heapq.heappop(waiting)
         try:
-            if test(Reader(problem, inside, outside)):
+            if questions[k][0](Reader(problem, inside, outside)):
                 return inside
         except Undecided as split:
-            for part in halves(problem.order, inside, outside, split.patch):
-                heapq.heappush(waiting, (canonical_key(part[0]), *part))
+            for half in halves(problem.order, inside, outside, split.patch):
+                heapq.heappush(waiting, (canonical_key(half[0]), *half, k))
     return None
