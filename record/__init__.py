@@ -1,0 +1,5 @@
+"""Records what a command does to the files of a directory, as a script for crashmap. See docs/RECORDING.md."""
+
+
+class Stop(Exception):
+    """The recording cannot go on. The text says why, and `--lossy` does not help."""

@@ -1,0 +1,39 @@
+"""docs/SAVES.md is what the scripts in saves/ give, and each of these can be read."""
+
+import unittest
+
+from saves import page
+from saves.judge import Crash, crash_of, needed, program_promises
+from saves.programs import PROGRAMS
+
+
+class Saves(unittest.TestCase):
+    def test_page(self):
+        self.assertGreaterEqual(len(PROGRAMS), 20)
+        print(f"tests, saves: the {'program' if program_promises() else 'reference'} judges the recorded scripts")
+        self.assertEqual(page.PAGE.read_text(), page.page(), "python3 -m saves.page --write")
+
+    def test_each_script_is_of_a_program(self):
+        names = {f"{it.name}{suffix}.script" for it in PROGRAMS for suffix in ("", ".delay")}
+        self.assertEqual({it.name for it in page.FOLDER.glob("*.script")}, names)
+
+    def test_crash(self):
+        report = ("module soft\npatch 0 line 4 create /g: InodeInit block 2 offset 16 length 16\n"
+                  "patch 1 line 4 create /g: EntrySet block 4 offset 8 length 12\n"
+                  "patch 2 line 5 unlink /f: EntryClear block 4 offset 20 length 12\n"
+                  "promise line 3 hold /f\nshows file\nfault 10 broken promise: line 3\nshows nothing\nset 0 1 2\n")
+        crash = crash_of(report)
+        self.assertEqual(crash, Crash("nothing", (("create /g", ("InodeInit", "EntrySet"), 2),
+                                                  ("unlink /f", ("EntryClear",), 1))))
+        self.assertEqual((crash.left(), crash.size()), ("gone", 3))
+        self.assertIsNone(crash_of("module soft\npatches 0\n"))
+
+    def test_needed_waits(self):
+        """As the question about waits has it for the same script: the wait for the new file alone, of two."""
+        script = ("# crashmap: --blocks 128 --journal 62\ncreate /a\nwrite /a\nstart\nhold /a\ncreate /t\nwrite /t\n"
+                  "fsync /t\nreplace /t /a\nspare /a /a\nfsync /a\n")
+        self.assertEqual([needed(script, it) for it in ("soft", "meta", "async")], [[7], [], None])
+
+
+if __name__ == "__main__":
+    unittest.main()
