@@ -170,17 +170,24 @@ class Install(unittest.TestCase):
         return run.returncode, calls.read_text().splitlines() if calls.exists() else []
 
     def test_all_are_there(self):
-        for name in ("chromium", "node", "strace"):
+        for name in ("chromium", "node", "strace", "dpkg"):
             self.have(name)
         self.assertEqual(self.install(), (0, []))
 
     def test_one_is_missing(self):
-        self.have("node")
-        self.have("strace")
+        for name in ("node", "strace", "dpkg"):
+            self.have(name)
         self.assertEqual(self.install(), (0, ["update", "install -y --no-install-recommends chromium"]))
 
+    def test_a_package_is_missing(self):
+        for name in ("chromium", "node", "strace"):
+            self.have(name)
+        self.have("dpkg", "exit 1")
+        self.assertEqual(self.install(), (0, ["update", "install -y --no-install-recommends python3-jsonschema"]))
+
     def test_all_are_missing(self):
-        self.assertEqual(self.install(), (0, ["update", "install -y --no-install-recommends chromium nodejs strace"]))
+        wanted = "chromium nodejs strace python3-jsonschema"
+        self.assertEqual(self.install(), (0, ["update", f"install -y --no-install-recommends {wanted}"]))
 
     def test_they_cannot_be_installed(self):
         self.have("apt-get", f'echo "$*" >>{self.folder}/calls; [ "$1" != update ] || exit 100')
