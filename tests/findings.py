@@ -1,9 +1,9 @@
 """findings.py [--all]: makes the findings of docs/FINDINGS.md again, and compares.
 
 A command is in a block of its own, after `$ ./crashmap`, and its whole output follows. A block marked `slow` runs
-with --all alone. A table has a comment before it with the words of its searches, and a row for each rule: the shortest
-search that finds more failing workloads without the rule than with it, the first failing workload and its fault. It
-says how long each command and each table took. The last line is `N passed, M failed`.
+with --all alone. A table has comments before it, each with the words of searches that all give this table, and a row
+for each rule: the shortest search that finds more failing workloads without the rule than with it, the first failing
+workload and its fault. It says how long each command and each table took. The last line is `N passed, M failed`.
 """
 
 import pathlib
@@ -21,7 +21,8 @@ from tests.program import ROOT, program
 
 FINDINGS = ROOT / "docs" / "FINDINGS.md"
 BLOCK = re.compile(r"^```console( slow)?\n\$ \./crashmap ([^\n]*)\n(.*?)^```$", re.MULTILINE | re.DOTALL)
-TABLE = re.compile(r"^<!-- searches: (.*) -->\n\|.*\n\|.*\n((?:\|.*\n)+)", re.MULTILINE)
+TABLE = re.compile(r"^((?:<!-- searches: .* -->\n)+)\|.*\n\|.*\n((?:\|.*\n)+)", re.MULTILINE)
+SEARCHES = re.compile(r"<!-- searches: (.*) -->")
 
 Finding = namedtuple("Finding", "words wanted make is_slow")
 """The words of a command or of a table's searches, what the document has, what makes it again, and whether that
@@ -65,7 +66,7 @@ def findings():
     commands = [Finding(shlex.split(words), output, printed_by, bool(slow))
                 for slow, words, output in BLOCK.findall(text)]
     tables = [Finding(shlex.split(words), rows, lambda given, kept=rows: table_made(given, kept), False)
-              for words, rows in TABLE.findall(text)]
+              for comments, rows in TABLE.findall(text) for words in SEARCHES.findall(comments)]
     return commands + tables
 
 
