@@ -5,6 +5,7 @@ Without a terminal the same cases run in test_cases.py, where standard error has
 """
 
 import os
+import subprocess
 import tempfile
 import unittest
 
@@ -33,6 +34,17 @@ class Hints(unittest.TestCase):
                 run = on_terminal([program(), *case.words], case.script)
                 self.assertEqual(run.terminal.decode(), shown_by(case).decode())
                 self.assertEqual((run.status, run.output), (case.status, case.output))
+
+    def test_cases_with_hints_always_and_never(self):
+        """`--hints always` gives without a terminal what comes on one, and `--hints never` gives nothing on one."""
+        for path in sorted((CASES / "hints").glob("*.case")):
+            with self.subTest(path.stem):
+                case = read_case(path)
+                run = subprocess.run([program(), *case.words, "--hints", "always"], input=case.script,
+                                     capture_output=True, check=False)
+                self.assertEqual((run.stderr, run.stdout), (case.terminal, case.output))
+                run = on_terminal([program(), *case.words, "--hints=never"], case.script)
+                self.assertEqual((run.terminal, run.output), (case.errors.replace(b"\n", b"\r\n"), case.output))
 
 
 class Devices(unittest.TestCase):
@@ -77,7 +89,7 @@ class Devices(unittest.TestCase):
 
 
 class StandardInput(unittest.TestCase):
-    """Without words, the program says that it waits for a script."""
+    """Where a script is to be typed, the program says so."""
 
     def test_no_words_on_a_terminal(self):
         run = typed_on_terminal([program()], CREATE)
@@ -85,7 +97,7 @@ class StandardInput(unittest.TestCase):
 
     def test_some_words_on_a_terminal(self):
         run = typed_on_terminal([program(), "--module", "soft"], CREATE)
-        self.assertEqual((run.status, run.output, run.terminal), (0, CREATED, b""))
+        self.assertEqual((run.status, run.output, run.terminal), (0, CREATED, READS_INPUT))
 
     def test_no_words_and_a_pipe(self):
         run = on_terminal([program()], CREATE)

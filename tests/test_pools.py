@@ -15,7 +15,7 @@ POOLS = sorted((ROOT / "pools").glob("*.script"))
 
 class Pools(unittest.TestCase):
     def test_each_pool_is_searched(self):
-        self.assertEqual(len(POOLS), 6)
+        self.assertEqual(len(POOLS), 9)
         for pool in POOLS:
             with self.subTest(pool.stem):
                 words = ["--blocks", "24", "--search", "2", "--strict"]
