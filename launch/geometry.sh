@@ -11,7 +11,7 @@ script_among() {
     local word last=
     for word; do
         case $word in
-        --blocks | --blocks=* | --journal | --journal=* | -h | --help | --rules | --version | --) return 1 ;;
+        --blocks | --blocks=* | --journal | --journal=* | -h | --help | -V | --version | --rules | --options | --) return 1 ;;
         -*) ;;
         *) if [[ $last != -* || -e $word ]]; then echo "$word"; fi ;;
         esac

@@ -14,6 +14,7 @@ MODULES = ("async", "soft", "meta", "full")
 WORDS = {
     "help": ("--help",),
     "version": ("--version",),
+    "options": ("--options",),
     **{f"rules-{module}": ("--rules", "--module", module) for module in MODULES},
 }
 

@@ -6,6 +6,7 @@ page_for() {
     case "$#:$*" in
     1:--help | 1:-h) echo help ;;
     1:--version | 1:-V) echo version ;;
+    1:--options) echo options ;;
     1:--rules) echo rules-soft ;;
     3:'--rules --module '*) echo "rules-$3" ;;
     2:'--rules --module='*) echo "rules-${2#*=}" ;;

@@ -12,7 +12,7 @@ CRATES = ROOT / "crates"
 # The files in the order in which they are read, in the groups of DEFINITIONS.md.
 GROUPS = {
     1: ["patch_sets/Sets", "patch_sets/Closed", "patch_sets/Machine", "patch_sets/Writes", "state_space/Counts"],
-    2: ["crash_model/Lists", "crash_model/Disk", "crash_model/Layout", "crash_model/Plan"],
+    2: ["crash_model/Lists", "crash_model/Disk", "crash_model/Layout", "crash_model/Slots", "crash_model/Plan"],
     3: ["crash_model/Patches", "crash_model/Rules", "crash_model/Refusals", "crash_model/Trace"],
     4: ["crash_model/Replay", "crash_model/Faults", "crash_model/Strict", "crash_model/Atomic", "crash_model/Checker",
         "crash_model/FaultRows"],
@@ -23,7 +23,7 @@ GROUPS = {
     7: ["question_model/Decided", "question_model/Decision"],
     8: ["question_model/Enough", "question_model/EnoughReport"],
     9: ["question_model/" + name for name in
-        ("Kinds", "Most", "Refused", "Sequences", "Workloads", "Found", "SearchReport")],
+        ("Kinds", "Lengths", "Refused", "Sequences", "Workloads", "Found", "SearchReport")],
     10: ["question_model/EnoughFor", "question_model/SearchRulesReport"],
     11: ["question_model/Answers"],
 }
@@ -35,7 +35,8 @@ ROWS = {
                "report_model/Whole rules_json atomic_json first_json early_json late_json json_report"],
     "why a script is refused": [
         "crash_model/Refusals", "crash_model/Script AreWords IsPathWord Fits HasPaths HasForm",
-        "crash_model/Script after refusals", "report_model/Answer /bad_|too_many|Refused|IsScriptRefusal|≡ Err/"],
+        "crash_model/Script after refusals", "report_model/Answer IsUntraced",
+        "report_model/Answer /untraced|too_many|ExceedsLimit|Refused/"],
     "--without": [
         "crash_model/Rules role_text rule_part_text scope_text rule_text",
         "crash_model/Rules after a module's rules with some taken out and some put in",
@@ -43,6 +44,8 @@ ROWS = {
         "report_model/Whole /rule_lines|rules_json/"],
     "--whole-blocks": ["crash_model/Trace shares_block", "crash_model/Trace /pub whole|  whole = whole/",
                        "report_model/Whole /whole_blocks/"],
+    "--generations": ["crash_model/Layout generation_of mark_generation", "crash_model/Plan next_generation",
+                      "crash_model/Disk with_generations", "report_model/Whole /generations/"],
     "--strict": ["crash_model/Strict", "crash_model/Checker /pub kept|Some kept/", "crash_model/Texts /Lost|NoBlock/",
                  "report_model/Whole /strict/"],
     "--atomic": ["crash_model/Atomic", "crash_model/Strict disk_after", "crash_model/Checker /pub disks|Some disks/",

@@ -5,7 +5,7 @@ import subprocess
 import tempfile
 import unittest
 
-from tests.program import program
+from tests.program import ROOT, program
 
 MOST_SCRIPT_BYTES = 1 << 20
 CREATE = b"start\ncreate /a\n"
@@ -16,7 +16,7 @@ HELP = ("Finds every state", "Usage: crashmap", "\nWhat to run:\n", "[SCRIPT]", 
         "\nThe ordering:\n", "--module <M>", "--without <RULE>", "--with <RULE>", "--whole-blocks",
         "\nWhat fails:\n", "--strict", "--atomic",
         "\nHow far:\n", "--limit <L>", "--explorer <E>", "--workers <W>", "--decide", "--enough", "--search <N>",
-        "\nHow to read it:\n", "--explain", "--summary", "--needs", "--json")
+        "\nHow to read it:\n", "--explain", "--summary", "--needs", "--json", "--hints <WHEN>", "--options")
 
 
 def answer(*words, script=b""):
@@ -44,8 +44,42 @@ class Help(unittest.TestCase):
         self.assertTrue(all(len(line) > 30 for line in explained.splitlines()), explained)
 
     def test_a_strict_run_is_explained_by_what_a_user_loses(self):
-        self.assertIn("a crash loses a file or directory that the script never removes", " ".join(
-            answer("--help")[1].decode().split()))
+        self.assertIn("a crash loses a file or directory that is there before `start` and that the script never removes",
+                      " ".join(answer("--help")[1].decode().split()))
+
+
+class Options(unittest.TestCase):
+    """The list of options that other programs read."""
+
+    def listed(self):
+        """The lines of the list."""
+        status, out, err = answer("--options")
+        self.assertEqual((status, err), (0, b""))
+        return out.decode().splitlines()
+
+    def test_help_and_the_readme_have_each_option_with_its_value(self):
+        help_text = answer("--help")[1].decode()
+        table = (ROOT / "README.md").read_text().partition("\n## Options\n")[2].partition("\n## ")[0]
+        for line in self.listed():
+            name, *value = line.partition(" not with ")[0].split()
+            self.assertIn(" ".join([name, *(f"<{it}>" for it in value)]).replace("SCRIPT", "[SCRIPT]"), help_text)
+            self.assertRegex(table, f"`{name}[ `]")
+
+    def test_options_that_do_not_go_together_are_refused(self):
+        values = {"N": "3", "L": "9", "E": "sweep"}
+        for line in self.listed():
+            front, _, others = line.partition(" not with ")
+            name, *value = front.split()
+            for other in others.split():
+                given = [name, *(values[it] for it in value), other]
+                if other in ("--limit", "--explorer"):
+                    given.append(values["L" if other == "--limit" else "E"])
+                status, _, err = answer(*given, script=CREATE)
+                self.assertEqual((status, b"cannot be used with" in err), (2, True), given)
+
+    def test_a_word_after_dashes_is_no_option(self):
+        status, _, err = answer("--", "--search-me")
+        self.assertEqual((status, err), (2, b"crashmap: 50 cannot read the script\n"))
 
 
 class Rules(unittest.TestCase):
@@ -65,7 +99,8 @@ class Rules(unittest.TestCase):
                           "InPlace:Commit", "Done:InPlace", "Done:previous-Done"])
         self.assertEqual([line.split()[0] for line in parts.splitlines()],
                          ["InodeInit", "EntrySet", "EntryClear", "MapSet", "MapClear", "InitFile", "InitDir", "Ptr",
-                          "LinkUp", "LinkDown", "InodeFree", "InPlace", "FileData", "Copy", "Commit", "Done"])
+                          "LinkUp", "LinkDown", "InodeFree", "PtrClear", "NewData", "Touch", "InPlace", "FileData",
+                          "Copy", "Commit", "Done"])
 
     def test_each_rule_and_part_has_a_sentence(self):
         for module in ("soft", "meta", "full"):

@@ -230,6 +230,7 @@ class CrashmapPage(unittest.TestCase):
     def test_the_launcher_beside_it_is_run(self):
         """Its first words stay first, and what the page needs comes last."""
         shutil.copytree(PAGE, self.folder / "page")
+        shutil.copytree(ROOT / "launch", self.folder / "launch")
         shutil.copy(ROOT / "crashmap-page", self.folder)
         self.stand_in('echo "$@"\n', "crashmap")
         environment = {name: value for name, value in os.environ.items() if name != "CRASHMAP_PROGRAM"}

@@ -143,7 +143,7 @@ function checkHead(json) {
 export function checkOrdering(json) {
   checkText("module", json.module);
   for (const list of ["with", "without"]) if (json[list] !== undefined) checkTexts(list, json[list]);
-  for (const flag of ["atomic", "strict", "whole_blocks"]) {
+  for (const flag of ["atomic", "generations", "strict", "whole_blocks"]) {
     if (json[flag] !== undefined) must(typeof json[flag] === "boolean", flag, "true or false", json[flag]);
   }
 }

@@ -41,7 +41,8 @@ const inodeAt = (block, offset) => (block - 2) * 8 + (offset >> 4);
 
 export function inodeOf(image, inode) {
   const { block, offset } = inodePlace(inode), bytes = image[block].subarray(offset, offset + 16);
-  return { kind: bytes[0], links: bytes[1], slots: [...bytes.subarray(4, 4 + SLOTS)] };
+  return { kind: bytes[0], links: bytes[1], generation: bytes[2], slots: [...bytes.subarray(4, 4 + SLOTS)],
+    overwritten: bytes[8] };
 }
 
 const nameIn = entry => String.fromCharCode(...entry.subarray(2, 2 + Math.min(entry[1], NAME_BYTES)));
@@ -56,8 +57,9 @@ function entriesOf(block) {
 export function directoriesOf(image, root) {
   const all = below(INODES).map(inode => ({ inode, ...inodeOf(image, inode) }));
   const live = all.filter(({ kind, slots: [block] }) => kind === DIRECTORY && block >= root && block < image.length);
-  return live.map(({ inode, slots: [block] }) => ({ inode, block, entries: entriesOf(image[block]) }))
-    .filter(({ inode, block }) => image[block][0] === DIRECTORY_MARK && image[block][1] === inode);
+  const isOwn = ({ inode, generation, slots: [block] }) =>
+    image[block][0] === DIRECTORY_MARK && image[block][1] === inode && image[block][2] === generation;
+  return live.filter(isOwn).map(({ inode, slots: [block] }) => ({ inode, block, entries: entriesOf(image[block]) }));
 }
 
 /** The first path that leads to an inode, or null. */
@@ -110,6 +112,9 @@ function meaningOf(report, image, { part, block, offset, bytes, undo }) {
   switch (part) {
     case "InodeInit": return `inode ${inode}: ${bytes[0] === DIRECTORY ? "directory" : "file"}, 1 link`;
     case "InodeFree": return `inode ${inode}: free`;
+    case "PtrClear": return `inode ${inode}: no blocks`;
+    case "NewData": return `block ${block}: ${dataWords(bytes[0])}`;
+    case "Touch": return `inode ${inode}: ${overwrittenWords(bytes[0])}`;
     case "EntrySet": return `${entry}: "${nameIn(bytes)}" \u2192 inode ${bytes[0] - 1}`;
     case "EntryClear": return `${entry}: "${nameIn(undo)}" cleared`;
     case "MapSet": return `block ${offset} marked used`;
@@ -154,9 +159,15 @@ export function phrasesOf(report, image, row, listed) {
   return row.inode === undefined ? dataPhrases(image[row.blocks[0]]) : inodePhrases(inodeOf(image, row.inode));
 }
 
-function inodePhrases({ kind, links, slots }) {
+/** What a block's data are: they get a new number with each overwrite, and so does what the inode says of it. */
+const dataWords = number => `data ${number}`;
+const overwrittenWords = count => `overwritten ${countOf(count, "time", "times")}`;
+
+function inodePhrases({ kind, links, generation, slots, overwritten }) {
   const words = new Map([["kind", ["free", "file", "directory"][kind] ?? `kind ${kind}`]]);
   if (kind !== FREE || links) words.set("links", countOf(links, "link", "links"));
+  if (generation) words.set("generation", `generation ${generation}`);
+  if (overwritten) words.set("overwritten", overwrittenWords(overwritten));
   slots.forEach((block, slot) => { if (block) words.set(`slot ${slot}`, `slot ${slot} \u2192 block ${block}`); });
   return words;
 }
@@ -175,11 +186,16 @@ function headerWords([kind, number, count, ...rest], block) {
 }
 
 function dataPhrases(bytes) {
-  if (bytes[0] === FILE_MARK) return new Map([["mark", `file data of inode ${bytes[1]}`]]);
+  const generation = bytes[2] ? [["generation", `generation ${bytes[2]}`]] : [];
+  if (bytes[0] === FILE_MARK) {
+    const data = bytes[3] ? [["data", dataWords(bytes[3])]] : [];
+    return new Map([["mark", `file data of inode ${bytes[1]}`], ...generation, ...data]);
+  }
   if (bytes[0] !== DIRECTORY_MARK) return new Map([["mark", isBlank(bytes) ? "empty" : "no mark"]]);
   const entries = entriesOf(bytes)
     .map(({ k, target, name }) => [`entry ${k}`, `entry ${k} \u2192 inode ${target} "${name}"`]);
-  return new Map([["mark", `directory ${bytes[1]}`], ...(entries.length ? entries : [["none", "no entries"]])]);
+  return new Map([["mark", `directory ${bytes[1]}`], ...generation,
+    ...(entries.length ? entries : [["none", "no entries"]])]);
 }
 
 /** Two short lines for a block's cell, or null where there is nothing to say. */

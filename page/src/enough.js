@@ -25,7 +25,7 @@ function enoughChoice(rules, report) {
     part: enoughHead(rules, report.enough.length), without: others };
 }
 
-function enoughHead(rules, count) {
+export function enoughHead(rules, count) {
   if (count > 1) return `Each of these ${count} sets of rules is enough`;
   if (rules.length === 0) return "No rule is needed";
   return rules.length === 1 ? "This rule is enough" : "These rules are enough";

@@ -26,7 +26,7 @@ const FAULT_PLACES = {
   2: (report, image, block) => below(INODES).filter(inode => inodeOf(image, inode).kind !== FREE).flatMap(inode =>
     below(SLOTS).filter(slot => inodeOf(image, inode).slots[slot] === block).map(slot => slotPlace(inode, slot))),
   3: (report, image, inode, slot, block) =>
-    [slotPlace(inode, slot), { row: `block ${block}`, phrase: "mark", block, offset: 0, length: 2 }],
+    [slotPlace(inode, slot), { row: `block ${block}`, phrase: "mark", block, offset: 0, length: 3 }],
   4: (report, image, inode) => [inodeByte(inode, "links", 1), ...entriesTo(report, image, inode)],
   5: (report, image, inode, slot, block) =>
     [slotPlace(inode, slot), { row: "map", phrase: `map ${block}`, block: 1, offset: block, length: 1 }],

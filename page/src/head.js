@@ -20,7 +20,7 @@ function diskWords({ blocks, journal, root }) {
 }
 
 /** What the checker also asks for, if it does. */
-const checkersOf = ({ strict, atomic }) => [...strict ? ["strict"] : [], ...atomic ? ["atomic"] : []];
+const checkersOf = report => ["strict", "atomic"].filter(name => report[name]);
 
 /** The title of the window: script, result, ordering and size of the disk. */
 export function titleNow() {
@@ -87,6 +87,7 @@ function drawShare({ failing, closed, isDecision, enough, search }) {
 function drawOrdering(report) {
   const rules = (list, kind, word) => list.map(rule => element("span", { class: `rule ${kind}` }, `${word} ${rule}`));
   return element("div", { class: "rules" }, rules(report.without, "out", "without"), rules(report.with, "in", "with"),
+    report.generations && element("span", { class: "rule in" }, "generations"),
     report.wholeBlocks && element("span", { class: "rule in" }, "whole blocks"),
     checkersOf(report).map(word => element("span", { class: "rule in" }, word)));
 }

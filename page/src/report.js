@@ -25,7 +25,7 @@ export function scriptReport(json) {
 /** The ordering, and what else the checker and the disk were asked for. */
 export function orderingOf(json) {
   return { module: json.module, without: json.without ?? [], with: json.with ?? [], strict: json.strict ?? false,
-    atomic: json.atomic ?? false, wholeBlocks: json.whole_blocks ?? false };
+    atomic: json.atomic ?? false, generations: json.generations ?? false, wholeBlocks: json.whole_blocks ?? false };
 }
 
 /** A number of closed sets, which a decision writes as a text since it can have 38 digits. */

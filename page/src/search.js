@@ -3,8 +3,8 @@
 // patches. `crashmap-page` adds the reports on these workloads, so that the page can show the crash.
 import { MOST_CHOICES, checkFailing, checkGroup, checkOrdering, checkSet, isOfEnough } from "./check.js";
 import { crashOf, wholeRun } from "./choosing.js";
-import { foundWords } from "./enough.js";
-import { ReportError, checkCount, checkList, checkObject, checkText, checkTexts, must } from "./form.js";
+import { enoughHead, foundWords } from "./enough.js";
+import { ReportError, checkCount, checkList, checkObject, checkText, checkTexts } from "./form.js";
 import { orderingOf, scriptReport } from "./report.js";
 import { countOf, listOf } from "./words.js";
 
@@ -97,9 +97,8 @@ const kindChoice = ({ kind, name, steps, workloads, faults }) => ({ number: Stri
 
 /** The sets of rules that are enough; they come without a crash. */
 function ruleChoices({ enough = [] }) {
-  const part = enough.length === 1 ? "Enough for all workloads" : `Each of these ${enough.length} sets is enough`;
-  return enough.slice(0, MOST_CHOICES).map(rules =>
-    ({ label: listOf(rules) || "no rule at all", part, faults: [], isEnough: true, off: true }));
+  return enough.slice(0, MOST_CHOICES).map(rules => ({ label: listOf(rules) || "no rule at all",
+    part: enoughHead(rules, enough.length), faults: [], isEnough: true, off: true }));
 }
 
 function groupChoice({ rules, fault, steps }) {

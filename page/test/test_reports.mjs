@@ -208,12 +208,36 @@ async function testLong() {
   await keepPicture("long");
 }
 
+/** A file that is freed and made again, on a disk with generations. */
+async function testGenerations() {
+  const report = await open("generations"), page = await shown(), slot = "slot 0 \u2192 block 5";
+  checkFault("generations", page, report, 0);
+  check("generations: the head", page.rules.filter(Boolean), ["without Ptr:InitFile", "generations"]);
+  check("generations: inode 1", page.rows["inode 1"].words,
+    [`file, 1 link, ${slot}`, `file, 1 link, generation 1, ${slot}`, `file, 1 link, generation 1, ${slot}`]);
+  check("generations: the block is the old file's", page.rows["block 5"],
+    { named: true, words: Array(3).fill("file data of inode 1") });
+}
+
+const MEANINGS = `[...document.querySelectorAll("#drawing .node")]
+  .map(node => node.getAttribute("aria-label").split(". ")[0])`;
+
+async function testOverwritten() {
+  await open("overwrite", "#choice=1");
+  const page = await shown(), meanings = await browser.ask(MEANINGS);
+  check("overwrite: what the patches mean", meanings, ["0 NewData: block 5: data 1",
+    "1 Touch: inode 1: overwritten 1 time", "2 PtrClear: inode 1: no blocks", "3 MapClear: block 5 marked free"]);
+  check("overwrite: half done", [page.disk, page.halves], [[0], ["Half done: line 4 overwrite /a."]]);
+  check("overwrite: block 5", page.rows["block 5"].words, ["file data of inode 1",
+    "file data of inode 1, data 1", "file data of inode 1, data 1"]);
+}
+
 async function testNoReport() {
   await openEmpty();
   const words = await browser.ask("document.body.textContent");
   check("a page without a report asks for one", words.includes("Drop a report here"), true);
-  check("every case is tested", Object.keys(cases).length, 29);
+  check("every case is tested", Object.keys(cases).length, 31);
 }
 
 await run([testCreate, testReuse, testPointer, testTwice, testNothingFails, testDecisions, testImmense, testOrderings,
-  testKeyboard, testSizesAndSchemes, testLong, testNoReport]);
+  testKeyboard, testSizesAndSchemes, testLong, testGenerations, testOverwritten, testNoReport]);

@@ -36,6 +36,20 @@ async function testList() {
   }
 }
 
+/** Each: the case, and the headings of its list. */
+const HEADINGS = [
+  ["search_enough", ["Each of these 4 sets of rules is enough", "One rule of each line is needed"]],
+  ["search_none", ["No rule is needed"]],
+  ["search", []],
+];
+
+async function testHeadings() {
+  for (const [name, parts] of HEADINGS) {
+    await openAnswered(name);
+    check(`${name}: the headings of the list`, (await shown()).parts, parts);
+  }
+}
+
 /** The crash of each choice is shown on the patches of its own workload. */
 async function testEachCrash() {
   for (const name of [...FOR_KINDS, ...FOR_RULES]) {
@@ -151,4 +165,5 @@ async function testTextOfASearch() {
   check("HTML in a search is shown as text", [images, page.choices[0].includes(html)], [0, true]);
 }
 
-await run([testList, testEachCrash, testWhole, testNothingFound, testPicked, testWithoutPatches, testTextOfASearch]);
+await run([testList, testHeadings, testEachCrash, testWhole, testNothingFound, testPicked,
+  testWithoutPatches, testTextOfASearch]);

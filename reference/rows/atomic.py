@@ -168,6 +168,7 @@ class Atomic(Rows):
             rule InodeFree:EntryClear pairs 0
             rule MapClear:InodeFree pairs 0
             rule EntryClear:EntrySet pairs 0
+            rule MapClear:PtrClear pairs 0
             """)
 
     def test_with_other_options(self):

@@ -44,13 +44,14 @@ class Needs(Rows):
             write block 1: 2
             fault 5 used block marked free: inode 1 slot 0 block 5
             rule EntryClear:EntrySet pairs 0
+            rule MapClear:PtrClear pairs 0
             """)
 
     def test_the_rules_of_five_operations(self):
         numbers = [(2, 312, 24, [6]), (1, 408, 14, [0, 1, 2, 3, 11]), (1, 379, 0, None), (1, 360, 0, None), (1, 394,
             0, None), (1, 360, 64, [5, 7, 9]), (1, 326, 38, [0, 1, 3]), (2, 288, 0, None), (1, 432, 16, [0, 1, 2, 3,
             5, 6, 10, 11, 13]), (1, 296, 4, [0, 1, 2, 3] + list(range(5, 14)) + [15]), (1, 496, 64, [5, 7, 8, 9, 16]),
-            (1, 384, 0, None)]
+            (1, 384, 0, None), (0, None, None, None)]
         rules = rules_of("soft")
         self.assertEqual(needs_table(FIVE_OPERATIONS), ((17, 288, 0), [(rule,) + row for rule, row in zip(rules,
             numbers)]))

@@ -194,10 +194,11 @@ class Strict(Rows):
             "rule Ptr:MapSet pairs 1 closed 37 failing 0", "rule LinkDown:EntryClear pairs 1 closed 51 failing 7",
             "set 0 1 3", "write block 2: 0", "write block 4: 1", "write block 2: 3", "fault " + LOW,
             "rule InodeFree:EntryClear pairs 0", "rule MapClear:InodeFree pairs 0",
-            "rule EntryClear:EntrySet pairs 1 closed 61 failing 24", "set 2", "write block 4: 2", LOST]
+            "rule EntryClear:EntrySet pairs 1 closed 61 failing 24", "set 2", "write block 4: 2", LOST,
+            "rule MapClear:PtrClear pairs 0"]
         self.assertEqual(answered(RENAME_MKDIR, "--strict --needs"), (lines(*wanted_lines), 0))
-        plain_lines = (wanted_lines[:10] + ["rule EntrySet:Ptr pairs 1 closed 43 failing 0"] + wanted_lines[17:-4] + [
-            "rule EntryClear:EntrySet pairs 1 closed 61 failing 0"])
+        plain_lines = (wanted_lines[:10] + ["rule EntrySet:Ptr pairs 1 closed 43 failing 0"] + wanted_lines[17:-5] + [
+            "rule EntryClear:EntrySet pairs 1 closed 61 failing 0", "rule MapClear:PtrClear pairs 0"])
         plain_lines.remove("strict")
         self.assertEqual(answered(RENAME_MKDIR, "--needs"), (lines(*plain_lines), 0))
 

@@ -1,7 +1,7 @@
 //! How many sets that a crash can leave are judged a second, over the graph of the script on standard input.
 //!
-//! The words are those of `crashmap` itself; at most `--limit` sets are judged. Standard output has the numbers of
-//! sets, and standard error the rate.
+//! The words are those of `crashmap` itself, for a visit; at most `--limit` sets are judged. Standard output has the
+//! numbers of sets, and standard error the rate.
 #![tactic(auto)]
 
 mod rounds;
@@ -11,6 +11,7 @@ use command_line::settings_of;
 use crash_model::settings::Settings;
 use disk_image::Image;
 use order_modules::{build_base, trace};
+use question_model::Question;
 use rounds::judge_rounds;
 use script_text::read_script;
 use sets::closed_sets;
@@ -28,19 +29,22 @@ fn main(rt: HostRuntime) -> Result<(), Fail> {
     for word in words.iter().skip(1) {
         texts.push(word.as_str())?;
     }
-    let settings = settings_of(heap, &texts)?.request.settings;
+    let request = settings_of(heap, &texts)?.request;
     let mut script = Vec::new(heap);
     rt.stdin().read_to_end(&mut script)?;
-    judge(&rt, &settings, &script)
+    match request.question {
+        Question::Visit(visit) => judge(&rt, &request.settings, visit.limit, &script),
+        _ => Ok(()),
+    }
 }
 
-/// Judges the sets of a script, as the settings order its patches.
-fn judge(rt: &HostRuntime, settings: &Settings, script: &[u8]) -> Result<(), Fail> {
+/// Judges at most `limit` sets of a script, as the settings order its patches.
+fn judge(rt: &HostRuntime, settings: &Settings, limit: usize, script: &[u8]) -> Result<(), Fail> {
     let heap = rt.alloc();
     let script = read_script(heap, script)?;
     let mut base = Image::formatted(heap, settings.blocks, settings.journal)?;
     build_base(&mut base, &script.base)?;
     let graph = trace(heap, &base, &script.traced, &settings.ordering())?.into_graph();
-    let sets = closed_sets(heap, &graph, settings.limit)?;
+    let sets = closed_sets(heap, &graph, limit)?;
     judge_rounds(rt, &base, &graph, &sets)
 }

@@ -23,19 +23,19 @@ raised p d m k low high = mul_assoc p (2 ^ (m - d)) (2 ^ (k - m))
     ∙ ap (λ (x : ℕ). p * x) (sym (pow-add 2 (m - d) (k - m))
     ∙ ap (λ (j : ℕ). 2 ^ j) (let z : (m - d) + (k - m) ≡ k - d = omega (arith, low, high) in z))
 
-portion_both : (s u : Share) (k : ℕ) → s.cuts ≤ k → u.cuts ≤ k → portion (both_shares s u) k ≡ portion s k + portion u k
+pub portion_both : (s u : Share) (k : ℕ) → s.cuts ≤ k → u.cuts ≤ k → portion (both_shares s u) k ≡ portion s k + portion u k
 portion_both s u k a b = let m = max s.cuts u.cuts in let most : m ≤ k = omega (arith, a, b) in
     add-mul (portion s m) (portion u m) (2 ^ (k - m)) ∙ ap (λ (x : ℕ). x + portion u m * 2 ^ (k - m))
     (raised s.parts s.cuts m k (omega arith) most) ∙ ap (λ (x : ℕ). portion s k + x)
     (raised u.parts u.cuts m k (omega arith) most)
 
-portion_half : (s : Share) (k : ℕ) → s.cuts + 1 ≤ k → portion s k ≡ 2 * portion (half_of s) k
+pub portion_half : (s : Share) (k : ℕ) → s.cuts + 1 ≤ k → portion s k ≡ 2 * portion (half_of s) k
 portion_half s k h = let j = k - (s.cuts + 1) in let x = s.parts * 2 ^ j in
     let twice : portion s k ≡ x * 2 = ap (λ (i : ℕ). s.parts * 2 ^ i)
     (let z : k - s.cuts ≡ j + 1 = omega (arith, h) in z) ∙ ap (λ (y : ℕ). s.parts * y) (pow-add 2 j 1)
     ∙ sym (mul_assoc s.parts (2 ^ j) 2) in omega (arith, twice)
 
-portion_whole : (s : Share) (k : ℕ) → s.cuts ≤ k → IsWhole s → portion s k ≡ 2 ^ k
+pub portion_whole : (s : Share) (k : ℕ) → s.cuts ≤ k → IsWhole s → portion s k ≡ 2 ^ k
 portion_whole s k h whole = ap (λ (x : ℕ). x * 2 ^ (k - s.cuts)) whole ∙ sym (pow-add 2 s.cuts (k - s.cuts))
     ∙ ap (λ (j : ℕ). 2 ^ j) (let z : s.cuts + (k - s.cuts) ≡ k = omega (arith, h) in z)
 

@@ -1,12 +1,12 @@
 //! Std's readers and writers as devices.
 
-ghost use Rattle.std.specs.Prelude.{◌≡◌};
+ghost use Rattle.std.specs.Prelude.{◌≡◌, None};
 
 use crate::sink::Sink;
 use crate::source::{DeviceFault, Source};
-use std::io::{Read, Write};
+use std::io::{self, Read, Write};
 
-/// A reader or a writer of std with the number of its failures.
+/// A reader or a writer of std with the number of its failures, and the error of the last read that failed.
 ///
 /// An error of std is a failure, whatever its kind. A write that takes nothing is a failure too. A failed call is not
 /// tried again.
@@ -14,16 +14,18 @@ use std::io::{Read, Write};
 pub struct Counted<D> {
     pub device: D,
     pub failures: usize,
+    pub error: Option<io::Error>,
 }
 
 impl<D> Counted<D> {
     /// The device, which has not failed yet.
     pub fn new(device: D) -> Counted<D>
-        ensures { result ≡ record { device = device; failures = 0 } }
+        ensures { result ≡ record { device = device; failures = 0; error = None } }
     {
         Counted {
             device,
             failures: 0,
+            error: None,
         }
     }
 }
@@ -36,7 +38,8 @@ impl<R: Read> Source for Counted<R> {
     fn read(&mut self, into: &mut [u8]) -> Result<usize, DeviceFault> {
         match self.device.read(into) {
             Ok(count) => Ok(count),
-            Err(_) => {
+            Err(error) => {
+                self.error = Some(error);
                 self.failures += 1;
                 Err(DeviceFault)
             }

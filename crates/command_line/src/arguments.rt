@@ -8,20 +8,20 @@ use std::alloc::{AllocError, Global};
 const VERSION: &str = "1.0.0";
 
 /// A heading in help, and the options under it.
-struct Head {
-    name: &'static str,
-    entries: &'static [Entry],
+pub(crate) struct Head {
+    pub name: &'static str,
+    pub entries: &'static [Entry],
 }
 
 /// An option in the table of its heading.
-struct Entry {
-    name: &'static str,
-    takes: Takes,
-    help: &'static str,
+pub(crate) struct Entry {
+    pub name: &'static str,
+    pub takes: Takes,
+    pub help: &'static str,
 }
 
 /// What an option takes. The symbol is its name in help.
-enum Takes {
+pub(crate) enum Takes {
     /// Nothing: the option is a flag.
     Nothing,
     /// Nothing, and the option goes with none of the others.
@@ -50,8 +50,19 @@ impl Takes {
         }
     }
 
+    /// What help calls the value that follows an option of this kind, if one follows.
+    pub(crate) fn symbol(&self) -> Option<&'static str> {
+        match self {
+            Takes::Rule => Some("RULE"),
+            Takes::Number(symbol, _)
+            | Takes::NumberWithout(symbol, ..)
+            | Takes::OneOf(symbol, ..) => Some(symbol),
+            Takes::Nothing | Takes::NothingWithout(_) | Takes::Itself => None,
+        }
+    }
+
     /// The options that an option of this kind does not go with.
-    fn conflicts(&self) -> &'static [&'static str] {
+    pub(crate) fn conflicts(&self) -> &'static [&'static str] {
         match self {
             Takes::NothingWithout(others) | Takes::NumberWithout(_, _, _, others) => others,
             Takes::Nothing | Takes::Itself | Takes::Rule | Takes::Number(..) | Takes::OneOf(..) => {
@@ -68,8 +79,8 @@ const ABOUT: &str =
 const AFTER: &str = "\
 With a rule LATER:EARLIER a patch waits for an earlier one of its operation, with LATER:previous-EARLIER for one of the
 operation right before, LATER:before-EARLIER for those of all operations before. Each part is InodeInit, EntrySet,
-EntryClear, MapSet, MapClear, InitFile, InitDir, Ptr, LinkUp, LinkDown, InodeFree, any of these in place (InPlace), or
-FileData, Copy, Commit, Done.
+EntryClear, MapSet, MapClear, InitFile, InitDir, Ptr, LinkUp, LinkDown, InodeFree, PtrClear, NewData, Touch, any of these
+in place (InPlace), or FileData, Copy, Commit, Done.
 
 Examples:
   printf 'start\\ncreate /a\\n' | crashmap --module async
@@ -81,13 +92,14 @@ Words of reports:
   pairs     how many pairs of a script's patches a rule orders
   in place  a change where it belongs on the disk, and not its copy in the journal
 
-A script has one operation a line (create, write, link, unlink, rename, mkdir, rmdir, with paths), groups (group A,
-end, depend B A), comments (#) and one line `start`: the lines before it build the disk, those after it are explored.
+A script has one operation a line (create, write, overwrite, truncate, link, unlink, rename, replace, mkdir, rmdir, with
+paths), groups (group A, end, depend B A), comments (#) and one line `start`: the lines before it build the disk, those
+after it are explored.
 
 Exit status: 0 no failing set, 1 at least one, 2 a refusal (one line on standard error).";
 
-/// The options, in the order of help.
-static HEADS: [Head; 5] = [
+/// The options, in the order of help. This is the one list of them: the parser, help and `--options` are made from it.
+pub(crate) static HEADS: [Head; 5] = [
     // The script and the size of its disk.
     Head {
         name: "What to run",
@@ -106,6 +118,12 @@ static HEADS: [Head; 5] = [
                 name: "journal",
                 takes: Takes::Number("JL", JOURNAL),
                 help: "Blocks of the journal, 0 to N - 6",
+            },
+            Entry {
+                name: "generations",
+                takes: Takes::Nothing,
+                help: "Count how often each inode was freed, so that the data of a deleted file are not taken for a new \
+                       file's",
             },
         ],
     },
@@ -148,8 +166,8 @@ static HEADS: [Head; 5] = [
             Entry {
                 name: "strict",
                 takes: Takes::Nothing,
-                help: "Also fail if a crash loses a file or directory that the script never removes, or leaves a \
-                       directory without its block",
+                help: "Also fail if a crash loses a file or directory that is there before `start` and that the script \
+                       never removes, or leaves a directory without its block",
             },
             Entry {
                 name: "atomic",
@@ -189,7 +207,8 @@ static HEADS: [Head; 5] = [
                 name: "enough",
                 takes: Takes::NothingWithout(&["decide", "limit", "explorer", "summary", "needs"]),
                 help: "Find the smallest sets of the ordering's rules that are enough, and each group of which one \
-                       rule is needed, with the crash that comes without it; with --search for all workloads together",
+                       rule is needed, with the crash that comes without it; with --search for all workloads together, \
+                       except those that fail already",
             },
             Entry {
                 name: "search",
@@ -227,6 +246,16 @@ static HEADS: [Head; 5] = [
                 name: "json",
                 takes: Takes::Nothing,
                 help: "Report as JSON in place of text",
+            },
+            Entry {
+                name: "hints",
+                takes: Takes::OneOf("WHEN", &["auto", "always", "never"], "auto"),
+                help: "Say on standard error what helps: if that is a terminal, always or never",
+            },
+            Entry {
+                name: "options",
+                takes: Takes::Nothing,
+                help: "List the options in a form for other programs, and stop",
             },
         ],
     },

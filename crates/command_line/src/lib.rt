@@ -10,16 +10,20 @@ mod arguments;
 mod faults;
 mod given_by;
 mod given_rules;
+mod hints;
 mod numbers;
+mod option_list;
 mod rule_words;
 mod values;
 
 use crate::arguments::command;
 use crate::faults::WordFault;
 use crate::given_rules::{check_with, check_without, given_rules};
+pub use crate::hints::Hints;
 use crate::numbers::{BLOCKS, JOURNAL, WORKERS};
+use crate::option_list::option_list;
 use crate::rule_words::rules_page;
-use crate::values::{explorer_of, limit_under, module_of, number_of, question_of, report_by};
+use crate::values::{hints_of, module_of, number_of, question_of};
 use clap::error::ErrorKind;
 use clap::{ArgMatches, Command, Error};
 use crash_model::modules::Module;
@@ -30,11 +34,12 @@ use std::alloc::{AllocError, Global};
 
 /// What the words of a command line ask for.
 ///
-/// `script` is the file to read, or none for standard input.
+/// `script` is the file to read, or none for standard input. No answer depends on `hints`.
 #[derive(Debug, PartialEq, Eq, Drop)]
 pub struct Call<'a> {
     pub script: Option<&'a str>,
     pub request: Request,
+    pub hints: Hints,
 }
 
 /// Reads the words of a command line, without the program's name.
@@ -66,8 +71,8 @@ fn call_by<'a>(
     ensures lawful { IfOk result (λ call. AreLawful call.request.settings) }
 {
     let matches = command.try_get_matches_from_mut(words)?;
-    if matches.get_flag("rules") {
-        return Err(rules_shown(heap, module_of(&matches))?);
+    if let Some(shown) = page_shown(heap, &matches)? {
+        return Err(shown);
     }
     match call_of(heap, &matches, words) {
         Ok(call) => Ok(call),
@@ -85,10 +90,16 @@ fn refusal(
     command.error(ErrorKind::ValueValidation, message.as_str())
 }
 
-/// The module's rules and the parts of rules, which are shown as help is.
-fn rules_shown(heap: Global, module: Module) -> Result<Error, AllocError> {
-    let page = rules_page(heap, module)?;
-    help_with(heap, page.as_str())
+/// The page that is asked for in place of an answer, which is shown as help is: the module's rules, or the options.
+fn page_shown(heap: Global, matches: &ArgMatches<'_>) -> Result<Option<Error>, AllocError> {
+    let page = if matches.get_flag("options") {
+        option_list(heap)?
+    } else if matches.get_flag("rules") {
+        rules_page(heap, module_of(matches))?
+    } else {
+        return Ok(None);
+    };
+    Ok(Some(help_with(heap, page.as_str())?))
 }
 
 /// The page, as help of the command.
@@ -114,29 +125,27 @@ fn call_of<'a>(
 {
     let module = module_of(matches);
     let (without, with) = rules_for(heap, matches, words, module)?;
-    let explorer = explorer_of(matches);
     let settings = Settings {
         module,
         without,
         with,
         blocks: number_of(matches, "blocks", BLOCKS),
         journal: number_of(matches, "journal", JOURNAL),
-        limit: limit_under(matches, explorer)?,
-        explorer,
         json: matches.get_flag("json"),
         explain: matches.get_flag("explain"),
         whole_blocks: matches.get_flag("whole-blocks"),
+        generations: matches.get_flag("generations"),
         strict: matches.get_flag("strict"),
         atomic: matches.get_flag("atomic"),
-        by: report_by(matches),
     };
     Ok(Call {
         script: matches.get_str("SCRIPT"),
         request: Request {
-            question: question_of(matches),
+            question: question_of(matches)?,
             settings,
             workers: number_of(matches, "workers", WORKERS),
         },
+        hints: hints_of(matches),
     })
 }
 

@@ -22,7 +22,7 @@ struct Meaning {
 }
 
 /// The parts that a rule names.
-static PARTS: [Meaning; 16] = [
+static PARTS: [Meaning; 19] = [
     Meaning {
         word: "InodeInit",
         meaning: "a new inode",
@@ -68,8 +68,20 @@ static PARTS: [Meaning; 16] = [
         meaning: "an inode that becomes free",
     },
     Meaning {
+        word: "PtrClear",
+        meaning: "all pointers of an inode, cleared",
+    },
+    Meaning {
+        word: "NewData",
+        meaning: "the data of a file's block, overwritten",
+    },
+    Meaning {
+        word: "Touch",
+        meaning: "an inode whose file is overwritten",
+    },
+    Meaning {
         word: "InPlace",
-        meaning: "any of these, where it belongs on the disk",
+        meaning: "any of these, where it belongs on the disk, but NewData under meta",
     },
     Meaning {
         word: "FileData",
@@ -90,7 +102,7 @@ static PARTS: [Meaning; 16] = [
 ];
 
 /// The rules of the modules.
-static RULES: [Meaning; 19] = [
+static RULES: [Meaning; 20] = [
     Meaning {
         word: "EntrySet:InodeInit",
         meaning: "a name waits for the inode that it leads to",
@@ -138,6 +150,10 @@ static RULES: [Meaning; 19] = [
     Meaning {
         word: "EntryClear:EntrySet",
         meaning: "a rename's old name goes after the new one is there",
+    },
+    Meaning {
+        word: "MapClear:PtrClear",
+        meaning: "a block becomes free after the pointers of a truncated file are cleared",
     },
     Meaning {
         word: "FileData:previous-Commit",

@@ -1,15 +1,17 @@
 //! The values of the options that take one, and what the flags ask for.
 
-ghost use Rattle.std.specs.Prelude.{◌≡◌, ◌≤◌, IfOk};
-ghost use Rattle.command_line.specs.Ranges.{IsLimitUnder};
+ghost use Rattle.std.specs.Prelude.{◌≤◌, IfOk};
+ghost use Rattle.crash_model.specs.Visits.{IsExplorable};
+ghost use Rattle.question_model.specs.Asked.{CanBeAsked};
 
 use crate::faults::{Value, WordFault};
+use crate::hints::Hints;
 use crate::numbers::{LIMIT, Numbers};
 use crate::rule_words::Why;
 use clap::ArgMatches;
 use crash_model::modules::Module;
-use crash_model::settings::{Explorer, MAX_BOARD, ReportBy};
-use question_model::{Most, Question};
+use crash_model::visit::{Explorer, MAX_BOARD, ReportBy, Visit};
+use question_model::{Question, WorkloadLength};
 
 /// The number given, which the parser has kept among those that the option takes.
 pub(crate) fn number_of(matches: &ArgMatches<'_>, name: &str, numbers: Numbers) -> usize
@@ -24,24 +26,6 @@ pub(crate) fn number_of(matches: &ArgMatches<'_>, name: &str, numbers: Numbers) 
     }
 }
 
-/// The most closed sets to explore, which the board can hold if it is to explore them.
-pub(crate) fn limit_under<'a>(
-    matches: &ArgMatches<'a>,
-    explorer: Explorer,
-) -> Result<usize, WordFault<'a>>
-    ensures { IfOk result (IsLimitUnder explorer) }
-{
-    let limit = number_of(matches, "limit", LIMIT);
-    if explorer == Explorer::Board && limit > MAX_BOARD {
-        return Err(WordFault {
-            option: "limit",
-            value: Value::Limit(limit),
-            why: Why::BoardIsSmaller,
-        });
-    }
-    Ok(limit)
-}
-
 /// The module given, else soft updates.
 pub(crate) fn module_of(matches: &ArgMatches<'_>) -> Module {
     match matches.get_str("module") {
@@ -53,7 +37,7 @@ pub(crate) fn module_of(matches: &ArgMatches<'_>) -> Module {
 }
 
 /// Which explorer to use: the board or the sweep, or else the one that the limit decides.
-pub(crate) fn explorer_of(matches: &ArgMatches<'_>) -> Explorer {
+fn explorer_of(matches: &ArgMatches<'_>) -> Explorer {
     match matches.get_str("explorer") {
         Some("board") => Explorer::Board,
         Some("sweep") => Explorer::Sweep,
@@ -61,8 +45,17 @@ pub(crate) fn explorer_of(matches: &ArgMatches<'_>) -> Explorer {
     }
 }
 
+/// When hints are given: always or never, or else on a terminal.
+pub(crate) fn hints_of(matches: &ArgMatches<'_>) -> Hints {
+    match matches.get_str("hints") {
+        Some("always") => Hints::Always,
+        Some("never") => Hints::Never,
+        _ => Hints::Auto,
+    }
+}
+
 /// What the report lists: failing sets, faults or rules.
-pub(crate) fn report_by(matches: &ArgMatches<'_>) -> ReportBy {
+fn report_by(matches: &ArgMatches<'_>) -> ReportBy {
     if matches.get_flag("needs") {
         ReportBy::ByRule
     } else if matches.get_flag("summary") {
@@ -72,21 +65,43 @@ pub(crate) fn report_by(matches: &ArgMatches<'_>) -> ReportBy {
     }
 }
 
-/// What to find out: each failing set, each fault with `--decide`, which rules are enough with `--enough`, which
-/// workloads fail with `--search`, or which rules are enough for all of them with both.
-pub(crate) fn question_of(matches: &ArgMatches<'_>) -> Question {
-    if matches.get_flag("decide") {
-        return Question::Decide;
+/// How to visit each closed set. The board takes no limit that is more than it holds.
+fn visit_of<'a>(matches: &ArgMatches<'a>) -> Result<Visit, WordFault<'a>>
+    ensures { IfOk result IsExplorable }
+{
+    let visit = Visit {
+        report: report_by(matches),
+        limit: number_of(matches, "limit", LIMIT),
+        explorer: explorer_of(matches),
+    };
+    if visit.explorer == Explorer::Board && visit.limit > MAX_BOARD {
+        return Err(WordFault {
+            option: "limit",
+            value: Value::Limit(visit.limit),
+            why: Why::BoardIsSmaller,
+        });
     }
-    match (searched(matches), matches.get_flag("enough")) {
-        (Some(most), true) => Question::SearchRules(most),
-        (Some(most), false) => Question::Search(most),
-        (None, true) => Question::Enough,
-        (None, false) => Question::Visit,
-    }
+    Ok(visit)
 }
 
-/// The most operations of a workload, if workloads are to be searched.
-fn searched(matches: &ArgMatches<'_>) -> Option<Most> {
-    Most::new(matches.get_one::<usize>("search")?)
+/// What to find out: each failing set, each fault with `--decide`, which rules are enough with `--enough`, which
+/// workloads fail with `--search`, or which rules are enough for all of them with both.
+pub(crate) fn question_of<'a>(matches: &ArgMatches<'a>) -> Result<Question, WordFault<'a>>
+    ensures { IfOk result CanBeAsked }
+{
+    if matches.get_flag("decide") {
+        return Ok(Question::Decide);
+    }
+    let question = match (longest_workload(matches), matches.get_flag("enough")) {
+        (Some(longest), true) => Question::SearchRules(longest),
+        (Some(longest), false) => Question::Search(longest),
+        (None, true) => Question::Enough,
+        (None, false) => Question::Visit(visit_of(matches)?),
+    };
+    Ok(question)
+}
+
+/// How many operations the longest workloads have, if workloads are to be searched.
+fn longest_workload(matches: &ArgMatches<'_>) -> Option<WorkloadLength> {
+    WorkloadLength::new(matches.get_one::<usize>("search")?)
 }

@@ -209,6 +209,7 @@ pub record IsCopying (from into : Disk) (left : ℕ) : Type 0 where
   pub disk : IsDisk into
   pub blocks : into.blocks ≡ from.blocks
   pub journal : into.journal ≡ from.journal
+  pub generations : into.generations ≡ from.generations
   pub others : DifferAtMost left from into
 
 pub copied_one : (from into next : Disk) (left rest k : ℕ) → IsDisk from → IsWithout left k rest → k < from.blocks
@@ -228,6 +229,7 @@ copied_one from into next left rest k i without within is c =
       disk = shape-disk into next c.disk next_shape;
       blocks = next_shape.blocks ∙ c.blocks;
       journal = next_shape.journal ∙ c.journal;
+      generations = ap (λ (d : Disk). d.generations) is ∙ c.generations;
       others = record {
         same = λ x less out. ap (λ (d : Disk). block_of d x) is ∙ elim (cases_eq x k) [
           | inl same ↦ subst (λ (y : ℕ). block_of (with_bytes into k 0 (block_of from k)) y ≡ block_of from y)
@@ -250,6 +252,7 @@ copied_beyond from into left rest k without beyond c = record {
   disk = c.disk;
   blocks = c.blocks;
   journal = c.journal;
+  generations = c.generations;
   others = record {
     same = λ x less out. c.others.same x less
         (λ had. out ((without.others x (λ e. absurd (omega arith))).1 had));
@@ -260,7 +263,7 @@ pub copied_all : (from into : Disk) (left : ℕ) → IsDisk from → left ≡ 0 
 copied_all from into left i none c =
     let same : (x : ℕ) → x < from.blocks → block_of into x ≡ block_of from x =
     λ x less. c.others.same x less (λ had. none_in_empty x (subst (λ (s : ℕ). Has s x) none had)) in
-    disk-same into from record { blocks = c.blocks; journal = c.journal }
+    disk-same into from record { blocks = c.blocks; journal = c.journal; generations = c.generations }
     (joined_blocks from.blocks into (block_of from) (c.disk.whole ∙ ap (λ (n : ℕ). 128 * n) c.blocks) same
     ∙ sym (joined_blocks from.blocks from (block_of from) i.whole (λ x less. refl)))
 
@@ -291,6 +294,7 @@ module _ (a m : Applied) (after image : Disk) (set stale changed : ℕ) (was : I
       record {
         blocks = ap (λ (d : Disk). d.blocks) next_image ∙ new.blocks ∙ sym old.blocks;
         journal = ap (λ (d : Disk). d.journal) next_image ∙ new.journal ∙ sym old.journal;
+        generations = ap (λ (d : Disk). d.generations) next_image ∙ new.generations ∙ sym old.generations;
       }
 
   pub next_blocks : after.blocks ≡ image.blocks
@@ -298,6 +302,9 @@ module _ (a m : Applied) (after image : Disk) (set stale changed : ℕ) (was : I
 
   pub next_journal : after.journal ≡ image.journal
   next_journal = ap (λ (d : Disk). d.journal) was.is ∙ sym next_shape.journal
+
+  pub next_generations : after.generations ≡ image.generations
+  next_generations = ap (λ (d : Disk). d.generations) was.is ∙ sym next_shape.generations
 
   pub next_differ : DifferAtMost changed (image_of a.base a.patches a.set) (image_of a.base a.patches set)
       → DifferAtMost (bit_or stale changed) image after

@@ -21,15 +21,24 @@ use Rattle.crash_image.proofs.PutSteps.{image-empty}
 pub record SameShape (d e : Disk) : Type 0 where
   pub blocks : d.blocks ≡ e.blocks
   pub journal : d.journal ≡ e.journal
+  pub generations : d.generations ≡ e.generations
 
 same_shape : (d : Disk) → SameShape d d
-same_shape d = record { blocks = refl; journal = refl }
+same_shape d = record { blocks = refl; journal = refl; generations = refl }
 
 like : {d e f : Disk} → SameShape d e → SameShape e f → SameShape d f
-like one two = record { blocks = one.blocks ∙ two.blocks; journal = one.journal ∙ two.journal }
+like one two = record {
+  blocks = one.blocks ∙ two.blocks;
+  journal = one.journal ∙ two.journal;
+  generations = one.generations ∙ two.generations;
+}
 
 unlike : {d e : Disk} → SameShape d e → SameShape e d
-unlike one = record { blocks = sym one.blocks; journal = sym one.journal }
+unlike one = record {
+  blocks = sym one.blocks;
+  journal = sym one.journal;
+  generations = sym one.generations;
+}
 
 -- whichever of two is chosen
 either_shape : (b : Bool) (d e f : Disk) → SameShape d f → SameShape e f → SameShape (cond b d e) f
@@ -40,7 +49,8 @@ pub image-shape : (id : ℕ) (d : Disk) (ps : List Patch) (set : ℕ) → SameSh
 image-shape id d [] set = same_shape d
 image-shape id d (p ∷ ps) set =
     like (image-shape (id + 1) (cond (has set id) (with_patch p d) d) ps set)
-    (either_shape (has set id) (with_patch p d) d d record { blocks = refl; journal = refl } (same_shape d))
+    (either_shape (has set id) (with_patch p d) d d record { blocks = refl; journal = refl; generations = refl }
+    (same_shape d))
 
 pub without_patches-shape : (id : ℕ) (d : Disk) (ps : List Patch) (set : ℕ)
     → SameShape (without_patches_from id d ps set) d
@@ -49,16 +59,22 @@ without_patches-shape id d (p ∷ ps) set =
     let rest = without_patches-shape (id + 1) d ps set in
     either_shape (has set id) (without_patch p (without_patches_from (id + 1) d ps set))
     (without_patches_from (id + 1) d ps set) d
-    record { blocks = rest.blocks; journal = rest.journal } rest
+    record { blocks = rest.blocks; journal = rest.journal; generations = rest.generations } rest
 
 pub disk-same : (d e : Disk) → SameShape d e → d.bytes ≡ e.bytes → d ≡ e
 disk-same d e shape bytes =
-    ap (λ (n : ℕ). disk n d.journal d.bytes) shape.blocks
-    ∙ ap (λ (n : ℕ). disk e.blocks n d.bytes) shape.journal
-    ∙ ap (λ (xs : List ℕ). disk e.blocks e.journal xs) bytes
+    ap (λ (n : ℕ). disk n d.journal d.generations d.bytes) shape.blocks
+    ∙ ap (λ (n : ℕ). disk e.blocks n d.generations d.bytes) shape.journal
+    ∙ ap (λ (g : Bool). disk e.blocks e.journal g d.bytes) shape.generations
+    ∙ ap (λ (xs : List ℕ). disk e.blocks e.journal e.generations xs) bytes
   where
-    disk : ℕ → ℕ → List ℕ → Disk
-    disk blocks journal bytes = record { blocks = blocks; journal = journal; bytes = bytes }
+    disk : ℕ → ℕ → Bool → List ℕ → Disk
+    disk blocks journal generations bytes = record {
+      blocks = blocks;
+      journal = journal;
+      generations = generations;
+      bytes = bytes;
+    }
 
 -- ---- what one set has and another hasn't
 

@@ -99,6 +99,7 @@ impl<'a, A: Allocator + Copy> Replayer<'a, A> {
 fn copy_blocks<A: Allocator + Copy>(into: &mut Image<A>, from: &Image<A>, blocks: u128)
     requires blocks { into.old.blocks ≡ from.now.blocks }
     requires journal { into.old.journal ≡ from.now.journal }
+    requires generations { into.old.generations ≡ from.now.generations }
     requires others { DifferAtMost blocks from.now into.old }
     ensures { into.new ≡ from.now }
 {

@@ -8,6 +8,7 @@ use Rattle.crash_model.specs.Rules.{rule_part_text, scope_text, rule_text}
 use Rattle.crash_model.specs.RuleFacts.{IsNoRulePart, IsNoRule, HasNoScope}
 use Rattle.crash_model.specs.declared.plans.Role.TheVariants.{InodeInit, EntrySet, EntryClear, MapSet, MapClear}
 use Rattle.crash_model.specs.declared.plans.Role.TheVariants.{InitFile, InitDir, Ptr, LinkUp, LinkDown, InodeFree}
+use Rattle.crash_model.specs.declared.plans.Role.TheVariants.{PtrClear, NewData, Touch}
 use Rattle.crash_model.specs.declared.rules.RulePart.{RulePart}
 use Rattle.crash_model.specs.declared.rules.RulePart.TheVariants.{Change, InPlace, FileData, Copy, Commit, Done}
 use Rattle.crash_model.specs.declared.rules.Scope.{Scope}
@@ -57,6 +58,9 @@ parts_are_plain (Change Ptr) = refl
 parts_are_plain (Change LinkUp) = refl
 parts_are_plain (Change LinkDown) = refl
 parts_are_plain (Change InodeFree) = refl
+parts_are_plain (Change PtrClear) = refl
+parts_are_plain (Change NewData) = refl
+parts_are_plain (Change Touch) = refl
 parts_are_plain InPlace = refl
 parts_are_plain FileData = refl
 parts_are_plain Copy = refl

@@ -2,6 +2,7 @@
 use Rattle.std.specs.Prelude.{◌≡◌, ℕ, List, [], ◌∷◌, ◌++◌, Bool, false, ◌&&◌, ◌||◌, ◌==◌, not, nat_le, bytes_eq}
 use Rattle.std.specs.Prelude.{if◌then◌else◌, Option, Some, None}
 use Rattle.std.specs.List.{range_with_len, list_any, list_all}
+use mathlib.Core.Bool.{beq}
 use Rattle.crash_model.specs.declared.disk_bytes.TheConstants.{INODES, SLOTS}
 use Rattle.crash_model.specs.Disk.{Disk, block_of}
 use Rattle.crash_model.specs.Layout.{pointer_of, is_pointer}
@@ -13,7 +14,9 @@ use Rattle.crash_model.specs.declared.steps.Step.{Step}
 -- ---- the disks that a script passes through
 
 abbrev pub is_same_disk : Disk → Disk → Bool
-is_same_disk a b = a.blocks == b.blocks && (a.journal == b.journal && bytes_eq a.bytes b.bytes)
+is_same_disk a b =
+    a.blocks == b.blocks
+    && (a.journal == b.journal && (beq a.generations b.generations && bytes_eq a.bytes b.bytes))
 
 -- a disk after the others, if it is none of them
 abbrev pub with_disk : List Disk → Disk → List Disk

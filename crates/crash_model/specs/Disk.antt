@@ -1,5 +1,6 @@
--- A disk image as a value: its numbers of blocks, and its bytes, block after block.
+-- A disk image as a value: its numbers of blocks, whether its inodes have generations, and its bytes, block after block.
 use Rattle.std.specs.Prelude.{◌≡◌, ℕ, ◌+◌, ◌*◌, ◌≤◌, List, [], ◌∷◌, ◌++◌, length, take, drop, slice_index, replicate}
+use Rattle.std.specs.Prelude.{Bool, false}
 use Rattle.crash_model.specs.declared.disk_bytes.TheConstants.{BLOCK_SIZE, LEAST_BLOCKS, MOST_BLOCKS, OTHER_BLOCKS}
 use Rattle.crash_model.specs.declared.disk_bytes.TheConstants.{INODE_BLOCK, JOURNAL_AT, DIRECTORY_KIND}
 use Rattle.crash_model.specs.declared.disk_bytes.TheConstants.{DIRECTORY_MARK}
@@ -7,6 +8,7 @@ use Rattle.crash_model.specs.declared.disk_bytes.TheConstants.{DIRECTORY_MARK}
 pub record Disk : Type 0 where
   pub blocks : ℕ
   pub journal : ℕ
+  pub generations : Bool
   pub bytes : List ℕ
 
 -- the numbers of blocks that a disk may have
@@ -40,7 +42,8 @@ with_bytes d block offset new = record d { bytes = overwrite d.bytes (BLOCK_SIZE
 
 -- all bytes 0
 abbrev pub zero_disk : ℕ → ℕ → Disk
-zero_disk blocks journal = record { blocks = blocks; journal = journal; bytes = replicate (BLOCK_SIZE * blocks) 0 }
+zero_disk blocks journal =
+    record { blocks = blocks; journal = journal; generations = false; bytes = replicate (BLOCK_SIZE * blocks) 0 }
 
 -- A new disk: the superblock; in use are the blocks up to the root's; inode 0 is a directory
 -- with one link and the root's block; the root's block is marked as that of inode 0; all else is 0.
@@ -51,3 +54,11 @@ empty_disk blocks journal =
     1 0 (replicate (5 + journal) 1))
     INODE_BLOCK 0 (DIRECTORY_KIND ∷ 1 ∷ 0 ∷ 0 ∷ (JOURNAL_AT + journal) ∷ []))
     (JOURNAL_AT + journal) 0 (DIRECTORY_MARK ∷ 0 ∷ [])
+
+-- the same bytes on a disk whose inodes have generations, or none
+abbrev pub with_generations : Bool → Disk → Disk
+with_generations generations d = record d { generations = generations }
+
+-- a new disk with generations, or without
+abbrev pub new_disk : ℕ → ℕ → Bool → Disk
+new_disk blocks journal generations = with_generations generations (empty_disk blocks journal)

@@ -4,7 +4,7 @@ use Rattle.crash_model.specs.declared.disk_bytes.TheConstants.{INODES, SLOTS, EN
 use Rattle.crash_model.specs.declared.disk_bytes.TheConstants.{FILE_MARK, DIRECTORY_MARK}
 use Rattle.crash_model.specs.Disk.{Disk, byte}
 use Rattle.crash_model.specs.Layout.{kind_of, links_of, pointer_of, map_of, is_live, is_data, is_entry, target_of}
-use Rattle.crash_model.specs.Layout.{is_pointer}
+use Rattle.crash_model.specs.Layout.{is_pointer, is_owned}
 use Rattle.crash_model.specs.Lists.{each_below, some_below, when}
 use Rattle.crash_model.specs.declared.fault.Fault.{Fault}
 use Rattle.crash_model.specs.declared.fault.Fault.TheVariants.{Dangling, Twice, Unwritten, LowLinks, MarkedFree, Wild}
@@ -49,7 +49,7 @@ is_right_mark kind mark = (kind == FILE_KIND && mark == FILE_MARK) || (kind == D
 abbrev pub is_unwritten : Disk → ℕ → ℕ → Bool
 is_unwritten d inode slot =
     let block = pointer_of d inode slot in
-    is_tame d inode slot && not (is_right_mark (kind_of d inode) (byte d block 0) && byte d block 1 == inode)
+    is_tame d inode slot && not (is_right_mark (kind_of d inode) (byte d block 0) && is_owned d block inode)
 
 -- an entry whose target an inode is
 abbrev pub leads_to : Disk → ℕ → ℕ → ℕ → Bool

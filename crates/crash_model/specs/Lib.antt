@@ -1,5 +1,6 @@
 pub mod Lists
 pub mod Names
+pub mod Slots
 pub mod FirstNames
 pub mod Refusals
 pub mod ExploreRefusals
@@ -25,3 +26,4 @@ pub mod Script
 pub mod Texts
 pub mod Reasons
 pub mod RuleUse
+pub mod Visits

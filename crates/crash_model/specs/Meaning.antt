@@ -1,11 +1,14 @@
 -- What each operation means for a disk's view, and when it is refused.
-use Rattle.std.specs.Prelude.{◌≡◌, ◌≢◌, ℕ, ◌+◌, ◌<◌, ◌≤◌, ◌⊎◌, ◌↔◌, List, [], ◌∷◌}
+use Rattle.std.specs.Prelude.{◌≡◌, ◌≢◌, ℕ, ◌+◌, ◌<◌, ◌≤◌, ◌⊎◌, ◌↔◌, List, [], ◌∷◌, Option, Some, None}
 use Rattle.crash_model.specs.declared.disk_bytes.TheConstants.{JOURNAL_AT, INODES, SLOTS, MOST_LINKS, ENTRIES}
 use Rattle.crash_model.specs.declared.disk_bytes.TheConstants.{FILE_KIND, DIRECTORY_KIND}
 use Rattle.crash_model.specs.View.{View}
 use Rattle.crash_model.specs.declared.names.Path.{Path}
 use Rattle.crash_model.specs.declared.operations.Op.{Op}
 use Rattle.crash_model.specs.declared.operations.Op.TheVariants.{Create, Write, Link, Unlink, Rename, Mkdir, Rmdir}
+use Rattle.crash_model.specs.declared.operations.Op.TheVariants.{Overwrite, Truncate, Replace}
+use Rattle.crash_model.specs.declared.operations.Slot.{Slot}
+use Rattle.crash_model.specs.Slots.{slot_number}
 use Rattle.crash_model.specs.declared.refusals.FsFault.{FsFault}
 use Rattle.crash_model.specs.declared.refusals.FsFault.TheVariants.{NotFound, NotADirectory, Exists, NotAFile, NotEmpty}
 use Rattle.crash_model.specs.declared.refusals.FsFault.TheVariants.{NoInode, NoBlock, DirectoryFull, FileFull}
@@ -26,13 +29,19 @@ abbrev pub with_block : View → ℕ → ℕ → ℕ → View
 with_block v inode slot block =
     record v { pointer = λ i s b. (i ≡ inode) × (s ≡ slot) × (b ≡ block); used = λ b. b ≡ block }
 
+-- the names of the first view, and one more
+abbrev pub with_further_name : View → ℕ → List ℕ → ℕ → View
+with_further_name v dir name inode =
+    record v { name = λ d n i. v.name d n i ⊎ ((d ≡ dir) × (n ≡ name) × (i ≡ inode)) }
+
+-- the blocks that an inode has in a view
+abbrev pub with_blocks_of : View → View → ℕ → View
+with_blocks_of v old inode =
+    record v { pointer = λ i _ _. i ≡ inode; used = λ b. (s : ℕ) × old.pointer inode s b }
+
 -- an inode with all that it has, in a view
 abbrev pub with_all_of : View → View → ℕ → View
-with_all_of v old inode = record v {
-  inode = λ i _ _. i ≡ inode;
-  pointer = λ i _ _. i ≡ inode;
-  used = λ b. (s : ℕ) × old.pointer inode s b;
-}
+with_all_of v old inode = record (with_blocks_of v old inode) { inode = λ i _ _. i ≡ inode }
 
 -- the new set has what the old one had and was not lost, and what was gained
 pub record Becomes (old new gained lost : View) : Type 0 where
@@ -110,6 +119,34 @@ pub record MeansRmdir (old new : View) (dir : ℕ) (name : List ℕ) (target : �
   pub had : old.inode target DIRECTORY_KIND 1
   pub becomes : Becomes old new nothing (with_all_of (with_name nothing dir name target) old target)
 
+-- `overwrite` writes data alone, which no view has
+abbrev pub MeansOverwrite : View → View → Type 0
+MeansOverwrite old new = Becomes old new nothing nothing
+
+abbrev pub MeansTruncate : View → View → ℕ → Type 0
+MeansTruncate old new target = Becomes old new nothing (with_blocks_of nothing old target)
+
+-- the names that a `replace` takes away: the old one, and the new one from the other file
+abbrev pub names_replaced : ℕ → List ℕ → ℕ → ℕ → List ℕ → ℕ → View
+names_replaced old_dir old_name target dir name other =
+    with_further_name (with_name nothing old_dir old_name target) dir name other
+
+-- `replace` where the other file has other names left
+pub record MeansReplaceOne (old new : View) (old_dir : ℕ) (old_name : List ℕ) (target dir : ℕ) (name : List ℕ)
+    (other : ℕ) : Type 0 where
+  pub left : ℕ
+  pub some : 0 < left
+  pub had : old.inode other FILE_KIND (left + 1)
+  pub becomes : Becomes old new (with_inode (with_name nothing dir name target) other FILE_KIND left)
+      (with_inode (names_replaced old_dir old_name target dir name other) other FILE_KIND (left + 1))
+
+-- `replace` of the other file's last name
+pub record MeansReplaceLast (old new : View) (old_dir : ℕ) (old_name : List ℕ) (target dir : ℕ) (name : List ℕ)
+    (other : ℕ) : Type 0 where
+  pub had : old.inode other FILE_KIND 1
+  pub becomes : Becomes old new (with_name nothing dir name target)
+      (with_all_of (names_replaced old_dir old_name target dir name other) old other)
+
 -- ---- where paths lead
 
 abbrev pub IsKind : View → ℕ → ℕ → Type 0
@@ -159,6 +196,15 @@ Means blocks journal old new (Mkdir path) =
     (dir : ℕ) × IsParent old path dir × MeansMkdir blocks journal old new dir path.last
 Means blocks journal old new (Rmdir path) =
     (dir : ℕ) × (target : ℕ) × IsTarget old path dir target × MeansRmdir old new dir path.last target
+Means blocks journal old new (Overwrite path slot) =
+    (dir : ℕ) × (target : ℕ) × IsTarget old path dir target × MeansOverwrite old new
+Means blocks journal old new (Truncate path) =
+    (dir : ℕ) × (target : ℕ) × IsTarget old path dir target × MeansTruncate old new target
+Means blocks journal old new (Replace path link) =
+    (old_dir : ℕ) × (target : ℕ) × (dir : ℕ) × (other : ℕ) × IsTarget old path old_dir target
+    × IsTarget old link dir other
+    × (MeansReplaceOne old new old_dir path.last target dir link.last other
+    ⊎ MeansReplaceLast old new old_dir path.last target dir link.last other)
 
 -- ---- refusals: the first test that fails decides
 
@@ -200,6 +246,11 @@ Relinks v old new = AtName v old (λ _ i. AtPath v new (λ dir. RefusedBy
     (test (LeadsTo v dir new.last) Exists ∷ test (¬ (IsKind v i FILE_KIND)) NotAFile ∷ test (IsFull v dir) DirectoryFull
     ∷ test (v.inode i FILE_KIND MOST_LINKS) LinksFull ∷ [])))
 
+-- a slot that is asked for names no block
+abbrev pub LacksBlockIn : View → ℕ → Option Slot → Type 0
+LacksBlockIn v i None = ⊥
+LacksBlockIn v i (Some slot) = (b : ℕ) → ¬ (v.pointer i (slot_number slot) b)
+
 abbrev pub IsRefused : ℕ → ℕ → View → Op → FsFault → Type 0
 IsRefused blocks journal v (Create path) = AtPath v path (λ dir. RefusedBy
     (test (LeadsTo v dir path.last) Exists ∷ test (NoInodeLeft v) NoInode ∷ test (IsFull v dir) DirectoryFull ∷ []))
@@ -215,3 +266,10 @@ IsRefused blocks journal v (Mkdir path) = AtPath v path (λ dir. RefusedBy
     ∷ test (IsFull v dir) DirectoryFull ∷ []))
 IsRefused blocks journal v (Rmdir path) = AtName v path (λ _ i. RefusedBy
     (test (¬ (IsKind v i DIRECTORY_KIND)) NotADirectory ∷ test ((name : List ℕ) × LeadsTo v i name) NotEmpty ∷ []))
+IsRefused blocks journal v (Overwrite path slot) = AtName v path (λ _ i. RefusedBy
+    (test (¬ (IsKind v i FILE_KIND)) NotAFile ∷ test (LacksBlockIn v i slot) NotFound ∷ []))
+IsRefused blocks journal v (Truncate path) =
+    AtName v path (λ _ i. RefusedBy (test (¬ (IsKind v i FILE_KIND)) NotAFile ∷ []))
+IsRefused blocks journal v (Replace old new) = AtName v old (λ _ i. AtName v new (λ _ j. RefusedBy
+    (test (¬ (IsKind v i FILE_KIND)) NotAFile ∷ test (¬ (IsKind v j FILE_KIND)) NotAFile ∷ test (i ≡ j) Exists
+    ∷ test (v.inode i FILE_KIND MOST_LINKS) LinksFull ∷ [])))

@@ -1,17 +1,22 @@
 -- What each operation changes, and when it is refused.
 use Rattle.std.specs.Prelude.{ℕ, ◌+◌, ◌-◌, ◌*◌, ◌/◌, ◌%◌, List, [], ◌∷◌, ◌++◌, length, replicate, Bool, ◌&&◌, ◌==◌, not}
 use Rattle.std.specs.Prelude.{nat_le, nat_lt, if◌then◌else◌, Option, Some, None, is_some, option_to_list, Result, Ok}
-use Rattle.std.specs.Prelude.{Err, bytes_eq}
+use Rattle.std.specs.Prelude.{Err, bytes_eq, false, slice_index}
 use Rattle.crash_model.specs.declared.disk_bytes.TheConstants.{INODES, INODE_SIZE, POINTERS_FROM, SLOTS, MOST_LINKS}
 use Rattle.crash_model.specs.declared.disk_bytes.TheConstants.{ENTRIES, ENTRY_SIZE, LONGEST_NAME, FREE_KIND}
 use Rattle.crash_model.specs.declared.disk_bytes.TheConstants.{FILE_KIND, DIRECTORY_KIND, FILE_MARK, DIRECTORY_MARK}
+use Rattle.crash_model.specs.declared.disk_bytes.TheConstants.{KINDS_AT, TOUCHED_FROM, DATA_FROM}
 use Rattle.crash_model.specs.Lists.{first_below, some_below, when}
-use Rattle.crash_model.specs.Disk.{Disk, with_bytes}
+use Rattle.crash_model.specs.Disk.{Disk, byte, with_bytes}
 use Rattle.crash_model.specs.Layout.{kind_of, links_of, pointer_of, map_of, is_live, is_data, counts, entry_of}
 use Rattle.crash_model.specs.Layout.{is_entry, target_of, spelling_of, inode_block, inode_offset, entry_offset}
+use Rattle.crash_model.specs.Layout.{generation_of}
+use Rattle.crash_model.specs.Slots.{slot_number}
 use Rattle.crash_model.specs.declared.operations.Op.{Op}
 use Rattle.crash_model.specs.declared.names.Path.{Path}
 use Rattle.crash_model.specs.declared.operations.Op.TheVariants.{Create, Write, Link, Unlink, Rename, Mkdir, Rmdir}
+use Rattle.crash_model.specs.declared.operations.Op.TheVariants.{Overwrite, Truncate, Replace}
+use Rattle.crash_model.specs.declared.operations.Slot.{Slot}
 use Rattle.crash_model.specs.declared.refusals.FsFault.{FsFault}
 use Rattle.crash_model.specs.declared.refusals.FsFault.TheVariants.{NotFound, NotADirectory, Exists, NotAFile, NotEmpty}
 use Rattle.crash_model.specs.declared.refusals.FsFault.TheVariants.{NoInode, NoBlock, DirectoryFull, FileFull}
@@ -20,6 +25,7 @@ use Rattle.crash_model.specs.declared.plans.Change.{Change}
 use Rattle.crash_model.specs.declared.plans.Role.{Role}
 use Rattle.crash_model.specs.declared.plans.Role.TheVariants.{InodeInit, EntrySet, EntryClear, MapSet, MapClear}
 use Rattle.crash_model.specs.declared.plans.Role.TheVariants.{InitFile, InitDir, Ptr, LinkUp, LinkDown, InodeFree}
+use Rattle.crash_model.specs.declared.plans.Role.TheVariants.{PtrClear, NewData, Touch}
 
 -- ---- answers, which may be refusals
 
@@ -108,11 +114,16 @@ change role block offset new = record { block = block; offset = offset; new = re
 abbrev pub at_inode : Role → ℕ → ℕ → List ℕ → Change
 at_inode role inode from new = change role (inode_block inode) (inode_offset inode + from) new
 
-abbrev pub inode_init : ℕ → ℕ → Change
-inode_init inode kind = at_inode InodeInit inode 0 (kind ∷ 1 ∷ replicate 14 0)
+-- it keeps its generation
+abbrev pub inode_init : Disk → ℕ → ℕ → Change
+inode_init d inode kind = at_inode InodeInit inode 0 (kind ∷ 1 ∷ generation_of d inode ∷ replicate 13 0)
 
-abbrev pub inode_free : ℕ → Change
-inode_free inode = at_inode InodeFree inode 0 (replicate INODE_SIZE 0)
+-- the generation after that of an inode; 0 on a disk without generations
+unfoldable pub next_generation : Disk → ℕ → ℕ
+next_generation d inode = if d.generations then (generation_of d inode + 1) % 256 else 0
+
+abbrev pub inode_free : Disk → ℕ → Change
+inode_free d inode = at_inode InodeFree inode 0 (0 ∷ 0 ∷ next_generation d inode ∷ replicate 13 0)
 
 abbrev pub link_count : Role → ℕ → ℕ → Change
 link_count role inode links = at_inode role inode 1 (links ∷ [])
@@ -132,8 +143,21 @@ map_set block = change MapSet 1 block (1 ∷ [])
 abbrev pub map_clear : ℕ → Change
 map_clear block = change MapClear 1 block (0 ∷ [])
 
-abbrev pub init_block : Role → ℕ → ℕ → ℕ → Change
-init_block role block mark inode = change role block 0 (mark ∷ inode ∷ replicate 126 0)
+abbrev pub init_block : Disk → Role → ℕ → ℕ → ℕ → Change
+init_block d role block mark inode = change role block 0 (mark ∷ inode ∷ generation_of d inode ∷ replicate 125 0)
+
+-- the byte of a block that stands for its data, and one of an inode, each one more
+abbrev pub new_data : Disk → ℕ → Change
+new_data d block = change NewData block DATA_FROM ((byte d block DATA_FROM + 1) % 256 ∷ [])
+
+abbrev pub touched_of : Disk → ℕ → ℕ
+touched_of d inode = slice_index d.bytes (KINDS_AT + INODE_SIZE * inode + TOUCHED_FROM)
+
+abbrev pub touch : Disk → ℕ → Change
+touch d inode = at_inode Touch inode TOUCHED_FROM ((touched_of d inode + 1) % 256 ∷ [])
+
+abbrev pub pointers_clear : ℕ → Change
+pointers_clear inode = at_inode PtrClear inode POINTERS_FROM (replicate SLOTS 0)
 
 -- of an inode's pointers into the data area, by ascending slot
 abbrev pub map_clear_at : Disk → ℕ → ℕ → Option Change
@@ -142,10 +166,31 @@ map_clear_at d inode slot = let block = pointer_of d inode slot in when (is_data
 abbrev pub map_clears : Disk → ℕ → List Change
 map_clears d inode = some_below SLOTS (map_clear_at d inode)
 
+-- of the block in a slot, if that is one of the data area
+abbrev pub new_data_at : Disk → ℕ → ℕ → Option Change
+new_data_at d inode slot = let block = pointer_of d inode slot in when (is_data d block) (new_data d block)
+
+-- of the block in one slot, or of the blocks in all slots
+abbrev pub new_data_in : Disk → ℕ → Option Slot → List Change
+new_data_in d inode None = some_below SLOTS (new_data_at d inode)
+new_data_in d inode (Some slot) = option_to_list (new_data_at d inode (slot_number slot))
+
+-- a file's inode has a name less, and after the last one the inode and its blocks are free
+abbrev pub name_dropped : Disk → ℕ → List Change
+name_dropped d inode =
+    if nat_lt 1 (links_of d inode)
+    then link_count LinkDown inode (links_of d inode - 1) ∷ []
+    else (inode_free d inode ∷ map_clears d inode)
+
 -- ---- the operations
 
 abbrev pub has_entries : Disk → ℕ → Bool
 has_entries d dir = is_some (first_below ENTRIES (is_entry d dir))
+
+-- a slot that is asked for names no block
+abbrev pub lacks_block_in : Disk → ℕ → Option Slot → Bool
+lacks_block_in d inode None = false
+lacks_block_in d inode (Some slot) = pointer_of d inode (slot_number slot) == 0
 
 -- one more name for a file, and then more changes, made of the old directory and entry and of the file
 abbrev pub relink_plan : Disk → Path → Path → (ℕ → ℕ → ℕ → List Change) → Result (List Change) FsFault
@@ -165,20 +210,18 @@ plan_of d (Create path) =
     unless (is_some (entry_named d dir name)) Exists
     (with_found (free_inode d) NoInode (λ inode.
     with_found (free_entry d dir) DirectoryFull (λ k.
-    Ok (inode_init inode FILE_KIND ∷ entry_set d dir k inode name ∷ [])))))
+    Ok (inode_init d inode FILE_KIND ∷ entry_set d dir k inode name ∷ [])))))
 plan_of d (Write path) =
     at_entry d path (λ dir k target.
     unless (not (kind_of d target == FILE_KIND)) NotAFile
     (with_found (free_block d) NoBlock (λ block.
     with_found (free_slot d target) FileFull (λ slot.
-    Ok (map_set block ∷ init_block InitFile block FILE_MARK target ∷ pointer_set target slot block ∷ [])))))
+    Ok (map_set block ∷ init_block d InitFile block FILE_MARK target ∷ pointer_set target slot block ∷ [])))))
 plan_of d (Link old new) = relink_plan d old new (λ dir k target. [])
 plan_of d (Unlink path) =
     at_entry d path (λ dir k target.
     unless (not (kind_of d target == FILE_KIND)) NotAFile
-    (Ok (entry_clear d dir k ∷ (if nat_lt 1 (links_of d target)
-    then link_count LinkDown target (links_of d target - 1) ∷ []
-    else (inode_free target ∷ map_clears d target)))))
+    (Ok (entry_clear d dir k ∷ name_dropped d target)))
 plan_of d (Rename old new) =
     relink_plan d old new (λ dir k target. entry_clear d dir k ∷ link_count LinkDown target (links_of d target) ∷ [])
 plan_of d (Mkdir path) =
@@ -187,13 +230,31 @@ plan_of d (Mkdir path) =
     (with_found (free_inode d) NoInode (λ inode.
     with_found (free_block d) NoBlock (λ block.
     with_found (free_entry d dir) DirectoryFull (λ k.
-    Ok (inode_init inode DIRECTORY_KIND ∷ map_set block ∷ init_block InitDir block DIRECTORY_MARK inode
+    Ok (inode_init d inode DIRECTORY_KIND ∷ map_set block ∷ init_block d InitDir block DIRECTORY_MARK inode
     ∷ pointer_set inode 0 block ∷ entry_set d dir k inode name ∷ []))))))
 plan_of d (Rmdir path) =
     at_entry d path (λ dir k target.
     unless (not (kind_of d target == DIRECTORY_KIND)) NotADirectory
     (unless (has_entries d target) NotEmpty
-    (Ok (entry_clear d dir k ∷ inode_free target ∷ option_to_list (map_clear_at d target 0)))))
+    (Ok (entry_clear d dir k ∷ inode_free d target ∷ option_to_list (map_clear_at d target 0)))))
+plan_of d (Overwrite path slot) =
+    at_entry d path (λ dir k target.
+    unless (not (kind_of d target == FILE_KIND)) NotAFile
+    (unless (lacks_block_in d target slot) NotFound
+    (Ok (new_data_in d target slot ++ touch d target ∷ []))))
+plan_of d (Truncate path) =
+    at_entry d path (λ dir k target.
+    unless (not (kind_of d target == FILE_KIND)) NotAFile
+    (Ok (pointers_clear target ∷ map_clears d target)))
+plan_of d (Replace old new) =
+    at_entry d old (λ old_dir old_k target. at_entry d new (λ dir k other.
+    unless (not (kind_of d target == FILE_KIND)) NotAFile
+    (unless (not (kind_of d other == FILE_KIND)) NotAFile
+    (unless (target == other) Exists
+    (unless (nat_le MOST_LINKS (links_of d target)) LinksFull
+    (Ok (link_count LinkUp target (links_of d target + 1) ∷ entry_set d dir k target new.last
+    ∷ entry_clear d old_dir old_k ∷ link_count LinkDown target (links_of d target)
+    ∷ name_dropped d other)))))))
 
 -- the disk with a list of changes made, the first first
 abbrev pub with_changes : Disk → List Change → Disk

@@ -5,6 +5,7 @@ use Rattle.std.specs.List.{list_any}
 use Rattle.crash_model.specs.declared.plans.Role.{Role}
 use Rattle.crash_model.specs.declared.plans.Role.TheVariants.{InodeInit, EntrySet, EntryClear, MapSet, MapClear}
 use Rattle.crash_model.specs.declared.plans.Role.TheVariants.{InitFile, InitDir, Ptr, LinkUp, LinkDown, InodeFree}
+use Rattle.crash_model.specs.declared.plans.Role.TheVariants.{PtrClear, NewData, Touch}
 use Rattle.crash_model.specs.declared.rules.Part.{Part}
 use Rattle.crash_model.specs.declared.rules.Part.TheVariants as part
 use Rattle.crash_model.specs.declared.rules.RulePart.{RulePart}
@@ -29,10 +30,14 @@ role_text Ptr = codes "Ptr"
 role_text LinkUp = codes "LinkUp"
 role_text LinkDown = codes "LinkDown"
 role_text InodeFree = codes "InodeFree"
+role_text PtrClear = codes "PtrClear"
+role_text NewData = codes "NewData"
+role_text Touch = codes "Touch"
 
 abbrev pub part_text : Part → List ℕ
 part_text (part.InPlace role) = role_text role
 part_text part.FileData = codes "FileData"
+part_text part.NewData = codes "NewData"
 part_text part.Copy = codes "Copy"
 part_text part.Commit = codes "Commit"
 part_text part.Done = codes "Done"
@@ -59,6 +64,7 @@ rule_text rule = rule_part_text rule.later ++ codes ":" ++ scope_text rule.scope
 -- the rule names a patch with this part
 abbrev pub has_part : RulePart → Part → Bool
 has_part (Change role) (part.InPlace other) = bytes_eq (role_text role) (role_text other)
+has_part (Change NewData) part.NewData = true
 has_part InPlace (part.InPlace other) = true
 has_part FileData part.FileData = true
 has_part Copy part.Copy = true
@@ -95,6 +101,7 @@ soft_rules =
     ∷ same_rule (Change InodeFree) (Change EntryClear)
     ∷ same_rule (Change MapClear) (Change InodeFree)
     ∷ same_rule (Change EntryClear) (Change EntrySet)
+    ∷ same_rule (Change MapClear) (Change PtrClear)
     ∷ []
 
 -- a journal

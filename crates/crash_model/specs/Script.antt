@@ -1,11 +1,14 @@
 -- Scripts: their lines, what a line says, and which line is refused first.
 use Rattle.std.specs.Prelude.{◌≡◌, ◌≢◌, ℕ, ◌+◌, ◌≤◌, ◌⊎◌, List, [], ◌∷◌, ◌++◌, length, codes, IsUtf8, Some, map}
-use Rattle.std.specs.Prelude.{flat_map, slice_get, All, Contains}
+use Rattle.std.specs.Prelude.{flat_map, slice_get, All, Contains, Option, None, option_to_list}
 use Rattle.crash_model.specs.declared.separators.TheConstants.{LINE_FEED, SPACE, SLASH}
 use Rattle.crash_model.specs.Lists.{join_of}
 use Rattle.crash_model.specs.Names.{IsName, IsGroupName}
+use Rattle.crash_model.specs.Slots.{slot_text, IsSlotWord}
 use Rattle.crash_model.specs.declared.names.Path.{Path}
 use Rattle.crash_model.specs.declared.operations.Op.TheVariants.{Create, Write, Link, Unlink, Rename, Mkdir, Rmdir}
+use Rattle.crash_model.specs.declared.operations.Op.TheVariants.{Overwrite, Truncate, Replace}
+use Rattle.crash_model.specs.declared.operations.Slot.{Slot}
 use Rattle.crash_model.specs.declared.refusals.ScriptFault.{ScriptFault}
 use Rattle.crash_model.specs.declared.refusals.ScriptFault.TheVariants.{BadUtf8, BadLine, BadPath, NoStart, OutOfMemory}
 use Rattle.crash_model.specs.declared.steps.Act.{Act}
@@ -50,10 +53,11 @@ pub record IsPath (path : Path) : Type 0 where
 abbrev pub IsPathWord : List ℕ → Type 0
 IsPathWord word = (path : Path) × IsPath path × (word ≡ path_text path)
 
--- what follows a line's first word: a path, or the name of a group
+-- what follows a line's first word: a path, the name of a group, or a slot, which may be left out
 pub data Operand : Type 0 where
   PathOperand : Path → Operand
   GroupOperand : List ℕ → Operand
+  SlotOperand : Option Slot → Operand
 
 -- the line of an act: its first word, and its operands
 abbrev pub said : Act → List ℕ × List Operand
@@ -64,38 +68,58 @@ said (Do (Unlink p)) = (codes "unlink", PathOperand p ∷ [])
 said (Do (Rename p q)) = (codes "rename", PathOperand p ∷ PathOperand q ∷ [])
 said (Do (Mkdir p)) = (codes "mkdir", PathOperand p ∷ [])
 said (Do (Rmdir p)) = (codes "rmdir", PathOperand p ∷ [])
+said (Do (Overwrite p slot)) = (codes "overwrite", PathOperand p ∷ SlotOperand slot ∷ [])
+said (Do (Truncate p)) = (codes "truncate", PathOperand p ∷ [])
+said (Do (Replace p q)) = (codes "replace", PathOperand p ∷ PathOperand q ∷ [])
 said (Group a) = (codes "group", GroupOperand a ∷ [])
 said End = (codes "end", [])
 said (Depend b a) = (codes "depend", GroupOperand b ∷ GroupOperand a ∷ [])
 
-abbrev pub operand_text : Operand → List ℕ
-operand_text (PathOperand path) = path_text path
-operand_text (GroupOperand name) = name
+-- its word, or none for a slot that is left out
+abbrev pub operand_words : Operand → List (List ℕ)
+operand_words (PathOperand path) = path_text path ∷ []
+operand_words (GroupOperand name) = name ∷ []
+operand_words (SlotOperand slot) = map slot_text (option_to_list slot)
 
 abbrev pub words_of : Act → List (List ℕ)
-words_of act = (said act).0 ∷ map operand_text (said act).1
+words_of act = (said act).0 ∷ flat_map operand_words (said act).1
 
 -- paths and names of groups as they must be
 abbrev pub AreLawful : List Operand → Type 0
 AreLawful [] = Unit {0}
 AreLawful (PathOperand path ∷ operands) = IsPath path × AreLawful operands
 AreLawful (GroupOperand name ∷ operands) = IsGroupName name × AreLawful operands
+AreLawful (SlotOperand slot ∷ operands) = AreLawful operands
 
 abbrev pub IsAct : Act → Type 0
 IsAct act = AreLawful (said act).1
 
--- a word for each operand, no word empty, and names of groups where they belong
+-- a word for each operand, but for a slot at the end that is left out; no word empty, and names of groups where they
+-- belong
 abbrev pub Fits : List Operand → List (List ℕ) → Type 0
 Fits [] [] = Unit {0}
 Fits (PathOperand _ ∷ operands) (word ∷ words) = (word ≢ []) × Fits operands words
 Fits (GroupOperand _ ∷ operands) (word ∷ words) = IsGroupName word × Fits operands words
+Fits (SlotOperand _ ∷ []) [] = Unit {0}
+Fits (SlotOperand _ ∷ operands) (word ∷ words) = (word ≢ []) × Fits operands words
 Fits _ _ = ⊥
 
 -- paths where they belong
 abbrev pub HasPaths : List Operand → List (List ℕ) → Type 0
 HasPaths (PathOperand _ ∷ operands) (word ∷ words) = IsPathWord word × HasPaths operands words
 HasPaths (GroupOperand _ ∷ operands) (word ∷ words) = HasPaths operands words
+HasPaths (SlotOperand _ ∷ operands) (word ∷ words) = HasPaths operands words
 HasPaths _ _ = Unit {0}
+
+-- slots where they belong
+abbrev pub HasSlots : List Operand → List (List ℕ) → Type 0
+HasSlots (SlotOperand _ ∷ operands) (word ∷ words) = IsSlotWord word × HasSlots operands words
+HasSlots (_ ∷ operands) (word ∷ words) = HasSlots operands words
+HasSlots _ _ = Unit {0}
+
+-- paths where they belong, and a word in the place of a slot that is none
+abbrev pub HasBadSlot : List Operand → List (List ℕ) → Type 0
+HasBadSlot operands words = HasPaths operands words × (¬ (HasSlots operands words))
 
 -- the line has an act's form, with these words in place of its operands
 pub record HasForm (line : List ℕ) (like : Act) (words : List (List ℕ)) : Type 0 where
@@ -155,11 +179,12 @@ pub record IsFirstRefused (bytes : List ℕ) (n : ℕ) (P : List (List ℕ) → 
   pub number : n ≡ length before + 1
   pub refused : P before line
 
--- text that is not passed over, is no start line and has the form of no act, or a second start line
+-- text that is not passed over, is no start line and has the form of no act, or a bad slot in the one that it has; or a
+-- second start line
 abbrev pub IsBadLine : List (List ℕ) → List ℕ → Type 0
 IsBadLine before line =
     (IsUtf8 line × (¬ (IsSkipped line)) × (line ≢ codes "start")
-    × ((like : Act) (words : List (List ℕ)) → ¬ (HasForm line like words)))
+    × ((like : Act) (words : List (List ℕ)) → HasForm line like words → HasBadSlot (said like).1 words))
     ⊎ ((line ≡ codes "start") × Contains before (codes "start"))
 
 -- text of an act's form, in which a word is no path

@@ -16,10 +16,12 @@ use Rattle.crash_model.specs.declared.refusals.FsFault.{FsFault}
 use Rattle.crash_model.specs.declared.refusals.TraceFault.{TraceFault}
 use Rattle.crash_model.specs.declared.refusals.TraceFault.TheVariants as no
 use Rattle.crash_model.specs.declared.plans.Change.{Change}
-use Rattle.crash_model.specs.declared.plans.Role.TheVariants.{InitFile}
+use Rattle.crash_model.specs.declared.plans.Role.{Role}
+use Rattle.crash_model.specs.declared.plans.Role.TheVariants.{InitFile, NewData}
 use Rattle.crash_model.specs.declared.operations.Op.{Op}
 use Rattle.crash_model.specs.declared.rules.Part.{Part}
 use Rattle.crash_model.specs.declared.rules.Part.TheVariants.{InPlace, FileData, Copy, Commit, Done}
+use Rattle.crash_model.specs.declared.rules.Part.TheVariants as part
 use Rattle.crash_model.specs.declared.rules.Rule.{Rule}
 use Rattle.crash_model.specs.declared.patches.Patch.{Patch}
 use Rattle.crash_model.specs.declared.modules.Module.{Module}
@@ -81,7 +83,12 @@ in_place_patch turn origin c =
     record { place = place c.block c.offset c.new.items; part = InPlace c.role; turn = turn; origin = origin }
 
 abbrev pub is_file_data : Change → Bool
-is_file_data c = elim c.role [ InitFile ↦ true | _ ↦ false ]
+is_file_data c = elim c.role [ InitFile ↦ true | NewData ↦ true | _ ↦ false ]
+
+-- what the patch of a change of file data is under meta
+abbrev pub data_part : Role → Part
+data_part NewData = part.NewData
+data_part _ = FileData
 
 -- the changes that go through the journal under meta
 abbrev pub metadata_changes : List Change → List Change
@@ -114,7 +121,7 @@ journal_patches after turn j origin targets changes =
 -- the operation with the file data that go ahead of it
 abbrev pub transaction : Disk → ℕ → ℕ → Origin → List Change → List Emitted
 transaction after turn j origin changes =
-    map (λ c. part_of turn origin FileData c.block c.offset c.new.items) (filter is_file_data changes)
+    map (λ c. part_of turn origin (data_part c.role) c.block c.offset c.new.items) (filter is_file_data changes)
     ++ journal_patches after turn j origin (touched_blocks after.blocks (metadata_changes changes))
     (metadata_changes changes)
 

@@ -39,11 +39,20 @@ pub const KINDS_AT: usize = 2 * BLOCK_SIZE;
 /// Where the link count of inode 0 is on the disk.
 pub const LINKS_AT: usize = KINDS_AT + 1;
 
+/// Where the generation of inode 0 is on the disk.
+pub const GENERATIONS_AT: usize = KINDS_AT + 2;
+
 /// Where the first pointer of inode 0 is on the disk.
 pub const POINTERS_AT: usize = KINDS_AT + 4;
 
 /// Where an inode's first pointer is among its bytes.
 pub const POINTERS_FROM: u8 = 4;
+
+/// Where an inode's byte that an overwriting changes is among its bytes.
+pub const TOUCHED_FROM: u8 = 8;
+
+/// Where the byte that an overwriting changes is in a file's block.
+pub const DATA_FROM: u8 = 3;
 
 /// How many pointers an inode has.
 pub const SLOTS: u8 = 4;
@@ -67,7 +76,7 @@ pub const LONGEST_NAME: usize = 10;
 pub const SPELLING_SIZE: usize = LONGEST_NAME + 1;
 
 /// The most changes that an operation makes.
-pub const MOST_CHANGES: usize = 8;
+pub const MOST_CHANGES: usize = 9;
 
 /// The most blocks that the header of a transaction names.
 pub const MOST_TARGETS: usize = 8;

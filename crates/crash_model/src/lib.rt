@@ -19,3 +19,4 @@ pub mod rules;
 pub mod separators;
 pub mod settings;
 pub mod steps;
+pub mod visit;

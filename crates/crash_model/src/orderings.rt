@@ -6,7 +6,7 @@ ghost use Rattle.crash_model.specs.Rules.{rules_of, rules_taken_out, kept_rules,
 use crate::modules::Module;
 use crate::plans::Role::{
     EntryClear, EntrySet, InitDir, InitFile, InodeFree, InodeInit, LinkDown, LinkUp, MapClear,
-    MapSet, Ptr,
+    MapSet, Ptr, PtrClear,
 };
 use crate::rule_lists::{MAX_GIVEN, RuleList, rules_in_both, rules_in_first};
 use crate::rules::Rule;
@@ -18,8 +18,8 @@ use arrayvec::ArrayVec;
 ///
 /// Nothing points to a structure that is not initialised: an entry waits for its inode and that inode's pointer, a
 /// pointer for its block, a block for its mark in the map. Nothing is used again while something points to it: an
-/// inode is freed after its entry, a block after its inode. The last pointer to something stays until a new one is
-/// there: an old entry waits for the new one, and link counts are never too low.
+/// inode is freed after its entry, a block after its inode or after the pointers that are cleared. The last pointer to
+/// something stays until a new one is there: an old entry waits for the new one, and link counts are never too low.
 static SOFT: [Rule; MAX_OWN] = [
     Rule {
         later: Change(EntrySet),
@@ -79,6 +79,11 @@ static SOFT: [Rule; MAX_OWN] = [
     Rule {
         later: Change(EntryClear),
         earlier: Change(EntrySet),
+        scope: Same,
+    },
+    Rule {
+        later: Change(MapClear),
+        earlier: Change(PtrClear),
         scope: Same,
     },
 ];
@@ -165,7 +170,7 @@ impl Module {
 }
 
 /// The most rules that a module has.
-pub const MAX_OWN: usize = 12;
+pub const MAX_OWN: usize = 13;
 
 /// The most rules that an ordering has: those of a module, and as many as a user puts in.
 pub const MAX_RULES: usize = MAX_OWN + MAX_GIVEN;

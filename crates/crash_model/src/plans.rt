@@ -10,7 +10,8 @@ use arrayvec::ArrayVec;
 ///
 /// `InodeInit` and `InodeFree` write a whole inode, `EntrySet` and `EntryClear` a directory entry, `MapSet` and
 /// `MapClear` a block's byte of the allocation map, `InitFile` and `InitDir` a new block, `Ptr` a block pointer,
-/// `LinkUp` and `LinkDown` a link count.
+/// `LinkUp` and `LinkDown` a link count, `PtrClear` all pointers of an inode, `NewData` the data of a block anew, and
+/// `Touch` the inode of a file whose data are written anew.
 #[derive(Clone, Copy, Debug, PartialEq, Eq, Default)]
 pub enum Role {
     #[default]
@@ -25,6 +26,9 @@ pub enum Role {
     LinkUp,
     LinkDown,
     InodeFree,
+    PtrClear,
+    NewData,
+    Touch,
 }
 
 impl Role {
@@ -44,6 +48,9 @@ impl Role {
             Role::LinkUp => "LinkUp",
             Role::LinkDown => "LinkDown",
             Role::InodeFree => "InodeFree",
+            Role::PtrClear => "PtrClear",
+            Role::NewData => "NewData",
+            Role::Touch => "Touch",
         }
     }
 }

@@ -11,12 +11,14 @@ use std::fmt;
 /// The part that a patch plays in its operation.
 ///
 /// `InPlace` is one of the operation's changes where it belongs. The others are parts of a transaction of the
-/// journal: `FileData` is a new file's block, written ahead of the transaction, `Copy` is the image of a block in the
-/// journal, `Commit` the header that commits the transaction, and `Done` the header's mark that all is in place.
+/// journal: `FileData` is a new file's block, written ahead of the transaction, `NewData` are data of a block that are
+/// written anew and stay out of the journal, `Copy` is the image of a block in the journal, `Commit` the header that
+/// commits the transaction, and `Done` the header's mark that all is in place.
 #[derive(Clone, Copy, Debug, PartialEq, Eq, Default)]
 pub enum Part {
     InPlace(Role),
     FileData,
+    NewData,
     Copy,
     #[default]
     Commit,
@@ -31,6 +33,7 @@ impl Part {
         match self {
             Part::InPlace(role) => role.name(),
             Part::FileData => "FileData",
+            Part::NewData => "NewData",
             Part::Copy => "Copy",
             Part::Commit => "Commit",
             Part::Done => "Done",
@@ -38,7 +41,7 @@ impl Part {
     }
 }
 
-/// The patches that a rule is about: changes in place of one role or of any role, or one of the other parts of a
+/// The patches that a rule is about: changes of one role, changes in place of any role, or one of the other parts of a
 /// transaction.
 #[derive(Clone, Copy, Debug, PartialEq, Eq, Default)]
 pub enum RulePart {
@@ -68,6 +71,9 @@ impl RulePart {
             "LinkUp" => Some(RulePart::Change(Role::LinkUp)),
             "LinkDown" => Some(RulePart::Change(Role::LinkDown)),
             "InodeFree" => Some(RulePart::Change(Role::InodeFree)),
+            "PtrClear" => Some(RulePart::Change(Role::PtrClear)),
+            "NewData" => Some(RulePart::Change(Role::NewData)),
+            "Touch" => Some(RulePart::Change(Role::Touch)),
             "InPlace" => Some(RulePart::InPlace),
             "FileData" => Some(RulePart::FileData),
             "Copy" => Some(RulePart::Copy),
@@ -104,7 +110,8 @@ impl RulePart {
     {
         match (self, part) {
             (RulePart::Change(role), Part::InPlace(other)) => role == other,
-            (RulePart::InPlace, Part::InPlace(_))
+            (RulePart::Change(Role::NewData), Part::NewData)
+            | (RulePart::InPlace, Part::InPlace(_))
             | (RulePart::FileData, Part::FileData)
             | (RulePart::Copy, Part::Copy)
             | (RulePart::Commit, Part::Commit)

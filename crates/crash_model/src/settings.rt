@@ -1,4 +1,4 @@
-//! What a run is asked for besides its script.
+//! What a run is asked for besides its script and its question.
 
 ghost use Rattle.std.specs.Prelude.{◌≡◌};
 ghost use Rattle.crash_model.specs.Rules.{rules_under, rules_taken_out, rules_put_in};
@@ -7,39 +7,14 @@ use crate::modules::Module;
 use crate::orderings::Ordering;
 use crate::rule_lists::RuleList;
 
-/// The most sets that the board holds.
-pub const MAX_BOARD: usize = state_space::MAX_BOARD;
-
-/// The most closed sets that a run can be asked to explore.
-pub const MAX_LIMIT: usize = 1_000_000_000;
-
-/// Who explores: the board that workers share, which holds up to 32,768 sets, or the sweep, which keeps no table.
-///
-/// `Auto` is the board if the limit is at most 32,768, else the sweep.
-#[derive(Clone, Copy, Debug, PartialEq, Eq)]
-pub enum Explorer {
-    Auto,
-    Board,
-    Sweep,
-}
-
-/// The body of a report: the failing sets, each fault once, or for each rule what a crash can leave
-/// without it.
-#[derive(Clone, Copy, Debug, PartialEq, Eq)]
-pub enum ReportBy {
-    BySet,
-    ByFault,
-    ByRule,
-}
-
 /// The settings of a run.
 ///
 /// The ordering is the module's with the rules `without` taken out and the rules `with` put in at its end. The disk
-/// has `blocks` blocks of 128 bytes, of which `journal` are the journal's. A run that has more than `limit` closed
-/// sets is refused. The report is JSON if `json` is set, else text; with `explain` it says what the patches are
-/// and what replay changes. With `whole_blocks` a block is written with all changes that it has in memory, so a patch
-/// depends on each earlier one of its block. With `strict` the checker also requires of each image that nothing
-/// the script keeps is lost; with `atomic`, that it shows the disk after some number of whole operations.
+/// has `blocks` blocks of 128 bytes, of which `journal` are the journal's. The report is JSON if `json` is set, else
+/// text; with `explain` it says what the patches are and what replay changes. With `whole_blocks` a block is written
+/// with all changes that it has in memory, so a patch depends on each earlier one of its block. With `generations` the
+/// inodes and the marks of blocks on the disk have generations. With `strict` the checker also requires of each image
+/// that nothing the script keeps is lost; with `atomic`, that it shows the disk after some number of whole operations.
 #[derive(Debug, PartialEq, Eq, Drop)]
 pub struct Settings {
     pub module: Module,
@@ -47,14 +22,12 @@ pub struct Settings {
     pub with: RuleList,
     pub blocks: usize,
     pub journal: usize,
-    pub limit: usize,
-    pub explorer: Explorer,
     pub json: bool,
     pub explain: bool,
     pub whole_blocks: bool,
+    pub generations: bool,
     pub strict: bool,
     pub atomic: bool,
-    pub by: ReportBy,
 }
 
 impl Settings {

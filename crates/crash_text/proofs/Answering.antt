@@ -1,94 +1,74 @@
 -- What the parts of a run find makes its answer.
-use Rattle.std.proofs.Common.{◌≡◌, ◌≢◌, ℕ, List, Ok, Err, Bool, true, false, refl, subst, sym, inl, inr}
-use Rattle.report_model.specs.Answer.{Refused, Reported, HasBase, IsAnswer, bad_geometry, bad_base, bad_trace, too_many}
-use Rattle.report_model.specs.Answer.{reported, bad_script}
-use Rattle.crash_model.specs.Disk.{Disk, IsGeometry, empty_disk}
+use Rattle.std.proofs.Common.{◌≡◌, ℕ, List, Ok, Err, subst, sym, inl, inr}
+use Rattle.report_model.specs.Answer.{Refused, Reported, HasBase, HasGraph, IsReport, IsReported, IsUntraced, untraced}
+use Rattle.report_model.specs.Answer.{bad_script, bad_geometry, bad_base, bad_trace, too_many, reported}
+use Rattle.crash_model.specs.Checker.{Demands}
+use Rattle.crash_model.specs.Disk.{Disk, IsGeometry, new_disk}
 use Rattle.crash_model.specs.Refusals.{run_of_script, run_of_trace}
 use Rattle.crash_model.specs.Script.{IsScript, IsScriptRefusal}
-use Rattle.crash_model.specs.Trace.{base_from}
+use Rattle.crash_model.specs.Trace.{Tracing, base_from}
+use Rattle.crash_model.specs.Patches.{ExceedsLimit}
+use Rattle.crash_model.specs.declared.patches.Patch.{Patch}
 use Rattle.crash_model.specs.declared.refusals.RunFault.{RunFault}
 use Rattle.crash_model.specs.declared.refusals.RunFault.TheVariants.{BadGeometry, TooMany}
 use Rattle.crash_model.specs.declared.refusals.ScriptFault.{ScriptFault}
-use Rattle.crash_model.specs.declared.refusals.ScriptFault.TheVariants as script
 use Rattle.crash_model.specs.declared.refusals.TraceFault.{TraceFault}
-use Rattle.crash_model.specs.declared.refusals.TraceFault.TheVariants as trace
 use Rattle.crash_model.specs.declared.settings.Settings.{Settings}
 use Rattle.crash_model.specs.declared.steps.Step.{Step}
+use Rattle.crash_model.specs.declared.visit.Visit.{Visit}
 use Rattle.question_model.specs.Answers.{IsAnswerTo}
 use Rattle.question_model.specs.declared.question.Question.{Question}
-use Rattle.question_model.specs.declared.question.Question.TheVariants.{Visit, Decide, Enough, Search, SearchRules}
-use Rattle.question_model.specs.declared.most.Most.{Most}
+use Rattle.question_model.specs.declared.question.Question.TheVariants as asks
+use Rattle.question_model.specs.declared.question.Question.TheVariants.{Decide, Enough, Search, SearchRules}
+use Rattle.question_model.specs.declared.length.WorkloadLength.{WorkloadLength}
 use Rattle.question_model.specs.SearchReport.{IsSearchRefusal, before_the_pool, no_operation}
-use Rattle.worked_example_laws.proofs.Scripts.{read_or_refused, script_one}
+use Rattle.uniqueness_laws.proofs.Scripts.{read_or_refused, script_one}
 use Rattle.crash_text.specs.BaseRefusal.{IsBaseRefusal}
 use Rattle.crash_text.specs.Searching.{IsNoPool, IsSearchOf}
 use Rattle.crash_text.specs.SearchingRules.{IsRuleSearchOf}
-use Rattle.crash_text.specs.Telling.{AreReported, AreRefused, IsOfSteps}
-
--- whether a refusal is for too many closed sets
-abbrev pub is_too_many : RunFault → Bool
-is_too_many TooMany = true
-is_too_many _ = false
-
-script_is_not : (fault : ScriptFault) → is_too_many (run_of_script fault) ≡ false
-script_is_not (script.BadUtf8 line) = refl
-script_is_not _ = refl
-
-trace_is_not : (fault : TraceFault) → is_too_many (run_of_trace fault) ≡ false
-trace_is_not (trace.NotFound line) = refl
-trace_is_not _ = refl
+use Rattle.crash_text.specs.Traced.{IsTraced, IsTraceRefusal, IsReportOn}
+use Rattle.crash_text.specs.declared.traced_script.TracedScript.{TracedScript}
 
 module _ (bytes : List ℕ) (settings : Settings) where
+  abbrev formatted : Disk
+  formatted = new_disk settings.blocks settings.journal settings.generations
+
   -- where a script is read and its base built, the answer has that base
   pub has_base : (before built steps : List Step) (base : Disk) → IsScript bytes before steps
-      → IsGeometry settings.blocks settings.journal → built ≡ before
-      → base_from (empty_disk settings.blocks settings.journal) built ≡ Ok base → HasBase bytes settings base steps
+      → IsGeometry settings.blocks settings.journal → built ≡ before → base_from formatted built ≡ Ok base
+      → HasBase bytes settings base steps
   has_base before built steps base read geometry same is = record {
     before = before;
     read = read;
     geometry = geometry;
-    built = subst (λ (s : List Step). base_from (empty_disk settings.blocks settings.journal) s ≡ Ok base) same is;
+    built = subst (λ (s : List Step). base_from formatted s ≡ Ok base) same is;
   }
-
-  not_too_many : (fault : RunFault) → is_too_many fault ≡ false → fault ≢ TooMany
-  not_too_many fault other same =
-      let many : is_too_many fault ≡ true = subst (λ f. is_too_many f ≡ true) (sym same) refl in cc
 
   -- there is no base, so no step after the start line is asked about
   abbrev HasNone : Type 0
   HasNone = (base : Disk) (steps : List Step) → ¬ (HasBase bytes settings base steps)
 
-  -- a refusal that is not for too many closed sets answers each question about steps
-  refused_of : (question : Question) (fault : RunFault) → IsOfSteps question → is_too_many fault ≡ false
-      → IsAnswer bytes settings (Refused fault) → IsAnswerTo question bytes settings (Refused fault)
-  refused_of Visit fault asked other is = is
-  refused_of Decide fault asked other is = (is, not_too_many fault other)
-  refused_of Enough fault asked other is = (is, not_too_many fault other)
-  refused_of (Search most) fault asked other is = absurd asked
-  refused_of (SearchRules most) fault asked other is = absurd asked
-
-  -- and without a base each question
-  refused_to : (question : Question) (fault : RunFault) → HasNone → is_too_many fault ≡ false
-      → IsAnswer bytes settings (Refused fault) → IsAnswerTo question bytes settings (Refused fault)
-  refused_to Visit fault none other is = is
-  refused_to Decide fault none other is = refused_of Decide fault tt other is
-  refused_to Enough fault none other is = refused_of Enough fault tt other is
-  refused_to (Search most) fault none other is = before_the_pool fault is none
-  refused_to (SearchRules most) fault none other is = before_the_pool fault is none
+  -- without a base each question is refused alike
+  refused_to : (question : Question) (fault : RunFault) → HasNone → IsUntraced bytes settings fault
+      → IsAnswerTo question bytes settings (Refused fault)
+  refused_to (asks.Visit visit) fault none is = untraced fault is
+  refused_to Decide fault none is = is
+  refused_to Enough fault none is = is
+  refused_to (Search longest) fault none is = before_the_pool fault is none
+  refused_to (SearchRules longest) fault none is = before_the_pool fault is none
 
   pub refused_script : (question : Question) (fault : ScriptFault) → IsScriptRefusal bytes fault
       → IsAnswerTo question bytes settings (Refused (run_of_script fault))
   refused_script question fault is = refused_to question (run_of_script fault)
-      (λ base steps start. read_or_refused bytes start.before steps fault start.read is) (script_is_not fault)
-      (bad_script fault is)
+      (λ base steps start. read_or_refused bytes start.before steps fault start.read is) (bad_script fault is)
 
   -- a step before the start line is refused
   no_base : (before steps : List Step) (why : TraceFault) → IsScript bytes before steps
-      → base_from (empty_disk settings.blocks settings.journal) before ≡ Err why → HasNone
+      → base_from formatted before ≡ Err why → HasNone
   no_base before steps why read bad base others start =
       let same : before ≡ start.before = (script_one bytes before steps start.before others read start.read).0 in
-      let built : base_from (empty_disk settings.blocks settings.journal) before ≡ Ok base =
-      subst (λ (s : List Step). base_from (empty_disk settings.blocks settings.journal) s ≡ Ok base) (sym same)
+      let built : base_from formatted before ≡ Ok base =
+      subst (λ (s : List Step). base_from formatted s ≡ Ok base) (sym same)
       start.built in
       cc
 
@@ -96,50 +76,60 @@ module _ (bytes : List ℕ) (settings : Settings) where
       → IsBaseRefusal settings before fault → IsAnswerTo question bytes settings (Refused fault)
   refused_base question before steps fault read (inl bad) =
       subst (λ f. IsAnswerTo question bytes settings (Refused f)) (sym bad.1)
-      (refused_to question BadGeometry (λ base others start. bad.0 start.geometry) refl
+      (refused_to question BadGeometry (λ base others start. bad.0 start.geometry)
       (bad_geometry before steps read bad.0))
   refused_base question before steps fault read (inr bad) =
       subst (λ f. IsAnswerTo question bytes settings (Refused f)) (sym bad.1.2)
-      (refused_to question (run_of_trace bad.1.0) (no_base before steps bad.1.0 read bad.1.1) (trace_is_not bad.1.0)
+      (refused_to question (run_of_trace bad.1.0) (no_base before steps bad.1.0 read bad.1.1)
       (bad_base before steps bad.1.0 read bad.0 bad.1.1))
 
-  pub refused_steps : (question : Question) (base : Disk) (steps : List Step) (fault : RunFault) → IsOfSteps question
-      → HasBase bytes settings base steps → AreRefused question settings base steps fault
-      → IsAnswerTo question bytes settings (Refused fault)
-  refused_steps question base steps fault asked start (inl (why, run, same)) =
-      subst (λ f. IsAnswerTo question bytes settings (Refused f)) (sym same)
-      (refused_of question (run_of_trace why) asked (trace_is_not why) (bad_trace base steps why start run))
-  refused_steps question base steps fault asked start (inr (last, patches, run, graph, visits, more, same)) =
-      subst (λ f. IsAnswerTo question bytes settings (Refused f)) (sym same)
-      (subst (λ q. IsAnswerTo q bytes settings (Refused TooMany)) (sym visits)
-      (too_many base last patches (record { steps = steps; start = start; run = run; graph = graph }) more))
+  -- a step after the start line is refused
+  pub refused_steps : (base : Disk) (steps : List Step) (fault : RunFault) → HasBase bytes settings base steps
+      → IsTraceRefusal settings base steps fault → IsUntraced bytes settings fault
+  refused_steps base steps fault start (why, run, same) =
+      subst (IsUntraced bytes settings) (sym same) (bad_trace base steps why start run)
 
-  pub reported_steps : (question : Question) (base : Disk) (steps : List Step) (text : List ℕ) (number : ℕ)
-      → HasBase bytes settings base steps → AreReported question settings base steps text number
-      → IsAnswerTo question bytes settings (Reported text number)
-  reported_steps Visit base steps text number start are =
-      reported are.demands base are.last are.patches text number
-      (record { steps = steps; start = start; run = are.run; graph = are.graph }) are.told are.report
-  reported_steps Decide base steps text number start are = record {
-    demands = are.demands;
-    base = base;
-    last = are.last;
-    patches = are.patches;
-    graph = record { steps = steps; start = start; run = are.run; graph = are.graph };
-    told = are.told;
-    report = are.report;
+  -- a traced script has a graph
+  pub has_graph : {A : Type 0} (base : Disk) (steps : List Step) (s : TracedScript A)
+      → HasBase bytes settings base steps → (are : IsTraced settings base steps s)
+      → HasGraph bytes settings s.base.now are.last s.traced.patches
+  has_graph base steps s start are = record {
+    steps = steps;
+    start = subst (λ (d : Disk). HasBase bytes settings d steps) (sym are.over) start;
+    run = are.run;
+    graph = are.trace.graph;
   }
-  reported_steps Enough base steps text number start are = record {
-    demands = are.demands;
-    base = base;
+
+  -- and what is reported on it is reported on the script
+  pub reported_on : {A : Type 0} (IsOn : Demands → Disk → Tracing → List Patch → List ℕ → ℕ → Type 0) (base : Disk)
+      (steps : List Step) (s : TracedScript A) (text : List ℕ) (number : ℕ) → HasBase bytes settings base steps
+      → IsTraced settings base steps s → IsReportOn IsOn settings s text number
+      → IsReported IsOn bytes settings text number
+  unfolding has_graph
+  reported_on IsOn base steps s text number start are is = record {
+    demands = s.demands;
+    base = s.base.now;
     last = are.last;
-    patches = are.patches;
-    graph = record { steps = steps; start = start; run = are.run; graph = are.graph };
-    told = are.told;
-    report = are.report;
+    patches = s.traced.patches;
+    graph = has_graph base steps s start are;
+    demanded = are.demanded;
+    report = is are.last are.trace;
   }
-  reported_steps (Search most) base steps text number start are = absurd are.report
-  reported_steps (SearchRules most) base steps text number start are = absurd are.report
+
+  -- what a visit reports, and the one other reason to refuse it
+  pub reported_visit : {A : Type 0} (visit : Visit) (base : Disk) (steps : List Step) (s : TracedScript A)
+      (text : List ℕ) (number : ℕ) → HasBase bytes settings base steps → IsTraced settings base steps s
+      → IsReportOn (IsReport settings visit.report visit.limit) settings s text number
+      → IsAnswerTo (asks.Visit visit) bytes settings (Reported text number)
+  reported_visit visit base steps s text number start are is = reported text number
+      (reported_on (IsReport settings visit.report visit.limit) base steps s text number start are is)
+
+  pub refused_visit : {A : Type 0} (visit : Visit) (base : Disk) (steps : List Step) (s : TracedScript A)
+      (fault : RunFault) → HasBase bytes settings base steps → IsTraced settings base steps s → fault ≡ TooMany
+      → ExceedsLimit s.traced.patches visit.limit → IsAnswerTo (asks.Visit visit) bytes settings (Refused fault)
+  refused_visit visit base steps s fault start are same more =
+      subst (λ f. IsAnswerTo (asks.Visit visit) bytes settings (Refused f)) (sym same)
+      (too_many s.base.now are.last s.traced.patches (has_graph base steps s start are) more)
 
   -- what refuses a search refuses one for rules too
   pub refused_pool : (base : Disk) (steps : List Step) (fault : RunFault) → HasBase bytes settings base steps
@@ -148,10 +138,10 @@ module _ (bytes : List ℕ) (settings : Settings) where
       (no_operation base is.front is.rest is.step (subst (HasBase bytes settings base) is.whole start) is.operations
       is.first)
 
-  pub reported_pool : (most : Most) (base : Disk) (steps : List Step) (text : List ℕ) (number : ℕ)
-      → HasBase bytes settings base steps → IsSearchOf settings most base steps text number
-      → IsAnswerTo (Search most) bytes settings (Reported text number)
-  reported_pool most base steps text number start is = record {
+  pub reported_pool : (longest : WorkloadLength) (base : Disk) (steps : List Step) (text : List ℕ) (number : ℕ)
+      → HasBase bytes settings base steps → IsSearchOf settings longest base steps text number
+      → IsAnswerTo (Search longest) bytes settings (Reported text number)
+  reported_pool longest base steps text number start is = record {
     base = base;
     pool = steps;
     start = start;
@@ -159,10 +149,10 @@ module _ (bytes : List ℕ) (settings : Settings) where
     report = is.1;
   }
 
-  pub reported_rules : (most : Most) (base : Disk) (steps : List Step) (text : List ℕ) (number : ℕ)
-      → HasBase bytes settings base steps → IsRuleSearchOf settings most base steps text number
-      → IsAnswerTo (SearchRules most) bytes settings (Reported text number)
-  reported_rules most base steps text number start is = record {
+  pub reported_rules : (longest : WorkloadLength) (base : Disk) (steps : List Step) (text : List ℕ) (number : ℕ)
+      → HasBase bytes settings base steps → IsRuleSearchOf settings longest base steps text number
+      → IsAnswerTo (SearchRules longest) bytes settings (Reported text number)
+  reported_rules longest base steps text number start is = record {
     base = base;
     pool = steps;
     start = start;

@@ -21,7 +21,8 @@ use Rattle.report_model.specs.Whole.{Body, Sets, Faults, Rules, report}
 use Rattle.crash_model.specs.declared.fault.FaultRow.{FaultRow}
 use Rattle.crash_model.specs.declared.patches.Patch.{Patch}
 use Rattle.crash_model.specs.declared.settings.Settings.{Settings}
-use Rattle.crash_model.specs.declared.settings.ReportBy.TheVariants.{BySet, ByFault, ByRule}
+use Rattle.crash_model.specs.declared.visit.ReportBy.{ReportBy}
+use Rattle.crash_model.specs.declared.visit.ReportBy.TheVariants.{BySet, ByFault, ByRule}
 use Rattle.report_model.proofs.Leading.{failing_closed, closed_are_left, sections_lead}
 use Rattle.traced_patches.specs.Traced.{TracedPatches}
 use Rattle.report_sections.specs.Bodies.{AreOnBase, AreClosed, CanTell, detail_by, sets_of, explanation_by}
@@ -31,16 +32,17 @@ use Rattle.report_sections.specs.declared.report.Report as code_report
 use Rattle.report_sections.specs.ToldRules.{told_rule}
 use Rattle.report_sections.specs.declared.rules.ToldRule as code_rule
 use Rattle.failing_sets.specs.Retained.{AreTotals}
-use Rattle.crash_text.specs.Telling.{IsTraceOf, Tells, whole}
+use Rattle.crash_text.specs.Telling.{Tells, whole}
+use Rattle.crash_text.specs.Traced.{IsTraceOf}
 
 -- what holds of each image holds of each item's image
 pub all_of : {X Y : Type 0} (P : X → Type 0) (f : Y → X) (ys : List Y) → All P (map f ys) → All (λ y. P (f y)) ys
 all_of P f ys all k d within = subst P (get_or-map f ys k d) (all k (f d) (omega (arith, within, length-map ys f)))
 
 -- the text of the report on these failing sets, with this number of closed ones
-abbrev IsTextOn : Settings → Demands → Disk → Tracing → List Patch → ℕ → List ℕ → List ℕ → Type 0
-IsTextOn settings demands base last patches total sets text =
-    (body : Body) × IsBody settings demands base last patches sets body
+abbrev IsTextOn : Settings → ReportBy → ℕ → Demands → Disk → Tracing → List Patch → ℕ → List ℕ → List ℕ → Type 0
+IsTextOn settings kind limit demands base last patches total sets text =
+    (body : Body) × IsBody settings kind limit demands base last patches sets body
     × (text ≡ report settings (whole settings (explanation (ordering_rules settings) base last patches) patches total
     (length sets) body))
 
@@ -81,17 +83,18 @@ firsts_closed demands base patches rows are = All-map (IsClosed (deps_of patches
 
 -- ---- what it says
 
-module _ (settings : Settings) (demands : Demands) (base : Disk) (t : TracedPatches) (last : Tracing)
-    (is : IsTraceOf settings base t last) where
-  pub same_explanation : explanation_by base t ≡ explanation (ordering_rules settings) base last t.patches
-  same_explanation = rw (is.rules, is.whole, is.links, is.emitted) refl
+pub same_explanation : (settings : Settings) (base : Disk) (t : TracedPatches) (last : Tracing)
+    → IsTraceOf settings base t last → explanation_by base t ≡ explanation (ordering_rules settings) base last t.patches
+same_explanation settings base t last is = rw (is.rules, is.whole, is.links, is.emitted) refl
 
+module _ (settings : Settings) (kind : ReportBy) (limit : ℕ) (demands : Demands) (base : Disk) (t : TracedPatches)
+    (last : Tracing) (is : IsTraceOf settings base t last) where
   -- the text makes it the report on the failing sets
   is_report : (total failing : ℕ) (sets text : List ℕ)
-      → AreTotals settings.limit demands base t.patches total failing sets
-      → IsTextOn settings demands base last t.patches total sets text
-      → IsReport settings demands base last t.patches text failing
-  is_report total failing sets text totals told = subst (IsReport settings demands base last t.patches text)
+      → AreTotals limit demands base t.patches total failing sets
+      → IsTextOn settings kind limit demands base last t.patches total sets text
+      → IsReport settings kind limit demands base last t.patches text failing
+  is_report total failing sets text totals told = subst (IsReport settings kind limit demands base last t.patches text)
       (sym totals.number) (record {
         total = total;
         counted = totals.counted;
@@ -107,36 +110,36 @@ module _ (settings : Settings) (demands : Demands) (base : Disk) (t : TracedPatc
       })
 
   -- a text with a body of this kind
-  text_on : (total : ℕ) (sets text : List ℕ) (body : Body) → IsBody settings demands base last t.patches sets body
+  text_on : (total : ℕ) (sets text : List ℕ) (body : Body) → IsBody settings kind limit demands base last t.patches sets body
       → text ≡ report settings (whole settings (explanation_by base t) t.patches total (length sets) body)
-      → IsTextOn settings demands base last t.patches total sets text
+      → IsTextOn settings kind limit demands base last t.patches total sets text
   text_on total sets text body told whole_text = (
     body,
     told,
     whole_text ∙ ap (λ (e : Explanation). report settings
-        (whole settings e t.patches total (length sets) body)) same_explanation,
+        (whole settings e t.patches total (length sets) body)) (same_explanation settings base t last is),
   )
 
-  told_sets : (total : ℕ) (sets text : List ℕ) (body : Body) (sections : List Section) → settings.by ≡ BySet
+  told_sets : (total : ℕ) (sets text : List ℕ) (body : Body) (sections : List Section) → kind ≡ BySet
       → AreAllInOrder (IsFailingUnder demands base t.patches) sets
       → AreSections (detail_of settings demands) base t.patches sets sections → body ≡ Sets sections
       → text ≡ report settings (whole settings (explanation_by base t) t.patches total (length sets) body)
-      → IsTextOn settings demands base last t.patches total sets text
+      → IsTextOn settings kind limit demands base last t.patches total sets text
   told_sets total sets text body sections by exactly are same whole_text =
       let closed = failing_closed demands base t.patches sets exactly in
       let lead = sections_lead base t.patches is.graph.earlier (detail_of settings demands) sets sections closed are in
-      text_on total sets text body (subst (IsBody settings demands base last t.patches sets) (sym same) (by, are, lead))
+      text_on total sets text body (subst (IsBody settings kind limit demands base last t.patches sets) (sym same) (by, are, lead))
       whole_text
 
   told_faults : (total : ℕ) (sets text : List ℕ) (body : Body) (rows : List FaultRow) (told : List ToldFault)
-      → settings.by ≡ ByFault
+      → kind ≡ ByFault
       → AreRows (HasFault demands base t.patches) rows → map (λ f. f.row) told ≡ rows
       → AreSections (detail_of settings demands) base t.patches (map (λ row. row.first) rows) (map (λ f. f.first) told)
       → body ≡ Faults told
       → text ≡ report settings (whole settings (explanation_by base t) t.patches total (length sets) body)
-      → IsTextOn settings demands base last t.patches total sets text
+      → IsTextOn settings kind limit demands base last t.patches total sets text
   told_faults total sets text body rows told by are_rows of_rows are same whole_text =
-      text_on total sets text body (subst (IsBody settings demands base last t.patches sets) (sym same)
+      text_on total sets text body (subst (IsBody settings kind limit demands base last t.patches sets) (sym same)
       (by, are_told, lead)) whole_text
     where
       leads : All (IsLed t.patches) (map (λ f. f.first) told)
@@ -157,13 +160,13 @@ module _ (settings : Settings) (demands : Demands) (base : Disk) (t : TracedPatc
       lead : All (λ f. IsLed t.patches f.first) told
       lead = all_of (IsLed t.patches) (λ f. f.first) told leads
 
-  told_rules : (total : ℕ) (sets text : List ℕ) (body : Body) (told : List ToldRule) → settings.by ≡ ByRule
-      → AreToldRules (detail_of settings demands) settings.limit (ordering_rules settings) base last t.patches
+  told_rules : (total : ℕ) (sets text : List ℕ) (body : Body) (told : List ToldRule) → kind ≡ ByRule
+      → AreToldRules (detail_of settings demands) limit (ordering_rules settings) base last t.patches
       (ordering_rules settings) told → body ≡ Rules told
       → text ≡ report settings (whole settings (explanation_by base t) t.patches total (length sets) body)
-      → IsTextOn settings demands base last t.patches total sets text
+      → IsTextOn settings kind limit demands base last t.patches total sets text
   told_rules total sets text body told by are same whole_text =
-      text_on total sets text body (subst (IsBody settings demands base last t.patches sets) (sym same) (by, are))
+      text_on total sets text body (subst (IsBody settings kind limit demands base last t.patches sets) (sym same) (by, are))
       whole_text
 
   -- the same from the data of a report, whose number of failing sets is that of the list
@@ -174,10 +177,10 @@ module _ (settings : Settings) (demands : Demands) (base : Disk) (t : TracedPatc
       subst (λ (n : ℕ). Tells settings (detail_of settings demands) base t closed n chosen text) number told
 
   pub by_set : (A : Type 0) (total failing : ℕ) (sets text : List ℕ) (given : Bor (List ℕ))
-      → AreTotals settings.limit demands base t.patches total failing sets
-      → settings.by ≡ BySet → AreAllInOrder (IsFailingUnder demands base t.patches) given.now
+      → AreTotals limit demands base t.patches total failing sets
+      → kind ≡ BySet → AreAllInOrder (IsFailingUnder demands base t.patches) given.now
       → Tells {A = A} settings (detail_of settings demands) base t total failing (code_body.Sets given) text
-      → IsReport settings demands base last t.patches text failing
+      → IsReport settings kind limit demands base last t.patches text failing
   by_set A total failing sets text given totals by all told =
       is_report total failing sets text totals (on (with_number {A = A} total failing sets text (code_body.Sets given)
       totals.number told))
@@ -186,37 +189,37 @@ module _ (settings : Settings) (demands : Demands) (base : Disk) (t : TracedPatc
       same = one_list (IsFailingUnder demands base t.patches) given.now sets all totals.exactly
 
       on : Tells {A = A} settings (detail_of settings demands) base t total (length sets) (code_body.Sets given) text
-          → IsTextOn settings demands base last t.patches total sets text
+          → IsTextOn settings kind limit demands base last t.patches total sets text
       on (body, (sections, are, is_body), written) =
           told_sets total sets text body sections by totals.exactly
           (subst (λ (ss : List ℕ). AreSections (detail_of settings demands) base t.patches ss sections) same are)
           is_body written
 
   pub by_fault : (A : Type 0) (total failing : ℕ) (sets text : List ℕ) (given : Bor (List FaultRow))
-      → AreTotals settings.limit demands base t.patches total failing sets
-      → settings.by ≡ ByFault → AreRows (HasFault demands base t.patches) given.now
+      → AreTotals limit demands base t.patches total failing sets
+      → kind ≡ ByFault → AreRows (HasFault demands base t.patches) given.now
       → Tells {A = A} settings (detail_of settings demands) base t total failing (code_body.Faults given) text
-      → IsReport settings demands base last t.patches text failing
+      → IsReport settings kind limit demands base last t.patches text failing
   by_fault A total failing sets text given totals by rows told =
       is_report total failing sets text totals (on (with_number {A = A} total failing sets text (code_body.Faults given)
       totals.number told))
     where
       on : Tells {A = A} settings (detail_of settings demands) base t total (length sets) (code_body.Faults given) text
-          → IsTextOn settings demands base last t.patches total sets text
+          → IsTextOn settings kind limit demands base last t.patches total sets text
       on (body, (rest, of_rows, firsts, is_body), written) = told_faults total sets text body given.now rest by rows
           of_rows firsts is_body written
 
   pub by_rule : (A : Type 0) (total failing : ℕ) (sets text : List ℕ) (given : Bor (List (code_rule.ToldRule A)))
-      → AreTotals settings.limit demands base t.patches total failing sets
-      → settings.by ≡ ByRule
-      → AreToldRules (detail_of settings demands) settings.limit (ordering_rules settings) base last
+      → AreTotals limit demands base t.patches total failing sets
+      → kind ≡ ByRule
+      → AreToldRules (detail_of settings demands) limit (ordering_rules settings) base last
       t.patches (ordering_rules settings) (map told_rule given.now)
       → Tells {A = A} settings (detail_of settings demands) base t total failing (code_body.Rules given) text
-      → IsReport settings demands base last t.patches text failing
+      → IsReport settings kind limit demands base last t.patches text failing
   by_rule A total failing sets text given totals by are told =
       is_report total failing sets text totals (on (with_number {A = A} total failing sets text (code_body.Rules given)
       totals.number told))
     where
       on : Tells {A = A} settings (detail_of settings demands) base t total (length sets) (code_body.Rules given) text
-          → IsTextOn settings demands base last t.patches total sets text
+          → IsTextOn settings kind limit demands base last t.patches total sets text
       on (body, is_body, written) = told_rules total sets text body (map told_rule given.now) by are is_body written

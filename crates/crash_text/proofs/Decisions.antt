@@ -22,7 +22,7 @@ use Rattle.question_model.specs.declared.decided_fault.DecidedFault.{DecidedFaul
 use Rattle.traced_patches.specs.Traced.{TracedPatches}
 use Rattle.report_sections.specs.Bodies.{AreClosed, explanation_by}
 use Rattle.crash_text.proofs.Bodies.{all_of, same_explanation}
-use Rattle.crash_text.specs.Telling.{IsTraceOf}
+use Rattle.crash_text.specs.Traced.{IsTraceOf}
 
 -- a crash can leave the first sets of decided faults
 pub decided_closed : (demands : Demands) (base : Disk) (patches : List Patch) (faults : List DecidedFault)
@@ -57,7 +57,7 @@ is_decision settings demands base t last total faults told text is counted decid
     closed = total;
     explanation = when settings.explain e;
     faults = told;
-  })) (same_explanation settings demands base t last is);
+  })) (same_explanation settings base t last is);
 }
   where
     same_firsts : map (λ f. f.first) faults ≡ map (λ d. d.decided.first) told

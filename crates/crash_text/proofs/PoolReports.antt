@@ -3,19 +3,16 @@ use Rattle.std.proofs.Common.{◌≡◌, ℕ, ◌+◌, ◌<◌, List, [], ◌∷
 use Rattle.std.proofs.Common.{refl, subst, sym, ap, ap₂, ◌∙◌}
 use Rattle.std.proofs.lemmas.List.{map_push, take_more}
 use Rattle.std.proofs.lemmas.List.Elements.{All-push}
-use Rattle.std.specs.Prelude.{All, not, ◌==◌, if◌then◌else◌}
+use Rattle.std.specs.Prelude.{All, not, if◌then◌else◌}
 use Rattle.std.specs.Int.{from_bool}
-use Rattle.report_model.specs.Answer.{ordering_rules}
 use Rattle.crash_model.specs.Disk.{Disk}
 use Rattle.report_model.specs.Report.{Section}
 use Rattle.crash_model.specs.declared.modules.Module.{Module}
 use Rattle.crash_model.specs.declared.rules.Rule.{Rule}
 use Rattle.crash_model.specs.declared.settings.Settings.{Settings}
 use Rattle.crash_model.specs.declared.steps.Step.{Step}
-use Rattle.question_model.specs.Found.{AreFound}
-use Rattle.question_model.specs.SearchReport.{IsSearchReport, IsToldKind, ToldKind, search_of, search_bytes}
+use Rattle.question_model.specs.SearchReport.{IsToldKind}
 use Rattle.question_model.specs.Workloads.{Search, steps_at}
-use Rattle.question_model.specs.declared.found.Found.{Found}
 use Rattle.question_model.specs.declared.found.ShownKind.{ShownKind}
 use Rattle.question_reports.specs.SearchFindings.{told_kind}
 use Rattle.question_reports.specs.declared.search.findings.KindCrash.{KindCrash}

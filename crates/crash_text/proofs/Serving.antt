@@ -3,9 +3,8 @@ use Rattle.std.proofs.Common.{◌≡◌, ℕ, ◌<◌, ◌≤◌, List, ◌++◌
 use Rattle.std.proofs.Common.{sym, subst, ap, ◌∙◌, append-nil, arith}
 use Rattle.std.specs.Prelude.{◌≢◌, Result, Ok, Err, IfErr}
 use Rattle.std.specs.Io.KnownBytes.{Consumes, IsAtEnd}
-use Rattle.report_model.specs.Answer.{Answer, Refused, Reported, IsAnswer, bad_script, bad_geometry, bad_base}
-use Rattle.report_model.specs.Answer.{bad_trace}
-use Rattle.report_model.specs.Answer.{too_many, reported}
+use Rattle.report_model.specs.Answer.{Answer, Refused, Reported, IsUntraced, bad_script, bad_geometry, bad_base}
+use Rattle.report_model.specs.Answer.{bad_trace, IsVisited, untraced, too_many, reported}
 use Rattle.crash_model.specs.Refusals.{run_of_script, run_of_trace}
 use Rattle.crash_model.specs.declared.refusals.RunFault.{RunFault}
 use Rattle.crash_model.specs.declared.refusals.RunFault.TheVariants.{CannotRead, CannotWrite, ScriptTooLong}
@@ -15,6 +14,7 @@ use Rattle.crash_model.specs.declared.refusals.ScriptFault.TheVariants as script
 use Rattle.crash_model.specs.declared.refusals.TraceFault.{TraceFault}
 use Rattle.crash_model.specs.declared.refusals.TraceFault.TheVariants as trace
 use Rattle.crash_model.specs.declared.settings.Settings.{Settings}
+use Rattle.crash_model.specs.declared.visit.ReportBy.{ReportBy}
 use Rattle.byte_io.specs.Counted.{IsReadFault}
 use Rattle.question_model.specs.Answers.{IsAnswerTo}
 use Rattle.question_model.specs.declared.question.Question.{Question}
@@ -73,31 +73,35 @@ trace_is_of_run : (fault : TraceFault) → is_of_run (run_of_trace fault) ≡ tr
 trace_is_of_run (trace.NotFound line) = refl
 trace_is_of_run _ = refl
 
+untraced_is_of_run : {bytes : List ℕ} {settings : Settings} {fault : RunFault} → IsUntraced bytes settings fault
+    → is_of_run fault ≡ true
+untraced_is_of_run (bad_script fault refused) = script_is_of_run fault
+untraced_is_of_run (bad_geometry before steps read none) = refl
+untraced_is_of_run (bad_base before steps fault read geometry is) = trace_is_of_run fault
+untraced_is_of_run (bad_trace base steps fault start is) = trace_is_of_run fault
+
 abbrev answer_is_of_run : Answer → Bool
 answer_is_of_run (Refused fault) = is_of_run fault
 answer_is_of_run (Reported text failing) = true
 
-of_run : {bytes : List ℕ} {settings : Settings} {answer : Answer} → IsAnswer bytes settings answer
-    → answer_is_of_run answer ≡ true
-of_run (bad_script fault refused) = script_is_of_run fault
-of_run (bad_geometry before steps read none) = refl
-of_run (bad_base before steps fault read geometry is) = trace_is_of_run fault
-of_run (bad_trace base steps fault start is) = trace_is_of_run fault
-of_run (too_many base last patches has more) = refl
-of_run (reported demands base last patches text failing has told report) = refl
+visit_is_of_run : {bytes : List ℕ} {settings : Settings} {by : ReportBy} {limit : ℕ} {answer : Answer}
+    → IsVisited bytes settings by limit answer → answer_is_of_run answer ≡ true
+visit_is_of_run (untraced fault is) = untraced_is_of_run is
+visit_is_of_run (too_many base last patches has more) = refl
+visit_is_of_run (reported text failing report) = refl
 
 search_is_of_run : {bytes : List ℕ} {settings : Settings} {fault : RunFault} → IsSearchRefusal bytes settings fault
     → is_of_run fault ≡ true
-search_is_of_run (before_the_pool fault is none) = of_run is
+search_is_of_run (before_the_pool fault is none) = untraced_is_of_run is
 search_is_of_run (no_operation base front rest step start operations first) = refl
 
 refusal_is_of_run : (question : Question) (bytes : List ℕ) (settings : Settings) (fault : RunFault)
     → IsAnswerTo question bytes settings (Refused fault) → is_of_run fault ≡ true
-refusal_is_of_run Visit bytes settings fault is = of_run is
-refusal_is_of_run Decide bytes settings fault is = of_run is.0
-refusal_is_of_run Enough bytes settings fault is = of_run is.0
-refusal_is_of_run (Search most) bytes settings fault is = search_is_of_run is
-refusal_is_of_run (SearchRules most) bytes settings fault is = search_is_of_run is
+refusal_is_of_run (Visit visit) bytes settings fault is = visit_is_of_run is
+refusal_is_of_run Decide bytes settings fault is = untraced_is_of_run is
+refusal_is_of_run Enough bytes settings fault is = untraced_is_of_run is
+refusal_is_of_run (Search longest) bytes settings fault is = search_is_of_run is
+refusal_is_of_run (SearchRules longest) bytes settings fault is = search_is_of_run is
 
 -- where a run refused, the refusal is no device's
 pub not_of_device : {X : Type 0} (result : Result X RunFault) (bytes : List ℕ) (request : Request)

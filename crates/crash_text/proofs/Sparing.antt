@@ -21,7 +21,7 @@ use Rattle.question_reports.specs.declared.enough.findings.NeededGroup.{NeededGr
 use Rattle.traced_patches.specs.Traced.{TracedPatches}
 use Rattle.report_sections.specs.Bodies.{explanation_by}
 use Rattle.crash_text.proofs.Bodies.{same_explanation}
-use Rattle.crash_text.specs.Telling.{IsTraceOf}
+use Rattle.crash_text.specs.Traced.{IsTraceOf}
 
 -- the text is the report on the rules of traced patches
 pub is_enough_report : {A : Type 0} (settings : Settings) (demands : Demands) (base : Disk) (t : TracedPatches)
@@ -64,7 +64,7 @@ is_enough_report {A = A} settings demands base t last total enough groups needs 
         enough = enough;
         needs = map told_group needs;
         first = option_map told_first first;
-      })) (same_explanation settings demands base t last is);
+      })) (same_explanation settings base t last is);
     }
   where
     same_groups : groups ≡ map (λ (n : ToldGroup). n.group) (map (told_group {A = A}) needs)

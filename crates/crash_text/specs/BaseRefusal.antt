@@ -1,6 +1,6 @@
 -- Why there is no disk at the start line.
 use Rattle.std.specs.Prelude.{◌≡◌, ◌⊎◌, List, Err}
-use Rattle.crash_model.specs.Disk.{empty_disk, IsGeometry}
+use Rattle.crash_model.specs.Disk.{new_disk, IsGeometry}
 use Rattle.crash_model.specs.Refusals.{run_of_trace}
 use Rattle.crash_model.specs.Trace.{base_from}
 use Rattle.crash_model.specs.declared.refusals.TraceFault.{TraceFault}
@@ -14,5 +14,5 @@ abbrev pub IsBaseRefusal : Settings → List Step → RunFault → Type 0
 IsBaseRefusal settings steps fault =
     ((¬ (IsGeometry settings.blocks settings.journal)) × (fault ≡ BadGeometry))
     ⊎ (IsGeometry settings.blocks settings.journal
-    × ((why : TraceFault) × (base_from (empty_disk settings.blocks settings.journal) steps ≡ Err why)
+    × ((why : TraceFault) × (base_from (new_disk settings.blocks settings.journal settings.generations) steps ≡ Err why)
     × (fault ≡ run_of_trace why)))

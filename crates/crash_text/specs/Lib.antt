@@ -4,3 +4,4 @@ pub mod SearchingRules
 pub mod Served
 pub mod Status
 pub mod Telling
+pub mod Traced

@@ -6,21 +6,21 @@ use Rattle.crash_model.specs.declared.refusals.RunFault.{RunFault}
 use Rattle.crash_model.specs.declared.refusals.RunFault.TheVariants.{GroupFault}
 use Rattle.crash_model.specs.declared.settings.Settings.{Settings}
 use Rattle.crash_model.specs.declared.steps.Step.{Step}
-use Rattle.question_model.specs.Most.{number_of_most}
+use Rattle.question_model.specs.Lengths.{operations_of}
 use Rattle.question_model.specs.SearchReport.{IsSearchReport, IsToldKind, ToldKind, search_bytes}
 use Rattle.question_model.specs.Workloads.{Search, IsOperation}
 use Rattle.question_model.specs.declared.found.Found.{Found}
 use Rattle.question_model.specs.declared.found.ShownKind.{ShownKind}
-use Rattle.question_model.specs.declared.most.Most.{Most}
+use Rattle.question_model.specs.declared.length.WorkloadLength.{WorkloadLength}
 use Rattle.pool_judging.specs.Judging.{search_by}
 use Rattle.pool_judging.specs.declared.judge.PoolJudge.{PoolJudge}
 use Rattle.question_reports.specs.SearchFindings.{told_kind}
 use Rattle.question_reports.specs.declared.search.findings.KindCrash.{KindCrash}
 
 -- the steps are a pool of operations, and the text is the report on it
-abbrev pub IsSearchOf : Settings → Most → Disk → List Step → List ℕ → ℕ → Type 0
-IsSearchOf settings most base steps text number =
-    All IsOperation steps × IsSearchReport settings (number_of_most most) base steps text number
+abbrev pub IsSearchOf : Settings → WorkloadLength → Disk → List Step → List ℕ → ℕ → Type 0
+IsSearchOf settings longest base steps text number =
+    All IsOperation steps × IsSearchReport settings (operations_of longest) base steps text number
 
 -- the steps are no pool, and the fault has the line of the first that is no operation
 pub record IsNoPool (steps : List Step) (fault : RunFault) : Type 0 where
@@ -44,4 +44,4 @@ pub record IsReportBy {A : Type 0} (settings : Settings) (judge : PoolJudge A) (
   pub told : List ToldKind
   pub kinds : map (λ t. t.shown) told ≡ found.kinds.items
   pub each : All (IsToldKind (search_by judge) settings.explain) told
-  pub whole : text ≡ search_bytes settings judge.most (length judge.pool.now) found told
+  pub whole : text ≡ search_bytes settings (operations_of judge.longest) (length judge.pool.now) found told

@@ -5,19 +5,19 @@ use Rattle.patch_sets.specs.Sets.{AreAllInOrder}
 use Rattle.crash_model.specs.Disk.{Disk}
 use Rattle.crash_model.specs.declared.settings.Settings.{Settings}
 use Rattle.crash_model.specs.declared.steps.Step.{Step}
-use Rattle.question_model.specs.Most.{number_of_most}
+use Rattle.question_model.specs.Lengths.{operations_of}
 use Rattle.question_model.specs.Workloads.{IsOperation}
 use Rattle.question_model.specs.declared.found.Found.{Found}
-use Rattle.question_model.specs.declared.most.Most.{Most}
+use Rattle.question_model.specs.declared.length.WorkloadLength.{WorkloadLength}
 use Rattle.question_model.specs.EnoughFor.{IsMinimalInSearch, IsNeededInSearch}
 use Rattle.question_model.specs.SearchRulesReport.{IsSearchRulesReport, IsToldNeed, ToldNeed, search_rules_bytes}
 use Rattle.pool_judging.specs.Judging.{search_by}
 use Rattle.pool_judging.specs.declared.judge.PoolJudge.{PoolJudge}
 
 -- the steps are a pool of operations, and the text is the report on the rules that its workloads need
-abbrev pub IsRuleSearchOf : Settings → Most → Disk → List Step → List ℕ → ℕ → Type 0
-IsRuleSearchOf settings most base steps text number =
-    All IsOperation steps × IsSearchRulesReport settings (number_of_most most) base steps text number
+abbrev pub IsRuleSearchOf : Settings → WorkloadLength → Disk → List Step → List ℕ → ℕ → Type 0
+IsRuleSearchOf settings longest base steps text number =
+    All IsOperation steps × IsSearchRulesReport settings (operations_of longest) base steps text number
 
 -- the text is the report on what a judge's search finds and the rules that its workloads need
 pub record IsRuleReportBy {A : Type 0} (settings : Settings) (judge : PoolJudge A) (found : Found)
@@ -27,4 +27,4 @@ pub record IsRuleReportBy {A : Type 0} (settings : Settings) (judge : PoolJudge 
   pub needs : List ToldNeed
   pub needed : AreAllInOrder (IsNeededInSearch (search_by judge)) (map (λ told. told.group) needs)
   pub told : All (IsToldNeed (search_by judge) settings.explain) needs
-  pub whole : text ≡ search_rules_bytes settings judge.most (length judge.pool.now) found enough needs
+  pub whole : text ≡ search_rules_bytes settings (operations_of judge.longest) (length judge.pool.now) found enough needs

@@ -1,9 +1,9 @@
 //! A traced script, answered by a decision on each fault that a crash can leave.
 
 ghost use Rattle.std.specs.Prelude.{◌≡◌, ◌≤◌, IfOk, string_bytes};
-ghost use Rattle.question_model.specs.declared.question.Question.TheVariants.{Decide};
+ghost use Rattle.question_model.specs.Decision.{IsDecision};
 ghost use Rattle.report_sections.specs.Bodies.{AreOnBase};
-ghost use Rattle.crash_text.specs.Telling.{IsReportOn, NoneFails};
+ghost use Rattle.crash_text.specs.Traced.{IsReportOn, NoneFails};
 
 use crate::host::Host;
 use crate::run::Outcome;
@@ -26,9 +26,11 @@ where
     requires workers { 1 ≤ request.now.workers }
     requires on_base { AreOnBase script.now.base.now script.now.traced.patches }
     ensures reported { IfOk result (λ outcome.
-        IsReportOn Decide request.now.settings script.now (string_bytes outcome.text) outcome.number) }
+        IsReportOn (IsDecision request.now.settings) request.now.settings script.now (string_bytes outcome.text)
+        outcome.number) }
     ensures safe { NoneFails script.now → IfOk result (λ outcome. outcome.number ≡ 0) }
 {
+    host.notes.note_patches(&script.traced);
     let demands = &script.demands;
     let decider = Decider {
         alloc: host.alloc,
@@ -37,6 +39,7 @@ where
         demands,
     };
     let faults = decider.faults(host.rt, request.workers)?;
+    host.notes.note_smallest(&faults);
     let decision = Decision {
         base: script.base,
         traced: &script.traced,

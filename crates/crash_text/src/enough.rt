@@ -1,9 +1,9 @@
 //! A traced script, answered by which rules are enough.
 
 ghost use Rattle.std.specs.Prelude.{◌≡◌, string_bytes, IfOk};
-ghost use Rattle.question_model.specs.declared.question.Question.TheVariants.{Enough};
+ghost use Rattle.question_model.specs.EnoughReport.{IsEnoughReport};
 ghost use Rattle.report_sections.specs.Bodies.{AreOnBase};
-ghost use Rattle.crash_text.specs.Telling.{IsReportOn, NoneFails};
+ghost use Rattle.crash_text.specs.Traced.{IsReportOn, NoneFails};
 
 use crate::host::Host;
 use crate::run::Outcome;
@@ -23,9 +23,11 @@ pub(crate) fn enough<R, A: Allocator + Copy>(
 ) -> Result<Outcome<A>, AllocError>
     requires on_base { AreOnBase script.now.base.now script.now.traced.patches }
     ensures reported { IfOk result (λ outcome.
-        IsReportOn Enough settings.now script.now (string_bytes outcome.text) outcome.number) }
+        IsReportOn (IsEnoughReport settings.now) settings.now script.now (string_bytes outcome.text)
+        outcome.number) }
     ensures safe { NoneFails script.now → IfOk result (λ outcome. outcome.number ≡ 0) }
 {
+    host.notes.note_patches(&script.traced);
     let oracle = RuleOracle {
         alloc: host.alloc,
         base: script.base,
@@ -41,6 +43,9 @@ pub(crate) fn enough<R, A: Allocator + Copy>(
         settings.explain,
         &script.demands,
     )?;
+    if let Some(first) = &first {
+        host.notes.shown.set(Some(first.decided));
+    }
     let findings = EnoughFindings {
         base: script.base,
         traced: &script.traced,

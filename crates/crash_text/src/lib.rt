@@ -6,6 +6,7 @@ mod deciding;
 mod enough;
 pub mod host;
 mod needs;
+pub mod notes;
 pub mod progress;
 pub mod run;
 mod searching;

@@ -8,12 +8,13 @@ ghost use Rattle.crash_model.specs.Checker.{IsFailingUnder};
 ghost use Rattle.report_model.specs.Needs.{AreToldRules, IsFirstNew, IsRuleUsage};
 ghost use Rattle.crash_model.specs.Patches.{deps_of};
 ghost use Rattle.crash_model.specs.Trace.{Tracing};
-ghost use Rattle.crash_model.specs.declared.settings.ReportBy.TheVariants.{ByRule};
+ghost use Rattle.crash_model.specs.declared.visit.ReportBy.TheVariants.{ByRule};
 ghost use Rattle.failing_sets.specs.Prevented.{IsFirstPrevented};
 ghost use Rattle.report_sections.specs.Bodies.{AreOnBase};
 ghost use Rattle.report_sections.specs.Sections.{section_of};
 ghost use Rattle.report_sections.specs.ToldRules.{told_rule, usage_of};
-ghost use Rattle.crash_text.specs.Telling.{AreFindings, IsReportOf, IsTraceOf, IsUsageBy};
+ghost use Rattle.crash_text.specs.Telling.{AreFindings, IsReportOf, IsUsageBy};
+ghost use Rattle.crash_text.specs.Traced.{IsTraceOf};
 
 use crate::host::Host;
 use crate::telling::Findings;
@@ -39,9 +40,9 @@ where
     R: Threads + Wait + Sync,
     A: Allocator + Copy + Send + Sync,
     G: Gate + Sync,
-    requires same { finder.now.settings.now ≡ findings.now.settings.now }
+    requires same { finder.now.visit ≡ findings.now.visit }
     requires found { AreFindings findings.now }
-    requires by { findings.now.settings.now.by ≡ ByRule }
+    requires by { findings.now.visit.report ≡ ByRule }
     ensures { IfOk result (λ text. IsReportOf findings.now (string_bytes text)) }
 {
     let rules = needs(finder, findings)?;
@@ -51,7 +52,7 @@ where
 /// The entry of each rule of the ordering, in its order.
 ///
 /// A rule that applies to no pair is reported as such; for each other rule the same patches are explored under
-/// the ordering without it, within the limit of the settings. It fails only when out of memory.
+/// the ordering without it, within the limit of the visit. It fails only when out of memory.
 fn needs<R, A, G>(
     finder: &Finder<'_, R, A, G>,
     findings: &Findings<'_, '_, '_, A>,
@@ -60,11 +61,11 @@ where
     R: Threads + Wait + Sync,
     A: Allocator + Copy + Send + Sync,
     G: Gate + Sync,
-    requires same { finder.now.settings.now ≡ findings.now.settings.now }
+    requires same { finder.now.visit ≡ findings.now.visit }
     requires found { AreFindings findings.now }
     ensures { IfOk result (λ rules. (last : Tracing)
         → IsTraceOf findings.now.settings.now findings.now.base.now findings.now.traced.now last
-        → AreToldRules (detail_of findings.now.settings.now findings.now.demands.now) findings.now.settings.now.limit
+        → AreToldRules (detail_of findings.now.settings.now findings.now.demands.now) findings.now.visit.limit
         (ordering_rules findings.now.settings.now) findings.now.base.now last findings.now.traced.now.patches
         (ordering_rules findings.now.settings.now) (map told_rule rules.items)) }
 {
@@ -88,11 +89,11 @@ where
     R: Threads + Wait + Sync,
     A: Allocator + Copy + Send + Sync,
     G: Gate + Sync,
-    requires same { finder.now.settings.now ≡ findings.now.settings.now }
+    requires same { finder.now.visit ≡ findings.now.visit }
     requires found { AreFindings findings.now }
     ensures { IfOk result (λ usage. (last : Tracing) → last.emitted ≡ findings.now.traced.now.emitted
         → last.links ≡ findings.now.traced.now.links → last.whole ≡ findings.now.traced.now.whole
-        → IsRuleUsage (detail_of findings.now.settings.now findings.now.demands.now) findings.now.settings.now.limit
+        → IsRuleUsage (detail_of findings.now.settings.now findings.now.demands.now) findings.now.visit.limit
         findings.now.traced.now.rules findings.now.base.now last findings.now.traced.now.patches rule
         (usage_of usage)) }
 {
@@ -117,11 +118,11 @@ where
     R: Threads + Wait + Sync,
     A: Allocator + Copy + Send + Sync,
     G: Gate + Sync,
-    requires same { finder.now.settings.now ≡ findings.now.settings.now }
+    requires same { finder.now.visit ≡ findings.now.visit }
     requires on_base { AreOnBase findings.now.base.now changed.now }
     requires earlier { AreEarlier (deps_of changed.now) }
     ensures { IfOk result (λ usage. IsUsageBy (detail_of findings.now.settings.now findings.now.demands.now)
-        findings.now.settings.now.limit findings.now.base.now findings.now.traced.now.patches changed.now pairs
+        findings.now.visit.limit findings.now.base.now findings.now.traced.now.patches changed.now pairs
         (usage_of usage)) }
 {
     let crashes = Crashes {

@@ -1,31 +1,28 @@
 //! The whole product as a function.
 
 ghost use Rattle.std.specs.Prelude.{◌≡◌, ◌≢◌, ◌≤◌, [], Ok, OnOk, IfOk, IfErr, string_bytes};
-ghost use Rattle.crash_model.specs.Disk.{empty_disk, IsGeometry};
+ghost use Rattle.crash_model.specs.Disk.{new_disk, IsGeometry};
 ghost use Rattle.crash_model.specs.Sound.{IsSound, HasZeroJournal};
 ghost use Rattle.crash_model.specs.Trace.{base_from};
 ghost use Rattle.crash_model.specs.declared.modules.Module.TheVariants.{Full};
 ghost use Rattle.report_model.specs.Answer.{Reported, Refused};
-ghost use Rattle.failing_sets.specs.Limits.{IsExplorable};
 ghost use Rattle.question_model.specs.Answers.{IsAnswerTo};
-ghost use Rattle.report_sections.specs.Bodies.{AreOnBase};
+ghost use Rattle.question_model.specs.Asked.{CanBeAsked};
 ghost use Rattle.crash_text.specs.BaseRefusal.{IsBaseRefusal};
-ghost use Rattle.crash_text.specs.Telling.{AreReported, AreRefused, IsOfSteps, IsReportOn, IsPastLimit, NoneFails};
 
 use crate::deciding::decided;
 use crate::enough::enough;
 use crate::host::Host;
 use crate::searching::{Pool, searched};
 use crate::searching_rules::searched_for_rules;
-use crate::traced_script::TracedScript;
+use crate::traced_script::trace_script;
 use crate::visiting::visited;
 use crash_model::refusals::RunFault;
 use crash_model::settings::Settings;
 use crash_model::steps::Step;
 use disk_image::{Image, ImageFault};
 use explorers::Gate;
-use inode_fs::demands;
-use order_modules::{build_base, trace};
+use order_modules::build_base;
 use question_model::{Question, Request};
 use script_text::read_script;
 use std::alloc::Allocator;
@@ -60,7 +57,7 @@ where
     R: Threads + Wait + Sync,
     A: Allocator + Copy + Send + Sync,
     G: Gate + Sync,
-    requires limit { IsExplorable request.now.settings }
+    requires asked { CanBeAsked request.now.question }
     requires workers { (1 ≤ request.now.workers) × (request.now.workers ≤ 16) }
     ensures reported { IfOk result (λ outcome. IsAnswerTo request.now.question script.now request.now.settings
         (Reported (string_bytes outcome.text) outcome.number)) }
@@ -70,92 +67,42 @@ where
         → IfOk result (λ outcome. outcome.number ≡ 0) }
 {
     let read = read_script(host.alloc, script)?;
-    let base = base_of(host.alloc, &read.base, &request.settings)?;
-    let steps = &read.traced;
-    match request.question {
-        Question::Search(most) => {
-            let base = &base;
-            searched(host, request, gate, &Pool { base, steps, most })
-        }
-        Question::SearchRules(most) => {
-            let base = &base;
-            searched_for_rules(host, request, gate, &Pool { base, steps, most })
-        }
-        Question::Visit | Question::Decide | Question::Enough => {
-            answer_steps(host, request, gate, &base, steps)
-        }
-    }
-}
-
-/// Traces the steps over the base, and answers the question about what a crash can leave.
-fn answer_steps<R, A, G>(
-    host: &Host<'_, R, A>,
-    request: &Request,
-    gate: &G,
-    base: &Image<A>,
-    steps: &[Step],
-) -> Result<Outcome<A>, RunFault>
-where
-    R: Threads + Wait + Sync,
-    A: Allocator + Copy + Send + Sync,
-    G: Gate + Sync,
-    requires limit { IsExplorable request.now.settings }
-    requires workers { (1 ≤ request.now.workers) × (request.now.workers ≤ 16) }
-    requires asked { IsOfSteps request.now.question }
-    requires sound { IsSound base.now × HasZeroJournal base.now }
-    ensures reported { IfOk result (λ outcome. AreReported request.now.question request.now.settings base.now steps.now
-        (string_bytes outcome.text) outcome.number) }
-    ensures refused { IfErr result (λ fault. (fault ≢ RunFault.OutOfMemory)
-        → AreRefused request.now.question request.now.settings base.now steps.now fault) }
-    ensures full { request.now.settings.module ≡ Full → request.now.settings.without.items ≡ []
-        → IfOk result (λ outcome. outcome.number ≡ 0) }
-{
-    let ordering = request.settings.ordering();
-    // For the proof: what holds of every image.
-    let _blocks = base.blocks();
-    let traced = trace(host.alloc, base, steps, &ordering)?;
     let settings = &request.settings;
-    let demands = demands(host.alloc, base, steps, settings.strict, settings.atomic)?;
-    let script = TracedScript {
-        base,
-        traced,
-        demands,
-    };
-    answer_traced(host, request, gate, &script)
-}
-
-/// Answers the question about what a crash can leave of a traced script.
-fn answer_traced<R, A, G>(
-    host: &Host<'_, R, A>,
-    request: &Request,
-    gate: &G,
-    script: &TracedScript<'_, A>,
-) -> Result<Outcome<A>, RunFault>
-where
-    R: Threads + Wait + Sync,
-    A: Allocator + Copy + Send + Sync,
-    G: Gate + Sync,
-    requires limit { IsExplorable request.now.settings }
-    requires workers { (1 ≤ request.now.workers) × (request.now.workers ≤ 16) }
-    requires asked { IsOfSteps request.now.question }
-    requires on_base { AreOnBase script.now.base.now script.now.traced.patches }
-    ensures reported { IfOk result (λ outcome. IsReportOn request.now.question request.now.settings script.now
-        (string_bytes outcome.text) outcome.number) }
-    ensures past { IfErr result
-        (IsPastLimit request.now.question request.now.settings script.now.traced.patches) }
-    ensures safe { NoneFails script.now → IfOk result (λ outcome. outcome.number ≡ 0) }
-{
+    let built = base_of(host.alloc, &read.base, settings)?;
+    let base = &built;
+    let steps = &read.traced;
+    let ordering = settings.ordering();
     match request.question {
-        Question::Visit => visited(host, request, gate, script),
+        Question::Visit(visit) => {
+            let script = trace_script(host.alloc, base, steps, settings, &ordering)?;
+            let answer = visited(host, request, visit, gate, &script);
+            host.notes.note_answer(&answer, &script.traced);
+            answer
+        }
         Question::Decide => {
-            let outcome = decided(host, request, script)?;
-            Ok(outcome)
+            let script = trace_script(host.alloc, base, steps, settings, &ordering)?;
+            Ok(decided(host, request, &script)?)
         }
         Question::Enough => {
-            let outcome = enough(host, &request.settings, script)?;
-            Ok(outcome)
+            let script = trace_script(host.alloc, base, steps, settings, &ordering)?;
+            Ok(enough(host, settings, &script)?)
         }
-        Question::Search(_) | Question::SearchRules(_) => unreachable!(),
+        Question::Search(longest) => {
+            let pool = Pool {
+                base,
+                steps,
+                longest,
+            };
+            searched(host, request, gate, &pool)
+        }
+        Question::SearchRules(longest) => {
+            let pool = Pool {
+                base,
+                steps,
+                longest,
+            };
+            searched_for_rules(host, request, gate, &pool)
+        }
     }
 }
 
@@ -167,12 +114,13 @@ fn base_of<A: Allocator + Copy>(
 ) -> Result<Image<A>, RunFault>
     ensures lawful { OnOk result (IsGeometry settings.now.blocks settings.now.journal) }
     ensures built { IfOk result (λ base.
-        base_from (empty_disk settings.now.blocks settings.now.journal) steps.now ≡ Ok base) }
+        base_from (new_disk settings.now.blocks settings.now.journal settings.now.generations) steps.now ≡ Ok base) }
     ensures sound { IfOk result (λ base. IsSound base × HasZeroJournal base) }
     ensures refused { IfErr result (λ fault. (fault ≢ RunFault.OutOfMemory)
         → IsBaseRefusal settings.now steps.now fault) }
 {
-    let mut base = match Image::formatted(alloc, settings.blocks, settings.journal) {
+    let (blocks, journal) = (settings.blocks, settings.journal);
+    let mut base = match Image::formatted_with(alloc, blocks, journal, settings.generations) {
         Ok(base) => base,
         Err(ImageFault::BadGeometry) => return Err(RunFault::BadGeometry),
         Err(ImageFault::OutOfMemory) => return Err(RunFault::OutOfMemory),

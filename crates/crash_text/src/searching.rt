@@ -20,7 +20,7 @@ use explorers::Gate;
 use failing_sets::GateWatch;
 use first_crashes::kind_section;
 use pool_judging::PoolJudge;
-use question_model::{Found, Most, Request, ShownKind};
+use question_model::{Found, Request, ShownKind, WorkloadLength};
 use question_reports::{KindCrash, SearchFindings, search_report};
 use set_sweep::Workers;
 use std::alloc::{AllocError, Allocator};
@@ -28,12 +28,12 @@ use std::sync::Wait;
 use std::thread::Threads;
 use workload_search::search;
 
-/// The steps of a script as a pool over a base, and the most operations of a workload.
+/// The steps of a script as a pool over a base, and how many operations its longest workloads have.
 #[derive(Drop)]
 pub(crate) struct Pool<'script, A: Allocator + Copy> {
     pub base: &'script Image<A>,
     pub steps: &'script [Step],
-    pub most: Most,
+    pub longest: WorkloadLength,
 }
 
 /// Judges each workload of the pool, and reports. The first step that is no operation is refused.
@@ -51,7 +51,7 @@ where
     requires few { length pool.now.steps.now < 2 ^ 62 }
     requires acts { All (λ step. IsAct step.act) pool.now.steps.now }
     requires sound { IsSound pool.now.base.now × HasZeroJournal pool.now.base.now }
-    ensures reported { IfOk result (λ outcome. IsSearchOf request.now.settings pool.now.most pool.now.base.now
+    ensures reported { IfOk result (λ outcome. IsSearchOf request.now.settings pool.now.longest pool.now.base.now
         pool.now.steps.now (string_bytes outcome.text) outcome.number) }
     ensures refused { IfErr result (λ fault. (fault ≢ RunFault.OutOfMemory) → IsNoPool pool.now.steps.now fault) }
     ensures full { request.now.settings.module ≡ Full → request.now.settings.without.items ≡ []
@@ -65,7 +65,7 @@ where
         alloc: host.alloc,
         base: pool.base,
         pool: pool.steps,
-        most: pool.most.number(),
+        longest: pool.longest,
         ordering: &ordering,
         strict: request.settings.strict,
         atomic: request.settings.atomic,
@@ -88,7 +88,6 @@ where
     G: Gate + Sync,
     requires workers { (1 ≤ number) × (number ≤ 16) }
     requires few { length judge.now.pool.now < 2 ^ 62 }
-    requires most { (1 ≤ judge.now.most) × (judge.now.most ≤ 8) }
     ensures { IfOk result (AreFound (search_by judge.now)) }
 {
     let watch = GateWatch { gate };
@@ -98,7 +97,12 @@ where
         number,
         watch: &watch,
     };
-    search(&workers, judge, judge.pool.len(), judge.most)
+    search(
+        &workers,
+        judge,
+        judge.pool.len(),
+        judge.longest.operations(),
+    )
 }
 
 /// The report on what is found. It fails only when out of memory.
@@ -116,7 +120,7 @@ fn report_on<R, A: Allocator + Copy>(
     let kinds = kind_crashes(judge, settings.explain, found.kinds.as_slice())?;
     let findings = SearchFindings {
         settings,
-        most: judge.most,
+        most: judge.longest.operations(),
         pool: judge.pool,
         found,
         kinds: &kinds,

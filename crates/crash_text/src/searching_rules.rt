@@ -49,7 +49,7 @@ where
     requires few { length pool.now.steps.now < 2 ^ 62 }
     requires acts { All (λ step. IsAct step.act) pool.now.steps.now }
     requires sound { IsSound pool.now.base.now × HasZeroJournal pool.now.base.now }
-    ensures reported { IfOk result (λ outcome. IsRuleSearchOf request.now.settings pool.now.most pool.now.base.now
+    ensures reported { IfOk result (λ outcome. IsRuleSearchOf request.now.settings pool.now.longest pool.now.base.now
         pool.now.steps.now (string_bytes outcome.text) outcome.number) }
     ensures refused { IfErr result (λ fault. (fault ≢ RunFault.OutOfMemory) → IsNoPool pool.now.steps.now fault) }
     ensures full { request.now.settings.module ≡ Full → request.now.settings.without.items ≡ []
@@ -63,12 +63,13 @@ where
         alloc: host.alloc,
         base: pool.base,
         pool: pool.steps,
-        most: pool.most.number(),
+        longest: pool.longest,
         ordering: &ordering,
         strict: request.settings.strict,
         atomic: request.settings.atomic,
     };
     let searched = search_pool_passing(host.rt, request.workers, gate, &judge)?;
+    host.notes.left_out.set(searched.found.failing);
     let outcome = report_on_rules(host, request, &judge, &searched)?;
     Ok(outcome)
 }
@@ -87,7 +88,6 @@ where
     G: Gate + Sync,
     requires workers { (1 ≤ number) × (number ≤ 16) }
     requires few { length judge.now.pool.now < 2 ^ 62 }
-    requires most { (1 ≤ judge.now.most) × (judge.now.most ≤ 8) }
     ensures found { IfOk result (λ searched. AreFound (search_by judge.now) searched.found) }
     ensures passing { IfOk result (λ searched.
         AreAllPassing (search_by judge.now) (map items_of searched.passing.items)) }
@@ -99,7 +99,12 @@ where
         number,
         watch: &watch,
     };
-    search_passing(&workers, judge, judge.pool.len(), judge.most)
+    search_passing(
+        &workers,
+        judge,
+        judge.pool.len(),
+        judge.longest.operations(),
+    )
 }
 
 /// The report on the rules that the workloads need which do not fail. It fails only when out of memory.
@@ -128,7 +133,7 @@ where
     let needs = needed_workloads(&rules, settings.explain, passing, &sets.needed)?;
     let findings = SearchRulesFindings {
         settings,
-        most: judge.most,
+        most: judge.longest.operations(),
         pool: judge.pool,
         found: &searched.found,
         enough: &sets.enough,

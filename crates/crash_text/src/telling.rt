@@ -7,15 +7,17 @@ ghost use Rattle.crash_model.specs.Checker.{IsFailingUnder};
 ghost use Rattle.report_model.specs.Needs.{AreToldRules};
 ghost use Rattle.crash_model.specs.FaultRows.{HasFault, AreRows};
 ghost use Rattle.crash_model.specs.Trace.{Tracing};
-ghost use Rattle.crash_model.specs.declared.settings.ReportBy.TheVariants.{BySet, ByFault, ByRule};
+ghost use Rattle.crash_model.specs.declared.visit.ReportBy.TheVariants.{BySet, ByFault, ByRule};
 ghost use Rattle.report_model.specs.Whole.{Body as WholeBody, report as report_bytes};
 ghost use Rattle.report_sections.specs.Bodies.{AreClosed, AreOnBase, CanTell, detail_by, TellsBody, sets_of, whole_of};
 ghost use Rattle.report_sections.specs.ToldRules.{told_rule};
-ghost use Rattle.crash_text.specs.Telling.{AreFindings, IsReportOf, IsTraceOf, Tells};
+ghost use Rattle.crash_text.specs.Telling.{AreFindings, IsReportOf, Tells};
+ghost use Rattle.crash_text.specs.Traced.{IsTraceOf};
 
 use crate::host::Host;
 use crash_model::fault::FaultRow;
 use crash_model::settings::Settings;
+use crash_model::visit::Visit;
 use disk_image::{Demands, Image};
 use failing_sets::Found;
 use report_json::report_json;
@@ -31,6 +33,7 @@ pub(crate) struct Findings<'found, 'steps, 'asked, A: Allocator + Copy> {
     pub base: &'steps Image<A>,
     pub traced: &'found Traced<'steps, A>,
     pub settings: &'asked Settings,
+    pub visit: Visit,
     pub demands: &'found Demands<A>,
     pub found: Found<A>,
 }
@@ -47,7 +50,7 @@ where
         workers: usize,
     ) -> Result<String<A>, AllocError>
         requires found { AreFindings self.now }
-        requires by { self.now.settings.now.by ≡ BySet }
+        requires by { self.now.visit.report ≡ BySet }
         requires sets { AreAllInOrder
             (IsFailingUnder self.now.demands.now self.now.base.now self.now.traced.now.patches) sets.now }
         ensures { IfOk result (λ text. IsReportOf self.now (string_bytes text)) }
@@ -63,7 +66,7 @@ where
         workers: usize,
     ) -> Result<String<A>, AllocError>
         requires found { AreFindings self.now }
-        requires by { self.now.settings.now.by ≡ ByFault }
+        requires by { self.now.visit.report ≡ ByFault }
         requires rows { AreRows (HasFault self.now.demands.now self.now.base.now self.now.traced.now.patches) rows.now }
         ensures { IfOk result (λ text. IsReportOf self.now (string_bytes text)) }
     {
@@ -78,9 +81,9 @@ where
         workers: usize,
     ) -> Result<String<A>, AllocError>
         requires found { AreFindings self.now }
-        requires by { self.now.settings.now.by ≡ ByRule }
+        requires by { self.now.visit.report ≡ ByRule }
         requires rules { (last : Tracing) → IsTraceOf self.now.settings.now self.now.base.now self.now.traced.now last
-            → AreToldRules (detail_of self.now.settings.now self.now.demands.now) self.now.settings.now.limit
+            → AreToldRules (detail_of self.now.settings.now self.now.demands.now) self.now.visit.limit
             (ordering_rules self.now.settings.now) self.now.base.now last self.now.traced.now.patches
             (ordering_rules self.now.settings.now) (map told_rule rules.now) }
         ensures { IfOk result (λ text. IsReportOf self.now (string_bytes text)) }

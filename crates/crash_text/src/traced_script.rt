@@ -1,6 +1,18 @@
 //! A script's patches, before a question on them is answered.
 
+ghost use Rattle.std.specs.Prelude.{◌≡◌, ◌≢◌, [], IfOk, IfErr};
+ghost use Rattle.crash_model.specs.Sound.{IsSound, HasZeroJournal};
+ghost use Rattle.crash_model.specs.declared.modules.Module.TheVariants.{Full};
+ghost use Rattle.report_sections.specs.Bodies.{AreOnBase};
+ghost use Rattle.crash_text.specs.Traced.{IsOrderingOf, IsTraced, IsTraceRefusal, NoneFails};
+
+use crash_model::orderings::Ordering;
+use crash_model::refusals::RunFault;
+use crash_model::settings::Settings;
+use crash_model::steps::Step;
 use disk_image::{Demands, Image};
+use inode_fs::demands;
+use recoverable_traces::trace;
 use std::alloc::Allocator;
 use traced_patches::Traced;
 
@@ -10,4 +22,33 @@ pub(crate) struct TracedScript<'steps, A: Allocator + Copy> {
     pub base: &'steps Image<A>,
     pub traced: Traced<'steps, A>,
     pub demands: Demands<A>,
+}
+
+/// Traces the steps over the base, under the ordering that the settings ask for.
+///
+/// Under the full journal with no rule taken out no set that a crash can leave fails.
+pub(crate) fn trace_script<'steps, A: Allocator + Copy>(
+    alloc: A,
+    base: &'steps Image<A>,
+    steps: &'steps [Step],
+    settings: &Settings,
+    ordering: &'steps Ordering,
+) -> Result<TracedScript<'steps, A>, RunFault>
+    requires ordering { IsOrderingOf settings.now ordering.now }
+    requires sound { IsSound base.now × HasZeroJournal base.now }
+    ensures traced { IfOk result (IsTraced settings.now base.now steps.now) }
+    ensures on_base { IfOk result (λ script. AreOnBase script.base.now script.traced.patches) }
+    ensures refused { IfErr result (λ fault. (fault ≢ RunFault.OutOfMemory)
+        → IsTraceRefusal settings.now base.now steps.now fault) }
+    ensures full { settings.now.module ≡ Full → settings.now.without.items ≡ [] → IfOk result NoneFails }
+{
+    // For the proof: what holds of every image.
+    let _blocks = base.blocks();
+    let traced = trace(alloc, base, steps, ordering)?;
+    let demands = demands(alloc, base, steps, settings.strict, settings.atomic)?;
+    Ok(TracedScript {
+        base,
+        traced,
+        demands,
+    })
 }

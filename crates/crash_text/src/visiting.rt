@@ -1,10 +1,12 @@
 //! A traced script, answered by a visit to each set that a crash can leave.
 
 ghost use Rattle.std.specs.Prelude.{◌≡◌, ◌≤◌, IfOk, IfErr, string_bytes};
-ghost use Rattle.failing_sets.specs.Limits.{IsExplorable, SaysTooMany};
-ghost use Rattle.question_model.specs.declared.question.Question.TheVariants.{Visit};
+ghost use Rattle.crash_model.specs.Visits.{IsExplorable};
+ghost use Rattle.failing_sets.specs.Limits.{SaysTooMany};
+ghost use Rattle.report_model.specs.Answer.{IsReport};
 ghost use Rattle.report_sections.specs.Bodies.{AreOnBase};
-ghost use Rattle.crash_text.specs.Telling.{AreFindings, IsReportOf, IsReportOn, NoneFails};
+ghost use Rattle.crash_text.specs.Telling.{AreFindings, IsReportOf};
+ghost use Rattle.crash_text.specs.Traced.{IsReportOn, NoneFails};
 
 use crate::host::Host;
 use crate::needs::report_by_rule;
@@ -12,6 +14,7 @@ use crate::run::Outcome;
 use crate::telling::Findings;
 use crate::traced_script::TracedScript;
 use crash_model::refusals::RunFault;
+use crash_model::visit::Visit;
 use explorers::Gate;
 use failing_sets::{Crashes, Finder, Retained};
 use question_model::Request;
@@ -23,6 +26,7 @@ use std::thread::Threads;
 pub(crate) fn visited<R, A, G>(
     host: &Host<'_, R, A>,
     request: &Request,
+    visit: Visit,
     gate: &G,
     script: &TracedScript<'_, A>,
 ) -> Result<Outcome<A>, RunFault>
@@ -30,18 +34,20 @@ where
     R: Threads + Wait + Sync,
     A: Allocator + Copy + Send + Sync,
     G: Gate + Sync,
-    requires limit { IsExplorable request.now.settings }
+    requires limit { IsExplorable visit }
     requires workers { (1 ≤ request.now.workers) × (request.now.workers ≤ 16) }
     requires on_base { AreOnBase script.now.base.now script.now.traced.patches }
     ensures reported { IfOk result (λ outcome.
-        IsReportOn Visit request.now.settings script.now (string_bytes outcome.text) outcome.number) }
-    ensures too_many { IfErr result (SaysTooMany script.now.traced.patches request.now.settings.limit) }
+        IsReportOn (IsReport request.now.settings visit.report visit.limit) request.now.settings script.now
+        (string_bytes outcome.text) outcome.number) }
+    ensures too_many { IfErr result (SaysTooMany script.now.traced.patches visit.limit) }
     ensures safe { NoneFails script.now → IfOk result (λ outcome. outcome.number ≡ 0) }
 {
+    host.notes.note_patches(&script.traced);
     let finder = Finder {
         rt: host.rt,
         alloc: host.alloc,
-        settings: &request.settings,
+        visit,
         workers: request.workers,
         gate,
     };
@@ -55,6 +61,7 @@ where
         base: script.base,
         traced: &script.traced,
         settings: &request.settings,
+        visit,
         demands: &script.demands,
         found,
     };
@@ -64,7 +71,7 @@ where
     })
 }
 
-/// The report on what is found, as the settings ask for it. It fails only when out of memory.
+/// The report on what is found, as the visit asks for it. It fails only when out of memory.
 fn report<R, A, G>(
     host: &Host<'_, R, A>,
     finder: &Finder<'_, R, A, G>,
@@ -74,7 +81,7 @@ where
     R: Threads + Wait + Sync,
     A: Allocator + Copy + Send + Sync,
     G: Gate + Sync,
-    requires same { finder.now.settings.now ≡ findings.now.settings.now }
+    requires same { finder.now.visit ≡ findings.now.visit }
     requires found { AreFindings findings.now }
     ensures { IfOk result (λ text. IsReportOf findings.now (string_bytes text)) }
 {

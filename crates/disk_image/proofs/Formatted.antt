@@ -1,9 +1,10 @@
 -- The bytes of the formatted disk: it holds the root directory alone, so it is sound, and its journal is zero.
 use Rattle.std.proofs.Common.{◌≡◌, ℕ, ◌+◌, ◌-◌, ◌*◌, ◌<◌, ◌≤◌, ◌⊎◌, inl, inr, List, [], ◌∷◌, length, get_or, replicate}
-use Rattle.std.proofs.Common.{arith, ap, ◌∙◌}
+use Rattle.std.proofs.Common.{arith, ap, sym, refl, ◌∙◌, Bool, true, false}
 use Rattle.std.proofs.lemmas.Bool.{cases_lt}
 use Rattle.std.proofs.lemmas.List.{get_or-replicate, length-replicate, get_or_past}
-use Rattle.crash_model.specs.Disk.{IsGeometry, overwrite, empty_disk}
+use Rattle.crash_model.specs.Disk.{IsGeometry, overwrite, new_disk}
+use Rattle.crash_model.specs.Layout.{generation_of, mark_generation}
 use Rattle.crash_model.specs.Sound.{IsSound, HasZeroJournal}
 use Rattle.crash_model.proofs.Bytes.{length-overwrite, overwrite-inside, overwrite-below, overwrite-above}
 use Rattle.disk_image.proofs.RootAlone.{HasRootAlone, sound-root}
@@ -125,8 +126,17 @@ unused-byte n j b good from below =
     ∙ after3 n j (128 + b) good (inl (omega (arith, good.most)))
     ∙ after2 n j (128 + b) good (omega arith)
 
-root-alone : (n j : ℕ) → IsGeometry n j → HasRootAlone (empty_disk n j)
-root-alone n j good = record {
+-- the root's block is of the root's generation, 0
+root-generations : (n j : ℕ) (g : Bool) → IsGeometry n j
+    → mark_generation (new_disk n j g) (4 + j) ≡ generation_of (new_disk n j g) 0
+unfolding mark_generation generation_of
+root-generations n j false good = refl
+root-generations n j true good =
+    zero-byte n j (128 * (4 + j) + 2) good (omega arith) (inr (omega arith))
+    ∙ sym (inode-byte n j 258 2 good (omega arith) (omega arith))
+
+root-alone : (n j : ℕ) (g : Bool) → IsGeometry n j → HasRootAlone (new_disk n j g)
+root-alone n j g good = record {
   disk = record { least = good.least; most = good.most; room = good.room; whole = length-bytes4 n j good };
   kind = inode-byte n j 256 0 good (omega arith) (omega arith);
   links = inode-byte n j 257 1 good (omega arith) (omega arith);
@@ -135,14 +145,15 @@ root-alone n j good = record {
   others = λ i some a. zero-byte n j _ good (omega arith) (inl (omega arith));
   mark = mark-byte n j _ 0 good (omega arith) (omega arith);
   owner = mark-byte n j _ 1 good (omega arith) (omega arith);
+  generations = root-generations n j g good;
   empty = λ k b. zero-byte n j _ good (omega arith) (inr (omega arith));
   used = λ b below e. absurd (omega (arith, used-byte n j b good below, e));
   unused = λ b from below. unused-byte n j b good from below;
 }
 
-pub sound-empty_disk : (n j : ℕ) → IsGeometry n j → IsSound (empty_disk n j)
-sound-empty_disk n j good = sound-root (empty_disk n j) (root-alone n j good)
+pub sound-new_disk : (n j : ℕ) (g : Bool) → IsGeometry n j → IsSound (new_disk n j g)
+sound-new_disk n j g good = sound-root (new_disk n j g) (root-alone n j g good)
 
-pub zero-journal-empty_disk : (n j : ℕ) → IsGeometry n j → HasZeroJournal (empty_disk n j)
-zero-journal-empty_disk n j good block from to offset within = zero-byte n j (128 * block + offset) good (omega arith)
+pub zero-journal-new_disk : (n j : ℕ) (g : Bool) → IsGeometry n j → HasZeroJournal (new_disk n j g)
+zero-journal-new_disk n j g good block from to offset within = zero-byte n j (128 * block + offset) good (omega arith)
     (inl (omega arith))

@@ -2,12 +2,12 @@
 use Rattle.std.proofs.Common.{◌≡◌, ◌≢◌, ℕ, zero, suc, ◌+◌, ◌*◌, ◌<◌, ◌≤◌, ◌⊎◌, ◌↔◌, inl, inr, List, [], length, Bool}
 use Rattle.std.proofs.Common.{true, false, ◌&&◌, ◌==◌, not, nat_lt, IsTrue, Option, None, arith, refl, sym, ap, ◌∙◌}
 use Rattle.std.proofs.Common.{subst, length-append}
-use Rattle.std.proofs.lemmas.Bool.{cases_lt, false≢true, ne_eqb, lt-ltb, le-ltb, le-leb, and_right}
+use Rattle.std.proofs.lemmas.Bool.{cases_lt, false≢true, eq-eqb, ne_eqb, lt-ltb, le-ltb, le-leb, and_right}
 use Rattle.std.specs.Prelude.{option_to_list}
 use Rattle.crash_model.specs.Lists.{each_below, some_below, when}
 use Rattle.crash_model.specs.Disk.{Disk, IsDisk, byte}
 use Rattle.crash_model.specs.Layout.{kind_of, links_of, pointer_of, map_of, is_live, is_data, counts, is_entry}
-use Rattle.crash_model.specs.Layout.{entry_of, is_pointer}
+use Rattle.crash_model.specs.Layout.{entry_of, is_pointer, is_owned, generation_of, mark_generation}
 use Rattle.crash_model.specs.Faults.{IsClean, is_tame, is_wild, is_unwritten, is_right_mark, is_marked_free}
 use Rattle.crash_model.specs.Faults.{names_block, namers, leads_to, each_slot, each_entry, entries_to}
 use Rattle.crash_model.specs.View.{HasPointer}
@@ -25,6 +25,7 @@ pub record HasRootAlone (d : Disk) : Type 0 where
   pub others : (i : ℕ) → 0 < i → i < 16 → kind_of d i ≡ 0
   pub mark : byte d (4 + d.journal) 0 ≡ 0x44
   pub owner : byte d (4 + d.journal) 1 ≡ 0
+  pub generations : mark_generation d (4 + d.journal) ≡ generation_of d 0
   pub empty : (k : ℕ) → k < 10 → byte d (4 + d.journal) (8 + 12 * k) ≡ 0
   pub used : (b : ℕ) → b < 5 + d.journal → map_of d b ≢ 0
   pub unused : (b : ℕ) → 5 + d.journal ≤ b → b < d.blocks → map_of d b ≡ 0
@@ -85,7 +86,15 @@ area-root d root = rw (
 ) refl
 
 counts-root : (d : Disk) → HasRootAlone d → counts d 0 ≡ true
-counts-root d root = rw (root.kind, root.block, area-root d root, root.mark, root.owner) refl
+counts-root d root = rw (
+  root.kind,
+  root.block,
+  area-root d root,
+  root.mark,
+  root.owner,
+  root.generations,
+  eq-eqb (generation_of d 0) (generation_of d 0) refl,
+) refl
 
 counts-others : (d : Disk) (i : ℕ) → HasRootAlone d → 0 < i → i < 16 → counts d i ≡ false
 counts-others d i root some below = rw (root.others i some below) refl
@@ -148,8 +157,15 @@ few-namers d block root =
 
 -- the root's block is its own, and in use
 marked-root : (d : Disk) → HasRootAlone d → (is_right_mark (kind_of d 0) (byte d (pointer_of d 0 0) 0)
-    && byte d (pointer_of d 0 0) 1 == 0) ≡ true
-marked-root d root = rw (root.kind, root.block, root.mark, root.owner) refl
+    && is_owned d (pointer_of d 0 0) 0) ≡ true
+marked-root d root = rw (
+  root.kind,
+  root.block,
+  root.mark,
+  root.owner,
+  root.generations,
+  eq-eqb (generation_of d 0) (generation_of d 0) refl,
+) refl
 
 area-pointer : (d : Disk) → HasRootAlone d → is_data d (pointer_of d 0 0) ≡ true
 area-pointer d root = subst (λ (b : ℕ). is_data d b ≡ true) (sym root.block) (area-root d root)

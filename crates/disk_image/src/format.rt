@@ -1,7 +1,7 @@
 //! The disk that a format leaves, or why there is none.
 
 ghost use Rattle.std.specs.Prelude.{◌≡◌, ◌≤◌, ◌↔◌, IfOk, IsErrOf, OnOk, replicate};
-ghost use Rattle.crash_model.specs.Disk.{with_bytes, empty_disk, IsGeometry};
+ghost use Rattle.crash_model.specs.Disk.{with_bytes, empty_disk, new_disk, IsGeometry};
 ghost use Rattle.crash_model.specs.Sound.{IsSound, HasZeroJournal};
 
 use crate::image::Image;
@@ -43,13 +43,31 @@ impl From<AllocError> for ImageFault {
 }
 
 impl<A: Allocator + Copy> Image<A> {
-    /// A new disk with this number of blocks and of journal blocks.
+    /// A new disk with this number of blocks and of journal blocks, whose inodes have no generations.
+    ///
+    /// It is that of [`Image::formatted_with`].
+    pub fn formatted(alloc: A, blocks: usize, journal: usize) -> Result<Image<A>, ImageFault>
+        ensures ok { IfOk result (λ image. image ≡ empty_disk blocks journal) }
+        ensures lawful { OnOk result (IsGeometry blocks journal) }
+        ensures sound { IfOk result (λ image. IsSound image × HasZeroJournal image) }
+        ensures bad { IsErrOf result ImageFault.BadGeometry ↔ ¬ (IsGeometry blocks journal) }
+    {
+        Image::formatted_with(alloc, blocks, journal, false)
+    }
+
+    /// A new disk with this number of blocks and of journal blocks, whose inodes and marks of blocks have generations
+    /// if they are asked for.
     ///
     /// It holds the superblock, the map with the blocks up to the root's in use, inode 0, which is the root directory,
     /// and the root's empty block; its journal is zero. There are 16 to 128 blocks, and at least six more than journal
     /// blocks; else the geometry is bad.
-    pub fn formatted(alloc: A, blocks: usize, journal: usize) -> Result<Image<A>, ImageFault>
-        ensures ok { IfOk result (λ image. image ≡ empty_disk blocks journal) }
+    pub fn formatted_with(
+        alloc: A,
+        blocks: usize,
+        journal: usize,
+        generations: bool,
+    ) -> Result<Image<A>, ImageFault>
+        ensures ok { IfOk result (λ image. image ≡ new_disk blocks journal generations) }
         ensures lawful { OnOk result (IsGeometry blocks journal) }
         ensures sound { IfOk result (λ image. IsSound image × HasZeroJournal image) }
         ensures bad { IsErrOf result ImageFault.BadGeometry ↔ ¬ (IsGeometry blocks journal) }
@@ -61,6 +79,7 @@ impl<A: Allocator + Copy> Image<A> {
         let mut image = Image {
             blocks,
             journal,
+            generations,
             bytes,
         };
         image.put(0, 0, &[0x53, blocks as u8, journal as u8]);

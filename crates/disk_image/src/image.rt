@@ -13,15 +13,26 @@ use std::marker::Model;
 pub struct Image<A: Allocator + Copy> {
     pub(crate) blocks: usize,
     pub(crate) journal: usize,
+    pub(crate) generations: bool,
     pub(crate) bytes: Vec<u8, A>,
 }
 
 impl<A: Allocator + Copy> Model for Image<A> {
     ghost Value = { Disk };
 
-    ghost view = { λ i. record { blocks = i.blocks; journal = i.journal; bytes = i.bytes.items } };
+    ghost view = { λ i. record {
+      blocks = i.blocks;
+      journal = i.journal;
+      generations = i.generations;
+      bytes = i.bytes.items;
+    } };
 
-    ghost invariant = { λ i. IsDisk (record { blocks = i.blocks; journal = i.journal; bytes = i.bytes.items }) };
+    ghost invariant = { λ i. IsDisk (record {
+      blocks = i.blocks;
+      journal = i.journal;
+      generations = i.generations;
+      bytes = i.bytes.items;
+    }) };
 }
 
 impl<A: Allocator + Copy> Image<A> {
@@ -41,6 +52,13 @@ impl<A: Allocator + Copy> Image<A> {
         ensures disk { IsDisk self.now }
     {
         self.journal
+    }
+
+    /// Whether its inodes and the marks of its blocks have generations.
+    pub fn has_generations(&self) -> bool
+        ensures { result ≡ self.now.generations }
+    {
+        self.generations
     }
 
     /// One byte of a block.
@@ -93,15 +111,17 @@ impl<A: Allocator + Copy> Image<A> {
         ensures { self.new ≡ from.now }
     {
         self.journal = from.journal;
+        self.generations = from.generations;
         self.bytes.copy_from_slice(from.bytes.as_slice());
     }
 
-    /// Whether another image has the same numbers of blocks and the same bytes.
+    /// Whether another image has the same numbers of blocks and the same bytes, and both have generations or neither.
     pub fn is_same(&self, other: &Image<A>) -> bool
         ensures { result ≡ is_same_disk self.now other.now }
     {
         self.blocks == other.blocks
             && self.journal == other.journal
+            && self.generations == other.generations
             && self.bytes.as_slice() == other.bytes.as_slice()
     }
 
@@ -112,6 +132,7 @@ impl<A: Allocator + Copy> Image<A> {
         Ok(Image {
             blocks: self.blocks,
             journal: self.journal,
+            generations: self.generations,
             bytes: self.bytes.clone()?,
         })
     }

@@ -1,19 +1,20 @@
 //! What the bytes of an image mean.
 //!
 //! Blocks 2 and 3 hold the inodes, 16 bytes each, so inode i begins at byte 256 + 16 * i of the disk: its kind, its
-//! link count, two zeros and its four pointers. Block 1 is the allocation map. No other crate turns inodes and entries
+//! link count, its generation, a zero, its four pointers and a byte that an overwriting changes. Block 1 is the allocation map. No other crate turns inodes and entries
 //! into offsets.
 
 ghost use Rattle.std.specs.Prelude.{◌≡◌, ◌<◌, IsTrue, IfSome, bytes_eq};
 ghost use Rattle.crash_model.specs.Layout.{kind_of, links_of, pointer_of, map_of, is_live, is_data, counts, entry_of};
-ghost use Rattle.crash_model.specs.Layout.{spelling_of, inode_block, inode_offset, entry_offset};
-ghost use Rattle.crash_model.specs.Plan.{free_entry};
+ghost use Rattle.crash_model.specs.Layout.{spelling_of, inode_block, inode_offset, entry_offset, generation_of};
+ghost use Rattle.crash_model.specs.Layout.{mark_generation, is_owned};
+ghost use Rattle.crash_model.specs.Plan.{free_entry, touched_of};
 
 use crate::image::Image;
 use crash_model::disk_bytes::{
     BLOCK_SIZE, DIRECTORY_KIND, DIRECTORY_MARK, ENTRIES, ENTRIES_FROM, ENTRY_SIZE, FREE_KIND,
-    INODE_BLOCK, INODE_SIZE, INODES, INODES_IN_BLOCK, JOURNAL_AT, KINDS_AT, LINKS_AT, MAP_AT,
-    MOST_BLOCKS, POINTERS_AT, SLOTS, SPELLING_SIZE,
+    GENERATIONS_AT, INODE_BLOCK, INODE_SIZE, INODES, INODES_IN_BLOCK, JOURNAL_AT, KINDS_AT,
+    LINKS_AT, MAP_AT, MOST_BLOCKS, POINTERS_AT, SLOTS, SPELLING_SIZE, TOUCHED_FROM,
 };
 use std::alloc::Allocator;
 
@@ -61,6 +62,48 @@ impl<A: Allocator + Copy> Image<A> {
         self.bytes[POINTERS_AT + INODE_SIZE * inode as usize + slot as usize]
     }
 
+    /// The byte of an inode that an overwriting changes.
+    pub fn touched(&self, inode: u8) -> u8
+        requires { inode < INODES }
+        ensures { result ≡ touched_of self.now inode }
+    {
+        self.bytes[KINDS_AT + INODE_SIZE * inode as usize + TOUCHED_FROM as usize]
+    }
+
+    /// An inode's generation; 0 on a disk without generations.
+    #[tactic(auto, unfolding(crash_model::specs::Layout::generation_of))]
+    pub fn generation(&self, inode: u8) -> u8
+        requires { inode < INODES }
+        ensures { result ≡ generation_of self.now inode }
+    {
+        if !self.generations {
+            return 0;
+        }
+        self.bytes[GENERATIONS_AT + INODE_SIZE * inode as usize]
+    }
+
+    /// The generation of a block's mark; 0 on a disk without generations.
+    #[tactic(auto, unfolding(crash_model::specs::Layout::mark_generation))]
+    pub fn mark_generation(&self, block: u8) -> u8
+        requires { block < self.now.blocks }
+        ensures { result ≡ mark_generation self.now block }
+    {
+        if !self.generations {
+            return 0;
+        }
+        self.byte(block as usize, 2)
+    }
+
+    /// Whether the mark of a block names the inode and has its generation.
+    pub fn is_owned(&self, block: u8, inode: u8) -> bool
+        requires block { block < self.now.blocks }
+        requires inode { inode < INODES }
+        ensures { result ≡ is_owned self.now block inode }
+    {
+        self.byte(block as usize, 1) == inode
+            && self.mark_generation(block) == self.generation(inode)
+    }
+
     /// Whether a number is that of an inode in use.
     pub fn is_live(&self, inode: u8) -> bool
         ensures { result ≡ is_live self.now inode }
@@ -93,7 +136,7 @@ impl<A: Allocator + Copy> Image<A> {
         self.kind(dir) == DIRECTORY_KIND
             && self.is_data(block)
             && self.byte(block as usize, 0) == DIRECTORY_MARK
-            && self.byte(block as usize, 1) == dir
+            && self.is_owned(block, dir)
     }
 
     /// Byte 0 of entry `k` of a directory that counts: 0 if it is free, else its inode's number + 1.

@@ -4,6 +4,7 @@ use Rattle.std.specs.List.{All, Contains}
 use Rattle.std.proofs.lemmas.List.Elements.{All-contains}
 use Rattle.board_rule.specs.Lists.{Has}
 use Rattle.seen_board.specs.Clauses.{SeesOn}
+use Rattle.seen_board.specs.Ended.{claims_made}
 use Rattle.seen_board.specs.Inserts.{PutOk}
 use Rattle.seen_board.specs.Known.{Known, Shown}
 use Rattle.seen_board.specs.declared.answers.Put.{Put}
@@ -11,7 +12,7 @@ use Rattle.seen_board.specs.declared.answers.Put.TheVariants.{Busy, Over}
 use Rattle.seen_board.proofs.Puts.{has_on, put_sees}
 use Rattle.explorers.proofs.Successors.{puts_in}
 use Rattle.explorers.specs.RecentlySeen.{AreMet}
-use Rattle.explorers.specs.Ready.{IsIdle, IsFree, IsReady}
+use Rattle.explorers.specs.Ready.{IsIdle, IsFree, IsReady, Counts, Keeps}
 use Rattle.explorers.specs.declared.worker.Worker.{Worker}
 
 -- what was met stays so where more is seen
@@ -46,18 +47,20 @@ free_after b space is_own before after word put free ok not_over not_busy own ea
     }
 
 -- a worker that is between two turns stays so where its seat is idle and sees on
-pub ready_on : {S C A : Type 0} (b : Shown S) (space : S) (is_own : S → C → Type 0) (seen : List (List ℕ))
-    (worker : Worker C A) → b.space ≡ space → is_own space worker.scratch → AreMet worker.recent seen
-    → IsIdle b worker.seat → SeesOn seen worker.seat.seen → IsReady b space is_own worker
-ready_on b space is_own seen worker explored own recent idle sees = record {
+pub ready_on : {S C A : Type 0} (b : Shown S) (space : S) (is_own : S → C → Type 0) (before : Known)
+    (worker : Worker C A) → b.space ≡ space → is_own space worker.scratch → AreMet worker.recent before.seen
+    → Counts worker.expanded (claims_made before) → IsIdle b worker.seat → Keeps before worker.seat
+    → SeesOn before.seen worker.seat.seen → IsReady b space is_own worker
+ready_on b space is_own before worker explored own recent counted idle keeps sees = record {
   free = record {
     explored = explored;
     of = idle.0;
     free = idle.1;
     own = own;
-    recent = met_on worker.recent seen worker.seat.seen sees recent;
+    recent = met_on worker.recent before.seen worker.seat.seen sees recent;
   };
   unclaimed = idle.2;
+  counted = subst (Counts worker.expanded) (sym keeps.claims) counted;
 }
 
 -- copies of one word

@@ -1,5 +1,8 @@
+pub mod Claims
 pub mod Entries
 pub mod RecentlySeen
 pub mod Primes
 pub mod Ready
+pub mod Rooms
+pub mod Shares
 pub mod Tasks

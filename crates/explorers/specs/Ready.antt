@@ -1,8 +1,9 @@
 -- A worker between two rounds, during an expansion and at the end.
-use Rattle.std.specs.Prelude.{◌≡◌, ℕ, ◌<◌, List, Result, IfOk, true, slice_index}
+use Rattle.std.specs.Prelude.{◌≡◌, ℕ, ◌<◌, ◌^◌, List, Result, IfOk, true, slice_index}
 use Rattle.board_rule.specs.Lists.{Has}
 use Rattle.seen_board.specs.Known.{Shown, Known}
 use Rattle.seen_board.specs.Clauses.{IsOf, SeesOn, HasClaim}
+use Rattle.seen_board.specs.Ended.{claims_made}
 use Rattle.seen_board.specs.declared.answers.Place.{Place}
 use Rattle.explorers.specs.RecentlySeen.{AreMet}
 use Rattle.explorers.specs.declared.exploration.Turn.{Turn}
@@ -23,10 +24,20 @@ pub record IsFree {S C A : Type 0} (b : Shown S) (s : S) (is_own : S → C → T
   pub own : is_own s worker.scratch
   pub recent : AreMet worker.recent worker.seat.seen
 
--- this holds between two rounds, when it has no claim
+-- the counter shows the number, unless it is too small for it
+abbrev pub Counts : ℕ → ℕ → Type 0
+Counts counter n = n < 2 ^ 64 → counter ≡ n
+
+-- this holds between two rounds, when it has no claim and has expanded as many entries as it has claimed
 pub record IsReady {S C A : Type 0} (b : Shown S) (s : S) (is_own : S → C → Type 0) (worker : Worker C A) : Type 0 where
   pub free : IsFree b s is_own worker
   pub unclaimed : worker.seat.claims ≡ 0
+  pub counted : Counts worker.expanded (claims_made worker.seat)
+
+-- the seat has made no claim, and its share of the board is as it was
+pub record Keeps (before after : Known) : Type 0 where
+  pub claims : claims_made after ≡ claims_made before
+  pub share : after.share ≡ before.share
 
 -- if the round ends as over, the worker's seat knows that more words are reached than the board may have
 abbrev pub KnowsOver : {C A E : Type 0} → Result Turn E → Worker C A → Type 0
@@ -54,3 +65,13 @@ pub record Expands {S : Type 0} (b : Shown S) (before : List (List ℕ)) (place 
 -- the seat is idle, and knows that more words are reached than the board may have if the board said so to its worker
 abbrev pub IsLeft : {S : Type 0} → Shown S → Left → Type 0
 IsLeft b left = IsIdle b left.seat × (left.is_over ≡ true → left.seat.over ≡ 1)
+
+-- as many entries were expanded as the seat has made claims
+abbrev pub IsCounted : Left → Type 0
+IsCounted left = Counts left.expanded (claims_made left.seat)
+
+-- a worker leaves this, with the share of the board that it began with
+pub record IsLeftBy {S C A : Type 0} (b : Shown S) (worker : Worker C A) (left : Left) : Type 0 where
+  pub idle : IsLeft b left
+  pub counted : IsCounted left
+  pub share : left.seat.share ≡ worker.seat.share

@@ -1,49 +1,61 @@
 //! From what the workers leave to the answer.
 ghost use Rattle.std.specs.Prelude.{◌≡◌, ℕ, ◌<◌, ◌≤◌, IfOk, IsErrOf};
 ghost use Rattle.std.specs.List.{All};
+ghost use Rattle.board_rule.specs.Changes.{both_shares};
 ghost use Rattle.state_space.specs.Reach.{IsReached};
-ghost use Rattle.board_rule.specs.Rule.{Overfills};
+ghost use Rattle.board_rule.specs.Rule.{IsWhole, Overfills};
 ghost use Rattle.patch_sets.specs.Explored.{IsExplored};
-ghost use Rattle.explorers.specs.Ready.{IsLeft};
+ghost use Rattle.explorers.specs.Claims.{HoldsOfAtLeast};
+ghost use Rattle.explorers.specs.Ready.{IsLeft, IsCounted};
+ghost use Rattle.explorers.specs.Shares.{MakeWhole};
 
 use crate::collected::collect;
+use crate::exploring::Exploring;
 use crate::rows::Room;
 use crate::worker::Left;
-use patch_sets::explored::{ExploreFault, Explored};
+use patch_sets::explored::ExploreFault;
 use seen_board::Board;
 use state_space::{MAX_BOARD, Space};
 use std::alloc::Allocator;
 
 /// What two workers leave, as one.
 fn join<S: Space, A: Allocator>(board: &Board<S, A>, all: Left, other: Left) -> Left
-    requires all { IsLeft board.now all }
-    requires other { IsLeft board.now other }
-    ensures { IsLeft board.now result }
+    requires all { IsLeft board.now all × IsCounted all }
+    requires other { IsLeft board.now other × IsCounted other }
+    ensures left { IsLeft board.now result }
+    ensures counted { IsCounted result }
+    ensures share { result.seat.share ≡ both_shares all.seat.share other.seat.share }
 {
     let Left {
         mut seat,
+        expanded: before,
         is_over: was_over,
     } = all;
     let Left {
         seat: given,
+        expanded,
         is_over,
     } = other;
     board.join(&mut seat, given);
     Left {
         seat,
+        expanded: before.saturating_add(expanded),
         is_over: was_over || is_over,
     }
 }
 
-/// What many workers leave, joined to what is there.
+/// What many workers leave, joined to what is there. All of them have the whole board.
 pub(crate) fn join_all<S: Space, A: Allocator>(
     board: &Board<S, A>,
     mut all: Left,
     mut others: Vec<Left, A>,
 ) -> Left
-    requires all { IsLeft board.now all }
-    requires others { All (IsLeft board.now) others.items }
-    ensures { IsLeft board.now result }
+    requires all { IsLeft board.now all × IsCounted all }
+    requires others { All (λ left. IsLeft board.now left × IsCounted left) others.items }
+    requires shares { MakeWhole all.seat.share (λ left. left.seat.share) others.items }
+    ensures left { IsLeft board.now result }
+    ensures counted { IsCounted result }
+    ensures whole { IsWhole result.seat.share }
 {
     while let Some(other) = others.pop() {
         all = join(board, all, other);
@@ -51,31 +63,41 @@ pub(crate) fn join_all<S: Space, A: Allocator>(
     all
 }
 
-/// The answer: what the board holds if it is finished, too many words for the board's room if the board said so to a
-/// worker, otherwise out of memory.
+/// The answer, and how many claims were made: what the board holds if it is finished, too many words for the board's
+/// room if the board said so to a worker, otherwise out of memory.
 pub(crate) fn answer<S: Space, A: Allocator + Copy>(
     alloc: A,
     space: &S,
     room: Room,
     board: Board<S, A>,
     left: Left,
-) -> Result<Explored<A>, ExploreFault>
+) -> Exploring<A>
     requires board { (board.limit ≡ room.limit) × (board.places ≡ room.places) × (board.space ≡ space.now) }
     requires small { room.places ≤ MAX_BOARD }
-    requires left { IsLeft board left }
-    ensures found { IfOk result (IsExplored (S.successors space.now) (S.initial space.now) (S.is_good space.now)
+    requires left { IsLeft board left × IsCounted left }
+    requires whole { IsWhole left.seat.share }
+    ensures found { IfOk result.found (IsExplored (S.successors space.now) (S.initial space.now) (S.is_good space.now)
         room.limit) }
-    ensures too_many { IsErrOf result ExploreFault.TooMany
+    ensures too_many { IsErrOf result.found ExploreFault.TooMany
         → Overfills (IsReached (S.successors space.now) (S.initial space.now)) room.limit room.places }
+    ensures each_once { IfOk result.found (λ found. result.claims ≡ found.total) }
+    ensures at_most_once { HoldsOfAtLeast (IsReached (S.successors space.now) (S.initial space.now)) result.claims }
 {
-    let Left { mut seat, is_over } = left;
+    let Left {
+        mut seat,
+        expanded: claims,
+        is_over,
+    } = left;
     let is_finished = board.finished(&mut seat);
     let contents = board.close(seat);
     if is_finished {
-        return collect(alloc, space, room, &contents);
+        let found = collect(alloc, space, room, &contents);
+        return Exploring { claims, found };
     }
     if is_over {
-        return Err(ExploreFault::TooMany);
+        let found = Err(ExploreFault::TooMany);
+        return Exploring { claims, found };
     }
-    Err(ExploreFault::OutOfMemory)
+    let found = Err(ExploreFault::OutOfMemory);
+    Exploring { claims, found }
 }

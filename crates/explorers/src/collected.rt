@@ -25,6 +25,7 @@ pub(crate) fn collect<S: Space, A: Allocator + Copy>(
     requires entries { Entries (S.successors _space.now) (S.initial _space.now) room.places contents.now.rows }
     requires settled { AreSettled (S.successors _space.now) (S.is_good _space.now) contents.now }
     requires done { IsDone (S.successors _space.now) (S.initial _space.now) contents.now }
+    ensures total { IfOk result (λ found. found.total ≡ length (concat contents.now.rows)) }
     ensures found { IfOk result (IsExplored (S.successors _space.now) (S.initial _space.now) (S.is_good _space.now)
         room.limit) }
     ensures too_many { IsErrOf result ExploreFault.TooMany

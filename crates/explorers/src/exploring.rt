@@ -1,11 +1,16 @@
 //! Exploring with many workers.
-ghost use Rattle.std.specs.Prelude.{◌≡◌, ℕ, ◌<◌, ◌≤◌, length, IfOk, IsErrOf};
+ghost use Rattle.std.specs.Prelude.{◌≡◌, ℕ, ◌<◌, ◌≤◌, length, IfOk, OnOk, IsErrOf};
 ghost use Rattle.std.specs.List.{All};
 ghost use Rattle.state_space.specs.Reach.{IsReached};
 ghost use Rattle.board_rule.specs.Lists.{Has};
-ghost use Rattle.board_rule.specs.Rule.{Overfills};
-ghost use Rattle.patch_sets.specs.Explored.{IsExplored};
-ghost use Rattle.explorers.specs.Ready.{IsIdle, IsReady, IsLeft};
+ghost use Rattle.board_rule.specs.Changes.{half_of};
+ghost use Rattle.board_rule.specs.Rule.{IsWhole, Overfills};
+ghost use Rattle.patch_sets.specs.Explored.{IsExplored, ReachExceeds};
+ghost use Rattle.seen_board.specs.Ended.{claims_made};
+ghost use Rattle.explorers.specs.Claims.{HoldsOfAtLeast};
+ghost use Rattle.explorers.specs.Ready.{IsIdle, IsReady, IsLeft, IsCounted};
+ghost use Rattle.explorers.specs.Rooms.{HoldsFullest};
+ghost use Rattle.explorers.specs.Shares.{MakeWhole};
 
 use crate::answers::{answer, join_all};
 use crate::exploration::Exploration;
@@ -27,15 +32,23 @@ use thread_jobs::run_on_threads;
 /// larger table more words are found, but looking for one costs what asking the board does.
 const MOST_RECENT: usize = 8192;
 
-/// Explores a space from its initial word over one board with this room, by 1 to 16 workers.
+/// What an exploration finds, and how many claims it makes.
+#[derive(Drop)]
+pub struct Exploring<A: Allocator> {
+    /// How many words were claimed, each of which was then expanded once. If memory was refused before the workers
+    /// began, or for their results, it is 0.
+    pub claims: usize,
+    pub found: Result<Explored<A>, ExploreFault>,
+}
+
+/// Explores a space from its initial word over one board, by 1 to 16 workers.
 ///
 /// For every number of workers and every schedule, an answer other than out of memory is the one that is defined
 /// without threads: the number of the words that are reached and those of them that are not good, in canonical order,
-/// or that more words are reached than the limit, or more words of one shard than a row has places.
+/// or that more words are reached than the limit.
 ///
-/// So a space that was not counted needs rows as long as the limit ([`Room::for_any`]): then too many says that more
-/// words than the limit are reached. Where the words of the fullest shard were counted, shorter rows hold them all
-/// ([`Room::for_fullest`]). There is one board, so no word is expanded twice.
+/// There are as many claims as words are reached, so each of them is expanded exactly once. After a refusal there are
+/// at most as many claims as words were put on the board.
 ///
 /// Worker 1 works on the caller's thread, and each of the others on a thread of its own if one can be made. The gate
 /// gets each claim before the word is expanded.
@@ -43,10 +56,40 @@ pub fn explore<R, A, S, G>(
     rt: &R,
     alloc: A,
     space: &S,
+    limit: usize,
+    workers: usize,
+    gate: &G,
+) -> Exploring<A>
+where
+    R: Threads + Wait + Sync,
+    A: Allocator + Copy + Send + Sync,
+    S: Space + Sync,
+    S::Scratch: Send,
+    G: Gate + Sync,
+    requires limit { (0 < limit) × (limit ≤ MAX_BOARD) }
+    requires workers { (1 ≤ workers) × (workers ≤ 16) }
+    ensures found { IfOk result.found (IsExplored (S.successors space.now) (S.initial space.now) (S.is_good space.now)
+        limit) }
+    ensures too_many { IsErrOf result.found ExploreFault.TooMany
+        → ReachExceeds (S.successors space.now) (S.initial space.now) limit }
+    ensures each_once { IfOk result.found (λ found. result.claims ≡ found.total) }
+    ensures at_most_once { HoldsOfAtLeast (IsReached (S.successors space.now) (S.initial space.now)) result.claims }
+{
+    explore_in_room(rt, alloc, space, Room::for_any(limit), workers, gate)
+}
+
+/// Explores a space as [`explore`] does, over a board with this room, whose rows may be shorter than the limit.
+///
+/// So too many can also mean that more words of one shard are reached than a row has places. It cannot if the rows
+/// hold the fullest shard, as they do where its words were counted ([`Room::for_fullest`]).
+pub fn explore_in_room<R, A, S, G>(
+    rt: &R,
+    alloc: A,
+    space: &S,
     room: Room,
     workers: usize,
     gate: &G,
-) -> Result<Explored<A>, ExploreFault>
+) -> Exploring<A>
 where
     R: Threads + Wait + Sync,
     A: Allocator + Copy + Send + Sync,
@@ -56,10 +99,51 @@ where
     requires positive { (0 < room.limit) × (0 < room.places) }
     requires small { (room.limit ≤ MAX_BOARD) × (room.places ≤ MAX_BOARD) }
     requires workers { (1 ≤ workers) × (workers ≤ 16) }
-    ensures found { IfOk result (IsExplored (S.successors space.now) (S.initial space.now) (S.is_good space.now)
+    ensures found { IfOk result.found (IsExplored (S.successors space.now) (S.initial space.now) (S.is_good space.now)
         room.limit) }
-    ensures too_many { IsErrOf result ExploreFault.TooMany
+    ensures too_many { IsErrOf result.found ExploreFault.TooMany
         → Overfills (IsReached (S.successors space.now) (S.initial space.now)) room.limit room.places }
+    ensures counted { HoldsFullest (IsReached (S.successors space.now) (S.initial space.now)) room.places
+        → IsErrOf result.found ExploreFault.TooMany
+        → ReachExceeds (S.successors space.now) (S.initial space.now) room.limit }
+    ensures each_once { IfOk result.found (λ found. result.claims ≡ found.total) }
+    ensures at_most_once { HoldsOfAtLeast (IsReached (S.successors space.now) (S.initial space.now)) result.claims }
+{
+    match run(rt, alloc, space, room, workers, gate) {
+        Ok(exploring) => exploring,
+        Err(_) => Exploring {
+            claims: 0,
+            found: Err(ExploreFault::OutOfMemory),
+        },
+    }
+}
+
+/// Opens a board, runs the workers and closes it. It fails if memory is refused before the workers begin, or for
+/// their results.
+fn run<R, A, S, G>(
+    rt: &R,
+    alloc: A,
+    space: &S,
+    room: Room,
+    workers: usize,
+    gate: &G,
+) -> Result<Exploring<A>, AllocError>
+where
+    R: Threads + Wait + Sync,
+    A: Allocator + Copy + Send + Sync,
+    S: Space + Sync,
+    S::Scratch: Send,
+    G: Gate + Sync,
+    requires positive { (0 < room.limit) × (0 < room.places) }
+    requires small { (room.limit ≤ MAX_BOARD) × (room.places ≤ MAX_BOARD) }
+    requires workers { (1 ≤ workers) × (workers ≤ 16) }
+    ensures found { IfOk result (λ run. IfOk run.found
+        (IsExplored (S.successors space.now) (S.initial space.now) (S.is_good space.now) room.limit)) }
+    ensures too_many { IfOk result (λ run. IsErrOf run.found ExploreFault.TooMany
+        → Overfills (IsReached (S.successors space.now) (S.initial space.now)) room.limit room.places) }
+    ensures each_once { IfOk result (λ run. IfOk run.found (λ found. run.claims ≡ found.total)) }
+    ensures at_most_once { IfOk result (λ run.
+        HoldsOfAtLeast (IsReached (S.successors space.now) (S.initial space.now)) run.claims) }
 {
     let (board, seat, place) = Board::open_with_rows(alloc, space, room.limit, room.places)?;
     let hands = first_hands(alloc, space, place, workers)?;
@@ -69,10 +153,10 @@ where
         gate,
     };
     let left = work_all(rt, alloc, &exploration, seat, hands)?;
-    answer(alloc, space, room, board, left)
+    Ok(answer(alloc, space, room, board, left))
 }
 
-/// Lets a worker work for each hand, and joins what they leave to the seat.
+/// Lets a worker work for each hand, and joins what they leave to the seat, which has the whole board before and after.
 fn work_all<R, A, S, G>(
     rt: &R,
     alloc: A,
@@ -88,10 +172,14 @@ where
     G: Gate + Sync,
     requires space { exploration.now.board.now.space ≡ exploration.now.space.now }
     requires idle { IsIdle exploration.now.board.now seat }
+    requires new { claims_made seat ≡ 0 }
+    requires whole { IsWhole seat.share }
     requires start { Has seat.seen (S.initial exploration.now.space.now) }
     requires few { length hands.items ≤ 16 }
     requires ways { All (λ hand. length hand.ways ≡ length hands.items) hands.items }
-    ensures { IfOk result (IsLeft exploration.now.board.now) }
+    ensures left { IfOk result (IsLeft exploration.now.board.now) }
+    ensures counted { IfOk result IsCounted }
+    ensures whole { IfOk result (λ left. IsWhole left.seat.share) }
 {
     let workers = new_workers(
         alloc,
@@ -103,6 +191,7 @@ where
     let left = run_on_threads(rt, &ThreadJob { rt, exploration }, workers)?;
     let before = Left {
         seat,
+        expanded: 0,
         is_over: false,
     };
     Ok(join_all(exploration.board, before, left))
@@ -128,7 +217,7 @@ fn first_hands<S: Space, A: Allocator + Copy>(
 }
 
 /// A worker for each hand, with a seat that is split off and has seen the initial word. Worker 1, whose hand is the
-/// first, is the last.
+/// first, is the last. Their seats and the one that is left have the whole board together.
 fn new_workers<S: Space, A: Allocator + Copy>(
     alloc: A,
     board: &Board<S, A>,
@@ -138,10 +227,13 @@ fn new_workers<S: Space, A: Allocator + Copy>(
 ) -> Result<Vec<Worker<S::Scratch, A>, A>, AllocError>
     requires space { board.now.space ≡ space.now }
     requires idle { IsIdle board.now seat.old }
+    requires whole { IsWhole seat.old.share }
     requires start { Has seat.old.seen (S.initial space.now) }
     requires few { length hands.items ≤ 16 }
     requires ways { All (λ hand. length hand.ways ≡ length hands.items) hands.items }
     ensures idle { IsIdle board.now seat.new }
+    ensures made { claims_made seat.new ≡ claims_made seat.old }
+    ensures shares { IfOk result (λ workers. MakeWhole seat.new.share (λ worker. worker.seat.share) workers.items) }
     ensures count { IfOk result (λ workers. length workers.items ≡ length hands.items) }
     ensures ready { IfOk result (λ workers. All (IsReady board.now space.now S.is_own) workers.items) }
 {
@@ -167,6 +259,9 @@ fn new_worker<S: Space, A: Allocator + Copy>(
     requires idle { IsIdle board.now seat.old }
     requires start { Has seat.old.seen (S.initial space.now) }
     ensures idle { IsIdle board.now seat.new }
+    ensures made { claims_made seat.new ≡ claims_made seat.old }
+    ensures share { OnOk result (seat.new.share ≡ half_of seat.old.share) }
+    ensures half { IfOk result (λ worker. worker.seat.share ≡ half_of seat.old.share) }
     ensures seen { seat.new.seen ≡ seat.old.seen }
     ensures ready { IfOk result (IsReady board.now space.now S.is_own) }
 {

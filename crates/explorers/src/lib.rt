@@ -18,7 +18,7 @@ mod stealing;
 mod tasks;
 mod worker;
 
-pub use exploring::explore;
+pub use exploring::{Exploring, explore, explore_in_room};
 pub use gate::{Gate, OpenGate};
 pub use patch_sets::explored::{ExploreFault, Explored};
 pub use primes::prime_at_least;

@@ -1,8 +1,8 @@
 //! The rows searched for what waits.
-ghost use Rattle.std.specs.Prelude.{◌<◌, ◌≤◌, length};
+ghost use Rattle.std.specs.Prelude.{◌≡◌, ◌<◌, ◌≤◌, length};
 ghost use Rattle.board_rule.specs.Lists.{row_of};
 ghost use Rattle.seen_board.specs.Clauses.{SeesOn};
-ghost use Rattle.explorers.specs.Ready.{IsIdle, IsReady, KnowsOver};
+ghost use Rattle.explorers.specs.Ready.{IsIdle, IsReady, Keeps, KnowsOver};
 
 use crate::exploration::{Exploration, Turn};
 use crate::gate::Gate;
@@ -21,6 +21,7 @@ impl<S: Space, G: Gate, A: Allocator + Copy> Exploration<'_, S, G, A> {
     ) -> Result<Turn, AllocError>
         requires ready { IsReady self.now.board.now self.now.space.now S.is_own mine.old }
         ensures ready { IsReady self.now.board.now self.now.space.now S.is_own mine.new }
+        ensures share { mine.new.seat.share ≡ mine.old.seat.share }
         ensures over { KnowsOver result mine.new }
     {
         for shard in 0..SHARDS as u8 {
@@ -41,6 +42,7 @@ impl<S: Space, G: Gate, A: Allocator + Copy> Exploration<'_, S, G, A> {
         requires ready { IsReady self.now.board.now self.now.space.now S.is_own mine.old }
         requires shard { shard < SHARDS }
         ensures ready { IsReady self.now.board.now self.now.space.now S.is_own mine.new }
+        ensures share { mine.new.seat.share ≡ mine.old.seat.share }
         ensures over { KnowsOver result mine.new }
     {
         let count = see_shard(rt, self.board, &mut mine.seat, shard);
@@ -64,6 +66,7 @@ pub(crate) fn see_shard<R: Wait, S: Space, A: Allocator>(
     requires idle { IsIdle board.now seat.old }
     requires shard { shard < SHARDS }
     ensures idle { IsIdle board.now seat.new }
+    ensures keeps { Keeps seat.old seat.new }
     ensures sees { SeesOn seat.old.seen seat.new.seen }
     ensures seen { result ≤ length (row_of seat.new.seen shard) }
 {

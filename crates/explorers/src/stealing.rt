@@ -1,7 +1,7 @@
 //! A place that another worker handed over.
 ghost use Rattle.std.specs.Prelude.{◌≡◌};
 ghost use Rattle.seen_board.specs.Clauses.{SeesOn};
-ghost use Rattle.explorers.specs.Ready.{IsIdle};
+ghost use Rattle.explorers.specs.Ready.{IsIdle, Keeps};
 
 use crate::searching::see_shard;
 use seen_board::{Board, BoardSeat, shard_of};
@@ -18,6 +18,7 @@ pub(crate) fn learn<R: Wait, S: Space, A: Allocator>(
 )
     requires idle { IsIdle board.now seat.old }
     ensures idle { IsIdle board.now seat.new }
+    ensures keeps { Keeps seat.old seat.new }
     ensures sees { SeesOn seat.old.seen seat.new.seen }
 {
     if board.find(seat, word).is_none() {

@@ -17,8 +17,9 @@ use thread_jobs::Job;
 /// After this many rounds in a row with all deques empty, a worker searches the rows.
 const EMPTY_ROUNDS: u8 = 64;
 
-/// A worker: its number, from 1, its seat at the board, what it judges in, its tasks, the words that it has met, and
-/// how many places of each shard it has tried to claim in a search of the rows. A place that was tried waits no more.
+/// A worker: its number, from 1, its seat at the board, what it judges in, its tasks, the words that it has met, how
+/// many entries it has expanded, and how many places of each shard it has tried to claim in a search of the rows. A
+/// place that was tried waits no more.
 #[derive(Drop)]
 pub(crate) struct Worker<C, A: Allocator> {
     pub number: usize,
@@ -26,12 +27,13 @@ pub(crate) struct Worker<C, A: Allocator> {
     pub scratch: C,
     pub tasks: Tasks<A>,
     pub recent: RecentlySeen<A>,
+    pub expanded: usize,
     pub empty_rounds: u8,
     pub tried: [u16; SHARDS],
 }
 
 impl<C, A: Allocator> Worker<C, A> {
-    /// A worker that has tried nothing.
+    /// A worker that has expanded nothing and tried nothing.
     pub fn new(
         seat: BoardSeat,
         scratch: C,
@@ -42,6 +44,7 @@ impl<C, A: Allocator> Worker<C, A> {
         ensures scratch { result.scratch ≡ scratch }
         ensures tasks { result.tasks ≡ tasks }
         ensures recent { result.recent ≡ recent }
+        ensures expanded { result.expanded ≡ 0 }
     {
         Worker {
             number: tasks.number(),
@@ -49,16 +52,19 @@ impl<C, A: Allocator> Worker<C, A> {
             scratch,
             tasks,
             recent,
+            expanded: 0,
             empty_rounds: 0,
             tried: [0; SHARDS],
         }
     }
 }
 
-/// The result of a worker: its seat, and whether the board said that more words than the limit are reached.
+/// The result of a worker: its seat, how many entries it has expanded, and whether the board said that more words than
+/// the limit are reached.
 #[derive(Drop)]
 pub(crate) struct Left {
     pub seat: BoardSeat,
+    pub expanded: usize,
     pub is_over: bool,
 }
 
@@ -74,12 +80,12 @@ impl<'a, R: Wait, S: Space, G: Gate, A: Allocator + Copy> Job for ThreadJob<'a, 
 
     type Left = Left;
 
-    ghost use Rattle.explorers.specs.Ready.{IsReady, IsLeft};
+    ghost use Rattle.explorers.specs.Ready.{IsReady, IsLeftBy};
 
     ghost is_ready = { λ job worker.
         IsReady job.exploration.now.board.now job.exploration.now.space.now S.is_own worker };
 
-    ghost is_left = { λ job left. IsLeft job.exploration.now.board.now left };
+    ghost is_left = { λ job worker left. IsLeftBy job.exploration.now.board.now worker left };
 
     /// Works until the board is finished, a stop was read, more words than the limit are reached or memory was
     /// refused.
@@ -95,8 +101,12 @@ impl<'a, R: Wait, S: Space, G: Gate, A: Allocator + Copy> Job for ThreadJob<'a, 
                 Ok(Turn::Ended) | Err(_) => break,
             }
         }
-        let Worker { seat, .. } = worker;
-        Left { seat, is_over }
+        let Worker { seat, expanded, .. } = worker;
+        Left {
+            seat,
+            expanded,
+            is_over,
+        }
     }
 }
 
@@ -105,6 +115,7 @@ impl<S: Space, G: Gate, A: Allocator + Copy> Exploration<'_, S, G, A> {
     fn turn<R: Wait>(&self, rt: &R, mine: &mut Worker<S::Scratch, A>) -> Result<Turn, AllocError>
         requires ready { IsReady self.now.board.now self.now.space.now S.is_own mine.old }
         ensures ready { IsReady self.now.board.now self.now.space.now S.is_own mine.new }
+        ensures share { mine.new.seat.share ≡ mine.old.seat.share }
         ensures over { KnowsOver result mine.new }
     {
         if self.board.stopped(&mut mine.seat) {
@@ -123,6 +134,7 @@ impl<S: Space, G: Gate, A: Allocator + Copy> Exploration<'_, S, G, A> {
     fn next_place<R: Wait>(&self, rt: &R, mine: &mut Worker<S::Scratch, A>) -> Option<Place>
         requires ready { IsReady self.now.board.now self.now.space.now S.is_own mine.old }
         ensures ready { IsReady self.now.board.now self.now.space.now S.is_own mine.new }
+        ensures share { mine.new.seat.share ≡ mine.old.seat.share }
     {
         if let Some(task) = mine.tasks.pop() {
             return Some(task.place);
@@ -136,6 +148,7 @@ impl<S: Space, G: Gate, A: Allocator + Copy> Exploration<'_, S, G, A> {
     fn pass<R: Wait>(&self, rt: &R, mine: &mut Worker<S::Scratch, A>) -> Result<Turn, AllocError>
         requires ready { IsReady self.now.board.now self.now.space.now S.is_own mine.old }
         ensures ready { IsReady self.now.board.now self.now.space.now S.is_own mine.new }
+        ensures share { mine.new.seat.share ≡ mine.old.seat.share }
         ensures over { KnowsOver result mine.new }
     {
         if self.board.finished(&mut mine.seat) {

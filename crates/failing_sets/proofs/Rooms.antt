@@ -1,11 +1,11 @@
--- Rows that hold the sets of the fullest shard do not overfill.
-use Rattle.std.proofs.Common.{◌≡◌, ℕ, ◌+◌, ◌<◌, ◌≤◌, ◌%◌, List, length, get_or, All, arith, inl, inr, refl, sym, subst}
+-- The sets that a crash can leave fit a board for so many, with rows that are as long as each count.
+use Rattle.std.proofs.Common.{◌≡◌, ℕ, ◌+◌, ◌<◌, ◌≤◌, ◌%◌, List, length, get_or, All, arith, refl, sym, subst}
 use Rattle.std.specs.Prelude.{Result, Ok, Err, IfErr, IsErrAnd}
 use Rattle.std.proofs.Math.Nat.{lt_of_not-le, mod-lt}
 use Rattle.std.proofs.lemmas.List.Elements.{All-weaker}
 use Rattle.state_space.specs.Counts.{HoldsOf, Outnumbers}
 use Rattle.state_space.proofs.Counting.{not_more}
-use Rattle.board_rule.specs.Rule.{Overfills}
+use Rattle.explorers.specs.Rooms.{HoldsFullest}
 use Rattle.patch_sets.specs.Closed.{IsClosed}
 use Rattle.patch_sets.specs.declared.explored.ExploreFault.{ExploreFault}
 use Rattle.patch_sets.specs.declared.explored.ExploreFault.TheVariants as explore
@@ -34,21 +34,30 @@ module _ (deps counts : List ℕ) (sets : ℕ) (counted : HoldsOf (IsClosed deps
       not_more (IsClosed deps) sets sets counted (omega arith)
       (words, record { distinct = list.distinct; each = each }, omega (arith, high, is)))
 
-  -- words that are closed sets do not overfill rows that are as long as each count
-  pub not_overfilled : (P : ℕ → Type 0) → ((set : ℕ) → P set → IsClosed deps set) → length counts ≡ 13
+  -- where closed sets alone have a property, no more of them have it than there are
+  no_more : (P : ℕ → Type 0) → ((set : ℕ) → P set → IsClosed deps set) → (limit : ℕ) → sets ≤ limit
+      → Outnumbers P limit → ⊥
+  no_more P to limit enough over =
+      not_more (IsClosed deps) sets limit counted enough (more_of P (IsClosed deps) to limit over)
+
+  -- and rows that are as long as each count hold the fullest shard of them
+  fullest_held : (P : ℕ → Type 0) → ((set : ℕ) → P set → IsClosed deps set) → length counts ≡ 13 → (places : ℕ)
+      → ((q : ℕ) → q < length counts → get_or counts q 0 ≤ places) → HoldsFullest P places
+  fullest_held P to thirteen places rows q more =
+      let at : (w : ℕ) → w % 13 ≡ q → w % length counts ≡ q = λ w. subst (λ n. w % n ≡ q) (sym thirteen) in
+      let word = get_or more.0 0 0 in
+      let first = more.1.each 0 0 (omega (arith, more.2)) in
+      let near : q < length counts = subst (λ n. n < length counts) (at word first.1)
+      (mod-lt word (omega (arith, thirteen))) in
+      not_more (InShard q) (get_or counts q 0) places (shards q near) (rows q near)
+      (more_of (λ w. P w × (w % 13 ≡ q)) (InShard q) (λ w both. (to w both.0, at w both.1)) places more)
+
+  -- so a board for that many words with such rows is not too small for them
+  pub large_enough : (P : ℕ → Type 0) → ((set : ℕ) → P set → IsClosed deps set) → length counts ≡ 13
       → (limit places : ℕ) → sets ≤ limit → ((q : ℕ) → q < length counts → get_or counts q 0 ≤ places)
-      → Overfills P limit places → ⊥
-  not_overfilled P to thirteen limit places enough rows over = elim over [
-    | inl all ↦ not_more (IsClosed deps) sets limit counted enough (more_of P (IsClosed deps) to limit all)
-    | inr (q, more) ↦
-        let at : (w : ℕ) → w % 13 ≡ q → w % length counts ≡ q = λ w. subst (λ n. w % n ≡ q) (sym thirteen) in
-        let word = get_or more.0 0 0 in
-        let first = more.1.each 0 0 (omega (arith, more.2)) in
-        let near : q < length counts = subst (λ n. n < length counts) (at word first.1)
-        (mod-lt word (omega (arith, thirteen))) in
-        not_more (InShard q) (get_or counts q 0) places (shards q near) (rows q near)
-        (more_of (λ w. P w × (w % 13 ≡ q)) (InShard q) (λ w both. (to w both.0, at w both.1)) places more)
-  ]
+      → (HoldsFullest P places → Outnumbers P limit) → ⊥
+  large_enough P to thirteen limit places enough rows over =
+      no_more P to limit enough (over (fullest_held P to thirteen places rows))
 
 -- a refusal that is not for too many sets is that memory ran out
 pub refused_otherwise : {A : Type 0} (patches : List Patch) (limit : ℕ) (fault : ExploreFault)

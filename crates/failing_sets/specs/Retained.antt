@@ -7,8 +7,9 @@ use Rattle.crash_model.specs.Patches.{CountsClosed, deps_of}
 use Rattle.crash_model.specs.Checker.{Demands, IsFailingUnder}
 use Rattle.crash_model.specs.FaultRows.{HasFault, AreRows}
 use Rattle.crash_model.specs.declared.patches.Patch.{Patch}
-use Rattle.crash_model.specs.declared.settings.Settings.{Settings}
-use Rattle.crash_model.specs.declared.settings.ReportBy.TheVariants.{BySet, ByFault, ByRule}
+use Rattle.crash_model.specs.declared.visit.ReportBy.{ReportBy}
+use Rattle.crash_model.specs.declared.visit.ReportBy.TheVariants.{BySet, ByFault, ByRule}
+use Rattle.crash_model.specs.declared.visit.Visit.{Visit}
 use Rattle.failing_sets.specs.Prevented.{IsFirstPrevented}
 use Rattle.failing_sets.specs.declared.count.FailingCount.{FailingCount}
 use Rattle.failing_sets.specs.declared.crashes.Crashes.{Crashes}
@@ -30,19 +31,19 @@ pub record AreTotals (limit : ℕ) (demands : Demands) (base : Disk) (patches : 
   pub number : failing ≡ length sets
 
 -- as much of the failing sets as the report asks for
-abbrev pub IsRetained : {A : Type 0} → Settings → Demands → Disk → List Patch → List ℕ → Retained A → Type 0
-IsRetained settings demands base patches sets (Sets all) = (settings.by ≡ BySet) × (all.items ≡ sets)
-IsRetained settings demands base patches sets (Faults rows) =
-    (settings.by ≡ ByFault) × AreRows (HasFault demands base patches) rows.items
-IsRetained settings demands base patches sets Number = settings.by ≡ ByRule
+abbrev pub IsRetained : {A : Type 0} → ReportBy → Demands → Disk → List Patch → List ℕ → Retained A → Type 0
+IsRetained by demands base patches sets (Sets all) = (by ≡ BySet) × (all.items ≡ sets)
+IsRetained by demands base patches sets (Faults rows) =
+    (by ≡ ByFault) × AreRows (HasFault demands base patches) rows.items
+IsRetained by demands base patches sets Number = by ≡ ByRule
 
 -- what is found of the sets that a crash can leave, by what is demanded of their images
-pub record AreFound {A : Type 0} (settings : Settings) (demands : Demands) (base : Disk) (patches : List Patch)
+pub record AreFound {A : Type 0} (visit : Visit) (demands : Demands) (base : Disk) (patches : List Patch)
     (found : Found A)
     : Type 0 where
   pub sets : List ℕ
-  pub totals : AreTotals settings.limit demands base patches found.closed found.failing sets
-  pub retained : IsRetained settings demands base patches sets found.retained
+  pub totals : AreTotals visit.limit demands base patches found.closed found.failing sets
+  pub retained : IsRetained visit.report demands base patches sets found.retained
 
 -- the numbers alone, with the first failing set that the other patches prevent
 pub record IsCountWith (limit : ℕ) (demands : Demands) (base : Disk) (patches others : List Patch)

@@ -46,16 +46,16 @@ where
     /// failing sets alone.
     pub(crate) fn swept(&self, crashes: &Crashes<'_, A>) -> Result<Explored<A>, RunFault>
         ensures total { IfOk result (λ found. CountsClosed crashes.now.graph.now found.total) }
-        ensures within { IfOk result (λ found. found.total ≤ self.now.settings.now.limit) }
+        ensures within { IfOk result (λ found. found.total ≤ self.now.visit.limit) }
         ensures failing { IfOk result (λ found. AreAllInOrder (Fails crashes.now) found.broken.items) }
-        ensures too_many { IfErr result (SaysTooMany crashes.now.graph.now self.now.settings.now.limit) }
+        ensures too_many { IfErr result (SaysTooMany crashes.now.graph.now self.now.visit.limit) }
     {
         if let Some(total) = self.safe_number(crashes)? {
             let broken = Vec::new(self.alloc);
             return Ok(Explored { total, broken });
         }
         let space = PatchSpace::new(crashes.base, crashes.graph, crashes.demands);
-        let (deps, limit) = (dependencies(crashes.graph), self.settings.limit);
+        let (deps, limit) = (dependencies(crashes.graph), self.visit.limit);
         let watch = GateWatch { gate: self.gate };
         let found = self.sweepers(&watch).sweep(&space, &deps, limit)?;
         Ok(found)
@@ -65,12 +65,12 @@ where
     /// takes grows with no number of sets.
     pub(crate) fn swept_faults(&self, crashes: &Crashes<'_, A>) -> Result<SweptFaults<A>, RunFault>
         ensures total { IfOk result (λ found. CountsClosed crashes.now.graph.now found.total) }
-        ensures within { IfOk result (λ found. found.total ≤ self.now.settings.now.limit) }
+        ensures within { IfOk result (λ found. found.total ≤ self.now.visit.limit) }
         ensures failing { IfOk result (λ found.
             CountsFailing crashes.now.demands.now crashes.now.base.now crashes.now.graph.now found.failing) }
         ensures rows { IfOk result (λ found.
             AreRows (HasFault crashes.now.demands.now crashes.now.base.now crashes.now.graph.now) found.rows.items) }
-        ensures too_many { IfErr result (SaysTooMany crashes.now.graph.now self.now.settings.now.limit) }
+        ensures too_many { IfErr result (SaysTooMany crashes.now.graph.now self.now.visit.limit) }
     {
         if let Some(total) = self.safe_number(crashes)? {
             return Ok(SweptFaults {
@@ -80,7 +80,7 @@ where
             });
         }
         let visitor = FaultVisitor::new(self.alloc, crashes.base, crashes.graph, crashes.demands);
-        let (deps, limit) = (dependencies(crashes.graph), self.settings.limit);
+        let (deps, limit) = (dependencies(crashes.graph), self.visit.limit);
         let watch = GateWatch { gate: self.gate };
         let found = sweep_faults(&self.sweepers(&watch), &visitor, &deps, limit)?;
         Ok(found)
@@ -94,12 +94,12 @@ where
         other: &Graph<A>,
     ) -> Result<FailingCount, RunFault>
         ensures total { IfOk result (λ found. CountsClosed crashes.now.graph.now found.total) }
-        ensures within { IfOk result (λ found. found.total ≤ self.now.settings.now.limit) }
+        ensures within { IfOk result (λ found. found.total ≤ self.now.visit.limit) }
         ensures failing { IfOk result (λ found.
             CountsFailing crashes.now.demands.now crashes.now.base.now crashes.now.graph.now found.failing) }
         ensures first { IfOk result (λ found.
             IsFirstPrevented (Fails crashes.now) (IsClosed (deps_of other.now)) found.first) }
-        ensures too_many { IfErr result (SaysTooMany crashes.now.graph.now self.now.settings.now.limit) }
+        ensures too_many { IfErr result (SaysTooMany crashes.now.graph.now self.now.visit.limit) }
     {
         if let Some(total) = self.safe_number(crashes)? {
             return Ok(FailingCount {
@@ -110,7 +110,7 @@ where
         }
         let space = PatchSpace::new(crashes.base, crashes.graph, crashes.demands);
         let visitor = CountVisitor::new(self.alloc, space, other);
-        let (deps, limit) = (dependencies(crashes.graph), self.settings.limit);
+        let (deps, limit) = (dependencies(crashes.graph), self.visit.limit);
         let watch = GateWatch { gate: self.gate };
         let found = sweep_count(&self.sweepers(&watch), &visitor, &deps, limit)?;
         Ok(found)

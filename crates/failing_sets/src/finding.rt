@@ -1,14 +1,14 @@
 //! What is found of the sets that a crash can leave, as much of it as the report asks for.
 //!
-//! The board explores them, or the sweep, as the settings ask. Each function refuses if they are more than the limit of
-//! the settings.
+//! The board explores them, or the sweep, as the visit asks. Each function refuses if they are more than the visit's
+//! limit.
 
 ghost use Rattle.std.specs.Prelude.{◌≡◌, ◌≤◌, IfOk, IfErr, IsTrue};
 ghost use Rattle.std.specs.List.{AllPairs, Contains};
 ghost use Rattle.patch_sets.specs.Closed.{IsClosed};
 ghost use Rattle.patch_sets.specs.Sets.{AreAllInOrder, IsBefore};
 ghost use Rattle.crash_model.specs.Patches.{deps_of, CountsClosed};
-ghost use Rattle.crash_model.specs.declared.settings.ReportBy.TheVariants.{ByFault};
+ghost use Rattle.crash_model.specs.declared.visit.ReportBy.TheVariants.{ByFault};
 ghost use Rattle.failing_sets.specs.Prevented.{IsFirstPrevented};
 ghost use Rattle.failing_sets.specs.Retained.{AreFound, Fails, IsCountWith};
 ghost use Rattle.failing_sets.specs.Limits.{SaysTooMany};
@@ -18,7 +18,7 @@ use crate::finder::Finder;
 use crate::{FailingCount, fault_rows};
 use crash_model::fault::FaultRow;
 use crash_model::refusals::RunFault;
-use crash_model::settings::{Explorer, MAX_BOARD, ReportBy};
+use crash_model::visit::{Explorer, MAX_BOARD, ReportBy};
 use explorers::{Explored, Gate};
 use patch_graph::Graph;
 use std::alloc::Allocator;
@@ -48,16 +48,16 @@ where
     A: Allocator + Copy + Send + Sync,
     G: Gate + Sync,
 {
-    /// What the report that the settings ask for needs.
+    /// What the report that the visit asks for needs.
     ///
     /// It fails with `TooMany` only if a crash can leave more sets than the limit, and else only when out of
     /// memory.
     pub fn find(&self, crashes: &Crashes<'_, A>) -> Result<Found<A>, RunFault>
         ensures found { IfOk result
-            (AreFound self.now.settings.now crashes.now.demands.now crashes.now.base.now crashes.now.graph.now) }
-        ensures too_many { IfErr result (SaysTooMany crashes.now.graph.now self.now.settings.now.limit) }
+            (AreFound self.now.visit crashes.now.demands.now crashes.now.base.now crashes.now.graph.now) }
+        ensures too_many { IfErr result (SaysTooMany crashes.now.graph.now self.now.visit.limit) }
     {
-        match self.settings.by {
+        match self.visit.report {
             ReportBy::BySet => {
                 let found = self.explored(crashes)?;
                 Ok(Found {
@@ -80,10 +80,10 @@ where
 
     /// The faults of the failing sets, for a report with each fault once.
     fn find_faults(&self, crashes: &Crashes<'_, A>) -> Result<Found<A>, RunFault>
-        requires by { self.now.settings.now.by ≡ ByFault }
+        requires by { self.now.visit.report ≡ ByFault }
         ensures found { IfOk result
-            (AreFound self.now.settings.now crashes.now.demands.now crashes.now.base.now crashes.now.graph.now) }
-        ensures too_many { IfErr result (SaysTooMany crashes.now.graph.now self.now.settings.now.limit) }
+            (AreFound self.now.visit crashes.now.demands.now crashes.now.base.now crashes.now.graph.now) }
+        ensures too_many { IfErr result (SaysTooMany crashes.now.graph.now self.now.visit.limit) }
     {
         if self.sweeps() {
             let swept = self.swept_faults(crashes)?;
@@ -118,9 +118,9 @@ where
         crashes: &Crashes<'_, A>,
         other: &Graph<A>,
     ) -> Result<FailingCount, RunFault>
-        ensures counted { IfOk result (IsCountWith self.now.settings.now.limit crashes.now.demands.now
+        ensures counted { IfOk result (IsCountWith self.now.visit.limit crashes.now.demands.now
             crashes.now.base.now crashes.now.graph.now other.now) }
-        ensures too_many { IfErr result (SaysTooMany crashes.now.graph.now self.now.settings.now.limit) }
+        ensures too_many { IfErr result (SaysTooMany crashes.now.graph.now self.now.visit.limit) }
     {
         if self.sweeps() {
             let count = self.swept_count(crashes, other)?;
@@ -137,9 +137,9 @@ where
     /// All failing sets, in canonical order.
     fn explored(&self, crashes: &Crashes<'_, A>) -> Result<Explored<A>, RunFault>
         ensures total { IfOk result (λ found. CountsClosed crashes.now.graph.now found.total) }
-        ensures within { IfOk result (λ found. found.total ≤ self.now.settings.now.limit) }
+        ensures within { IfOk result (λ found. found.total ≤ self.now.visit.limit) }
         ensures failing { IfOk result (λ found. AreAllInOrder (Fails crashes.now) found.broken.items) }
-        ensures too_many { IfErr result (SaysTooMany crashes.now.graph.now self.now.settings.now.limit) }
+        ensures too_many { IfErr result (SaysTooMany crashes.now.graph.now self.now.visit.limit) }
     {
         if self.sweeps() {
             self.swept(crashes)
@@ -150,10 +150,10 @@ where
 
     /// Whether the sweep explores. Otherwise a board can hold as many sets as the limit allows.
     fn sweeps(&self) -> bool
-        ensures { (¬ (IsTrue result)) → self.now.settings.now.limit ≤ MAX_BOARD }
+        ensures { (¬ (IsTrue result)) → self.now.visit.limit ≤ MAX_BOARD }
     {
-        match self.settings.explorer {
-            Explorer::Auto => self.settings.limit > MAX_BOARD,
+        match self.visit.explorer {
+            Explorer::Auto => self.visit.limit > MAX_BOARD,
             Explorer::Board => false,
             Explorer::Sweep => true,
         }

@@ -10,8 +10,8 @@ use crate::crashes::Crashes;
 use crate::finder::Finder;
 use crash_image::{PatchSpace, exploring_finds_the_failing_sets, reach_is_the_closed_sets};
 use crash_model::refusals::RunFault;
-use crash_model::settings::MAX_BOARD;
-use explorers::{Explored, Gate, Room, SHARDS, explore, prime_at_least};
+use crash_model::visit::MAX_BOARD;
+use explorers::{Explored, Gate, Room, SHARDS, explore_in_room, prime_at_least};
 use fault_deciding::dependencies::dependencies;
 use set_sweep::{count_by_remainder, largest};
 use std::alloc::Allocator;
@@ -33,23 +33,24 @@ where
         &self,
         crashes: &Crashes<'_, A>,
     ) -> Result<Explored<A>, RunFault>
-        requires small { self.now.settings.now.limit ≤ MAX_BOARD }
+        requires small { self.now.visit.limit ≤ MAX_BOARD }
         ensures total { IfOk result (λ found. CountsClosed crashes.now.graph.now found.total) }
-        ensures within { IfOk result (λ found. found.total ≤ self.now.settings.now.limit) }
+        ensures within { IfOk result (λ found. found.total ≤ self.now.visit.limit) }
         ensures failing { IfOk result (λ found. AreAllInOrder (Fails crashes.now) found.broken.items) }
-        ensures too_many { IfErr result (SaysTooMany crashes.now.graph.now self.now.settings.now.limit) }
+        ensures too_many { IfErr result (SaysTooMany crashes.now.graph.now self.now.visit.limit) }
     {
         let space = PatchSpace::new(crashes.base, crashes.graph, crashes.demands);
         exploring_finds_the_failing_sets(&space);
         reach_is_the_closed_sets(&space);
-        let (deps, limit) = (dependencies(crashes.graph), self.settings.limit);
+        let (deps, limit) = (dependencies(crashes.graph), self.visit.limit);
         let mut counts = [0; SHARDS];
         let Some(sets) = count_by_remainder(&deps, limit, &mut counts) else {
             return Err(RunFault::TooMany);
         };
         let limit = prime_at_least(sets, limit);
         let room = Room::for_fullest(limit, largest(&counts));
-        let found = explore(self.rt, self.alloc, &space, room, self.workers, self.gate)?;
+        let exploring = explore_in_room(self.rt, self.alloc, &space, room, self.workers, self.gate);
+        let found = exploring.found?;
         self.gate.visited(found.total, found.broken.len());
         Ok(found)
     }

@@ -18,10 +18,10 @@ impl<R, A: Allocator + Copy, G> Finder<'_, R, A, G> {
     /// sets than the limit, and else only when out of memory.
     pub(crate) fn safe_number(&self, crashes: &Crashes<'_, A>) -> Result<Option<usize>, RunFault>
         ensures answer { IfOk result (λ number.
-            MatchOption number (SomeFails crashes.now) (AreSafe self.now.settings.now.limit crashes.now)) }
-        ensures too_many { IfErr result (SaysTooMany crashes.now.graph.now self.now.settings.now.limit) }
+            MatchOption number (SomeFails crashes.now) (AreSafe self.now.visit.limit crashes.now)) }
+        ensures too_many { IfErr result (SaysTooMany crashes.now.graph.now self.now.visit.limit) }
     {
-        let (number, limit) = (closed_number(crashes.graph), self.settings.limit);
+        let (number, limit) = (closed_number(crashes.graph), self.visit.limit);
         if number > limit as u128 {
             return Err(RunFault::TooMany);
         }

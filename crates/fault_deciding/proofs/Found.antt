@@ -4,7 +4,7 @@ use Rattle.std.proofs.Common.{ap, subst, ◌∙◌}
 use Rattle.std.specs.Prelude.{◌==◌, nat_le, nat_lt, slice_index}
 use Rattle.std.proofs.lemmas.Bool.{cases_eq}
 use Rattle.crash_model.specs.Disk.{Disk, byte}
-use Rattle.crash_model.specs.Layout.{pointer_of, links_of, entry_of, counts, is_data, kind_of}
+use Rattle.crash_model.specs.Layout.{pointer_of, links_of, entry_of, counts, is_data, is_owned, kind_of}
 use Rattle.crash_model.specs.Patches.{image_of}
 use Rattle.crash_model.specs.Replay.{image_after_replay}
 use Rattle.known_bytes.specs.Family.{Family, InEach, IsLike, HasValue}
@@ -76,7 +76,7 @@ entry_value f low high n dir k values_low values_high like all blocks gathered s
     let r : Disk = image_after_replay d in
     let block : ℕ = pointer_of r dir 0 in
     let inside : is_data r block ≡ true = second (kind_of r dir == 2) (is_data r block) (byte r block 0 == 0x44)
-    (byte r block 1 == dir) counted in
+    (is_owned r block dir) counted in
     let here : is_data f.base block ≡ true =
     sym (ap (λ (n : ℕ). nat_le (4 + n) block && nat_lt block d.blocks) alike.journal
     ∙ ap (λ (n : ℕ). nat_le (4 + f.base.journal) block && nat_lt block n) alike.blocks) ∙ inside in

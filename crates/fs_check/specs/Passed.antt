@@ -2,7 +2,7 @@
 use Rattle.std.specs.Prelude.{◌≡◌, ℕ, ◌<◌, ◌≤◌, List, length, slice_index, Bool, false, ◌&&◌, ◌||◌, ◌==◌, not, Option}
 use Rattle.crash_model.specs.declared.disk_bytes.TheConstants.{MOST_BLOCKS, INODES, SLOTS, ENTRIES}
 use Rattle.crash_model.specs.Disk.{Disk, byte}
-use Rattle.crash_model.specs.Layout.{kind_of, links_of, map_of, is_data}
+use Rattle.crash_model.specs.Layout.{kind_of, links_of, map_of, is_data, is_owned}
 use Rattle.crash_model.specs.Lists.{when}
 use Rattle.crash_model.specs.Faults.{is_dangling, is_twice, is_unwritten, has_low_links, is_marked_free, is_wild}
 use Rattle.crash_model.specs.Faults.{is_right_mark, names_block, leads_to}
@@ -22,7 +22,7 @@ pub record HasCleanEntries (d : Disk) : Type 0 where
 
 -- a block is marked as an inode's
 abbrev pub is_marked : Disk → ℕ → ℕ → Bool
-is_marked d inode block = is_right_mark (kind_of d inode) (byte d block 0) && byte d block 1 == inode
+is_marked d inode block = is_right_mark (kind_of d inode) (byte d block 0) && is_owned d block inode
 
 -- a block of the data area, in use, that is marked as an inode's
 abbrev pub is_right_block : Disk → ℕ → ℕ → Bool

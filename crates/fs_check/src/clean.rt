@@ -63,7 +63,7 @@ pub(crate) fn is_right_block<A: Allocator + Copy>(image: &Image<A>, inode: u8, b
     image.is_data(block) && image.map(block) != 0 && is_marked(image, inode, block)
 }
 
-/// Whether a block's first two bytes are the mark of an inode's kind and the inode's number.
+/// Whether a block's mark is that of an inode's kind, and names the inode with its generation.
 pub(crate) fn is_marked<A: Allocator + Copy>(image: &Image<A>, inode: u8, block: u8) -> bool
     requires inode { inode < INODES }
     requires block { block < image.now.blocks }
@@ -75,7 +75,7 @@ pub(crate) fn is_marked<A: Allocator + Copy>(image: &Image<A>, inode: u8, block:
         DIRECTORY_KIND => mark == DIRECTORY_MARK,
         _ => false,
     };
-    is_right_mark && image.byte(block as usize, 1) == inode
+    is_right_mark && image.is_owned(block, inode)
 }
 
 /// Whether each entry leads to a live inode, and no inode has more entries than links.

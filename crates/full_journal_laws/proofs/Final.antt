@@ -6,7 +6,7 @@ use Rattle.std.specs.List.{flat_map, range_with_len}
 use Rattle.std.proofs.lemmas.List.{length-append, length-take, map-append, take_at, drop_at, drop-drop}
 use Rattle.std.specs.Prelude.{All}
 use Rattle.std.proofs.lemmas.List.Elements.{All-head, All-tail}
-use Rattle.crash_model.specs.Disk.{Disk, IsDisk, block_of}
+use Rattle.crash_model.specs.Disk.{Disk, IsDisk, block_of, with_bytes}
 use Rattle.crash_model.specs.Sound.{IsSound, HasZeroJournal}
 use Rattle.patch_sets.specs.Sets.{Has, has}
 use Rattle.patch_sets.specs.Closed.{IsClosed}
@@ -36,7 +36,7 @@ use Rattle.full_journal_laws.specs.Full.{IsOutside}
 use Rattle.full_journal_laws.proofs.Logs.{log_emitted, IsClosedIn, IsGood, ArePlans}
 use Rattle.journal_replay.proofs.Blocks.{IsShaped, length-block, block-at, shaped-inside}
 use Rattle.journal_replay.proofs.Targets.{bool_is, same_number, found_or_not, header_fits}
-use Rattle.full_journal_laws.proofs.Images.{shaped-image}
+use Rattle.full_journal_laws.proofs.Images.{shaped-image, image-generations}
 use Rattle.full_journal_laws.proofs.Targets.{equal_test}
 use Rattle.crash_model.specs.Atomic.{shows}
 use Rattle.full_journal_laws.proofs.Showing.{sound_shows}
@@ -173,6 +173,15 @@ replayed_long n jl d s room =
 abbrev pub with_all_changes : Disk → List (List Change) → Disk
 with_all_changes d [] = d
 with_all_changes d (cs ∷ ops) = with_all_changes (with_changes d cs) ops
+
+-- changes leave what says whether there are generations
+changes-generations : (d : Disk) (cs : List Change) → (with_changes d cs).generations ≡ d.generations
+changes-generations d [] = refl
+changes-generations d (c ∷ cs) = changes-generations (with_bytes d c.block c.offset c.new.items) cs
+
+all_changes-generations : (d : Disk) (ops : List (List Change)) → (with_all_changes d ops).generations ≡ d.generations
+all_changes-generations d [] = refl
+all_changes-generations d (cs ∷ ops) = all_changes-generations (with_changes d cs) ops ∙ changes-generations d cs
 
 -- how many commits a set has
 abbrev pub commits : ℕ → ℕ → List (List Change) → ℕ → ℕ
@@ -369,6 +378,8 @@ module _ (rules : List Rule) (whole : Bool) (base : Disk) (steps : List Step) (s
   image_sound : IsSound (image_after_replay image)
   image_sound = sound-outside left (image_after_replay image) left_good.disk left_good.sound
       (image_shaped.blocks ∙ sym left_good.blocks) (image_shaped.journal ∙ sym left_good.journal)
+      (image-generations 0 base (log_places n base 1 4 (changes_of logged.changes)) set
+      ∙ sym (all_changes-generations base (take k (changes_of logged.changes))))
       (replayed_long n jl image image_shaped room ∙ ap (λ (m : ℕ). 128 * m) (sym left_good.blocks)
       ∙ sym left_good.disk.whole)
       (λ b less out. blocks_are b (subst (λ (m : ℕ). b < m) left_good.blocks less)

@@ -33,6 +33,17 @@ image-all id d [] set every = refl
 image-all id d (p ∷ ps) set every = rw (every id (omega arith) (omega arith))
     (image-all (id + 1) (with_bytes d p.block p.offset p.new) ps set (λ q a b. every q (omega arith) (omega arith)))
 
+-- patches leave what says whether there are generations
+pub image-generations : (id : ℕ) (d : Disk) (ps : List Place) (set : ℕ)
+    → (image_from id d ps set).generations ≡ d.generations
+image-generations id d [] set = refl
+image-generations id d (p ∷ ps) set = image-generations (id + 1)
+    (cond (has set id) (with_bytes d p.block p.offset p.new) d) ps set ∙ step (has set id)
+  where
+    step : (b : Bool) → (cond b (with_bytes d p.block p.offset p.new) d).generations ≡ d.generations
+    step true = refl
+    step false = refl
+
 abbrev pub Avoid : ℕ → List Place → Type 0
 Avoid x [] = Unit {0}
 Avoid x (p ∷ ps) = (x ≢ p.block) × Avoid x ps

@@ -1,6 +1,6 @@
 -- What the plan of an operation keeps on a sound disk.
 use Rattle.std.proofs.Common.{◌≡◌, ℕ, zero, suc, ◌+◌, ◌<◌, ◌≤◌, ◌⊎◌, inl, inr, List, [], ◌∷◌, length, Bool, true, false}
-use Rattle.std.proofs.Common.{cond, Ok, arith, tests, refl, ◌∙◌, subst}
+use Rattle.std.proofs.Common.{cond, Ok, ◌||◌, arith, tests, refl, sym, ap, ◌∙◌, subst}
 use Rattle.std.specs.Prelude.{◌==◌}
 use Rattle.std.specs.List.{filter, list_any, range_with_len}
 use Rattle.crash_model.specs.Disk.{Disk}
@@ -11,7 +11,7 @@ use Rattle.crash_model.specs.declared.operations.Op.{Op}
 use Rattle.crash_model.specs.declared.plans.Change.{Change}
 use Rattle.inode_fs.specs.Inside.{GivesName}
 use Rattle.inode_fs.proofs.Lands.{Lands, AllLand, plan-lands, with_changes-disk, with_changes-size}
-use Rattle.inode_fs.proofs.Counts.{plan-count}
+use Rattle.inode_fs.proofs.Counts.{plan-count, SharesBlock, plan-shape}
 use Rattle.inode_fs.proofs.Sounds.{plan-keeps}
 use Rattle.full_journal_laws.proofs.Transactions.{IsTurn, ArePlaced, AreAimed, change_places}
 use Rattle.full_journal_laws.proofs.Logs.{IsGood}
@@ -75,6 +75,25 @@ touched_few n (c ∷ cs) =
     let one = one_of_range c.block 0 n in
     let rest : length (touched_blocks n cs) ≤ length cs = touched_few n cs in
     omega arith
+
+-- of nine changes the fourth can be in the block of the first
+shared_few : (n : ℕ) (cs : List Change) → SharesBlock cs → length (touched_blocks n cs) ≤ 8
+shared_few n cs s =
+    subst (λ (x : List Change). length (touched_blocks n x) ≤ 8) (sym s.are)
+    (let split = filter_split (λ b. list_any (λ (x : Change). x.block == b) (s.first ∷ s.second ∷ s.third ∷ s.fourth
+    ∷ s.rest)) (λ b. list_any (λ (x : Change). x.block == b) (s.first ∷ s.second ∷ s.third ∷ s.rest))
+    (λ b. list_any (λ (x : Change). x.block == b) []) (range_with_len 0 n) (λ b h. inl (shorter (s.first.block == b)
+    (s.second.block == b) (s.third.block == b) (s.fourth.block == b) (list_any (λ (x : Change). x.block == b) s.rest)
+    (ap (λ (m : ℕ). m == b) s.same) h)) in
+    let none = none_touched (range_with_len 0 n) in
+    let rest : length (touched_blocks n (s.first ∷ s.second ∷ s.third ∷ s.rest)) ≤ length (s.first ∷ s.second ∷ s.third
+    ∷ s.rest) = touched_few n (s.first ∷ s.second ∷ s.third ∷ s.rest) in
+    let few = s.few in
+    omega arith)
+  where
+    shorter : (a b c d r : Bool) → d ≡ a → (a || (b || (c || (d || r)))) ≡ true → (a || (b || (c || r))) ≡ true
+    shorter true b c d r same h = refl
+    shorter false b c d r same h = rw same at h
 
 -- and one at least
 pub touched_some : (n : ℕ) (c : Change) (cs : List Change) → c.block < n → 1 ≤ length (touched_blocks n (c ∷ cs))
@@ -141,11 +160,15 @@ module _ (n jl : ℕ) (d : Disk) (op : Op) (cs : List Change) (good : IsGood n j
   pub plan-turn : (j : ℕ) → j + 1 + length (touched_blocks n cs) ≤ 4 + jl → IsTurn n jl d j cs
   plan-turn j room =
       let count = plan-count d op cs is in
-      let few : length (touched_blocks n cs) ≤ length cs = touched_few n cs in
+      let few : length (touched_blocks n cs) ≤ 8 = elim (plan-shape d op cs is) [
+        | inl short ↦ (let at_most : length (touched_blocks n cs) ≤ length cs = touched_few n cs in
+            omega (arith, short.1))
+        | inr shares ↦ shared_few n cs shares
+      ] in
       record {
         placed = all-placed n d cs good.blocks lands;
         aimed = all-aimed d cs lands;
         some = all-some n d cs good.blocks count.0 lands;
-        few = omega (arith, few, count.1);
+        few = few;
         room = room;
       }

@@ -4,6 +4,7 @@ use Rattle.std.proofs.Common.{◌≡◌, ℕ, zero, suc, ◌+◌, ◌<◌, ◌�
 use Rattle.std.proofs.Common.{◌&&◌, ◌||◌, ◌==◌, not, arith, tests, refl, sym, ap, subst, ◌∙◌}
 use Rattle.std.specs.Prelude.{nat_le, nat_lt, bytes_eq, if◌then◌else◌}
 use Rattle.std.specs.List.{list_any}
+use mathlib.Core.Bool.{beq}
 use Rattle.std.proofs.lemmas.Bool.{and_parts, or_cases, false≢true}
 use Rattle.std.proofs.lemmas.List.Folds.{list_any-append}
 use Rattle.std.proofs.lemmas.Slice.Eq.{bytes_eq-Decides}
@@ -60,12 +61,22 @@ or_right false b e = e
 
 same_disk : (a b : Disk) → is_same_disk a b ≡ true → a ≡ b
 same_disk a b is =
-    let disk : ℕ → ℕ → List ℕ → Disk = λ n j xs. record { blocks = n; journal = j; bytes = xs } in
-    let one = and_parts (a.blocks == b.blocks) (a.journal == b.journal && bytes_eq a.bytes b.bytes) is in
-    let two = and_parts (a.journal == b.journal) (bytes_eq a.bytes b.bytes) one.1 in
-    ap (λ (n : ℕ). disk n a.journal a.bytes) (eq_from_true a.blocks b.blocks one.0)
-    ∙ (ap (λ (j : ℕ). disk b.blocks j a.bytes) (eq_from_true a.journal b.journal two.0)
-    ∙ ap (λ (xs : List ℕ). disk b.blocks b.journal xs) ((bytes_eq-Decides a.bytes b.bytes).0 two.1))
+    let disk : ℕ → ℕ → Bool → List ℕ → Disk =
+    λ n j g xs. record { blocks = n; journal = j; generations = g; bytes = xs } in
+    let one = and_parts (a.blocks == b.blocks) (a.journal == b.journal
+    && (beq a.generations b.generations && bytes_eq a.bytes b.bytes)) is in
+    let two = and_parts (a.journal == b.journal) (beq a.generations b.generations && bytes_eq a.bytes b.bytes) one.1 in
+    let three = and_parts (beq a.generations b.generations) (bytes_eq a.bytes b.bytes) two.1 in
+    ap (λ (n : ℕ). disk n a.journal a.generations a.bytes) (eq_from_true a.blocks b.blocks one.0)
+    ∙ (ap (λ (j : ℕ). disk b.blocks j a.generations a.bytes) (eq_from_true a.journal b.journal two.0)
+    ∙ (ap (λ (g : Bool). disk b.blocks b.journal g a.bytes) (alike a.generations b.generations three.0)
+    ∙ ap (λ (xs : List ℕ). disk b.blocks b.journal b.generations xs) ((bytes_eq-Decides a.bytes b.bytes).0 three.1)))
+  where
+    alike : (g h : Bool) → beq g h ≡ true → g ≡ h
+    alike true true e = refl
+    alike true false e = absurd (false≢true e)
+    alike false true e = absurd (false≢true e)
+    alike false false e = refl
 
 module _ (p : Disk → Bool) where
   -- a test that holds of a disk holds of one among those that has it

@@ -1,111 +1,86 @@
 //! Why a line on groups is refused.
 
-use crate::problems::{Advice, Problem};
-use crate::sentences::Middle::{Nothing, Number};
 use crash_model::names::GroupName;
 use crash_model::steps::{Act, Step};
+use std::alloc::{AllocError, Allocator};
 
-/// The line is before the start line.
-static BEFORE_START: Advice = Advice {
-    before: "the line is before `start`",
-    after: "",
-    right: "groups order what is traced, so they come after `start`",
-};
-
-/// A group is open since this line.
-static IS_OPEN: Advice = Advice {
-    before: "a group is open since line ",
-    after: "",
-    right: "put a line `end` before this one",
-};
-
-/// The group was opened on this line already.
-static WAS_OPENED: Advice = Advice {
-    before: "line ",
-    after: " opened this group already",
-    right: "a group is opened once; give this one another name",
-};
-
-/// No group is open.
-static NONE_IS_OPEN: Advice = Advice {
-    before: "no group is open at this line",
-    after: "",
-    right: "a line `group NAME` opens a group, and `end` ends it",
-};
-
-/// The group that the line makes others wait for was not opened before it.
-static NEVER_OPENED: Advice = Advice {
-    before: "no line before this one opens the earlier group",
-    after: "",
-    right: "write `depend LATER EARLIER` after the earlier group's `end`, before the later one's `group`",
-};
-
-/// The line opens a group in a pool of operations.
-static IN_POOL: Advice = Advice {
-    before: "a pool has operations alone",
-    after: "",
-    right: "leave the line out, or ask without `--search`",
-};
-
-/// The group that the line makes others wait for is open since this line.
-static NOT_ENDED: Advice = Advice {
-    before: "the earlier group is open since line ",
-    after: "",
-    right: "put a line `end` before this one",
-};
-
-/// The line names one group twice.
-static ITSELF: Advice = Advice {
-    before: "the line names one group twice",
-    after: "",
-    right: "write `depend LATER EARLIER` with the names of two groups",
-};
-
-/// The group that is to wait was opened on this line, and has patches already.
-static HAS_PATCHES: Advice = Advice {
-    before: "the later group was opened on line ",
-    after: " and has patches already",
-    right: "write `depend` before the later group's first operation",
-};
-
-/// Why the line of this number, which the program refused for its groups, is refused.
-pub(crate) fn group_problem(base: &[Step], traced: &[Step], number: usize) -> Problem<'static> {
+/// Why the line of this number, which the program refused for its groups, is refused, and what would be right.
+pub(crate) fn group_text<A: Allocator + Copy>(
+    alloc: A,
+    base: &[Step],
+    traced: &[Step],
+    number: usize,
+) -> Result<String<A>, AllocError> {
     if act_at(base, number).is_some() {
-        return Problem(&BEFORE_START, Nothing);
+        return format!(in alloc;
+            "the line is before `start`\nhint: groups order what is traced, so they come after `start`"
+        );
     }
     match act_at(traced, number) {
-        Some(Act::Group(name)) => match (open_at(traced, number), opened_at(traced, number, name)) {
-            (Some((_, since)), _) => Problem(&IS_OPEN, Number(since)),
-            (None, Some(line)) => Problem(&WAS_OPENED, Number(line)),
-            // In a script such a line is right, so this is a pool.
-            (None, None) => Problem(&IN_POOL, Nothing),
-        },
-        Some(Act::Depend(later, earlier)) => depend_problem(traced, number, later, earlier),
-        _ => Problem(&NONE_IS_OPEN, Nothing),
+        Some(Act::Group(name)) => opening_text(alloc, traced, number, name),
+        Some(Act::Depend(later, earlier)) => depend_text(alloc, traced, number, later, earlier),
+        _ => format!(in alloc;
+            "no group is open at this line\nhint: a line `group NAME` opens a group, and `end` ends it"
+        ),
     }
 }
 
-/// Why a line `depend` is refused.
-fn depend_problem(
+/// Why a line `group` is refused.
+fn opening_text<A: Allocator + Copy>(
+    alloc: A,
+    traced: &[Step],
+    number: usize,
+    name: &GroupName,
+) -> Result<String<A>, AllocError> {
+    if let Some((_, since)) = open_at(traced, number) {
+        return format!(in alloc;
+            "a group is open since line {since}\nhint: put a line `end` before this one"
+        );
+    }
+    match opened_at(traced, number, name) {
+        Some(line) => format!(in alloc;
+            "line {line} opened this group already\nhint: a group is opened once; give this one another name"
+        ),
+        // In a script such a line is right, so this is a pool.
+        None => format!(in alloc;
+            "a pool has operations alone\nhint: leave the line out, or ask without `--search`"
+        ),
+    }
+}
+
+/// Why a line `depend` with the names of these two groups is refused.
+fn depend_text<A: Allocator + Copy>(
+    alloc: A,
     traced: &[Step],
     number: usize,
     later: &GroupName,
     earlier: &GroupName,
-) -> Problem<'static> {
+) -> Result<String<A>, AllocError> {
     if later.same(earlier) {
-        return Problem(&ITSELF, Nothing);
+        return format!(in alloc;
+            "the line names one group twice\nhint: write `depend LATER EARLIER` with the names of two groups"
+        );
     }
     if let Some((open, since)) = open_at(traced, number) {
         if open.same(earlier) {
-            return Problem(&NOT_ENDED, Number(since));
+            return format!(in alloc;
+                "the earlier group is open since line {since}\nhint: put a line `end` before this one"
+            );
         }
     }
-    match (
+    let (before, after) = (
         opened_at(traced, number, earlier),
         opened_at(traced, number, later),
-    ) {
-        (Some(_), Some(line)) => Problem(&HAS_PATCHES, Number(line)),
-        _ => Problem(&NEVER_OPENED, Nothing),
+    );
+    match (before, after) {
+        (Some(_), Some(line)) => format!(in alloc;
+            "the later group was opened on line {line} and has patches already\n\
+             hint: write `depend` before the later group's first operation"
+        ),
+        _ => format!(in alloc;
+            "no line before this one opens the earlier group\n\
+             hint: write `depend LATER EARLIER` after the earlier group's `end`, before the later one's `group`"
+        ),
     }
 }
 

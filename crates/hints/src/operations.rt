@@ -1,193 +1,195 @@
 //! Why an operation is refused.
 
-use crate::disk_before::{Named, first_not_directory, named_by};
-use crate::problems::{Advice, Problem};
-use crate::sentences::Middle::{Nothing, Quote};
-use crash_model::refusals::RunFault;
+use crate::quoted::{Quoted, word_at};
+use crash_model::names::Path;
+use crash_model::operations::Op;
+use crash_model::refusals::{FsFault, RunFault};
+use crash_model::steps::{Act, Step};
 use disk_image::Image;
+use inode_fs::{apply, plan};
 use std::alloc::Allocator;
+use std::{fmt, str};
 
-/// The path names nothing.
-static MISSING: Advice = Advice {
-    before: "there is no ",
-    after: " at this line",
-    right: "`create` makes a file and `mkdir` a directory; put it before this line",
-};
+// What is wrong with a path, and what would be right.
+const NOT_THERE: &str = " at this line\n\
+    hint: `create` makes a file and `mkdir` a directory; put it before this line";
 
-/// A path goes through this file.
-static IS_FILE: Advice = Advice {
-    before: "",
-    after: " is a file",
-    right: "only a directory has names in it: make one by `mkdir`",
-};
+const NOT_EMPTY: &str = " is not empty\nhint: remove what is in it first";
 
-/// This file is to be removed as a directory.
-static RMDIR_OF_FILE: Advice = Advice {
-    before: "",
-    after: " is a file",
-    right: "`unlink` removes a file",
-};
+const TAKEN: &str = " is there already\nhint: take another name, or remove this one first";
 
-/// The name is there already.
-static EXISTS: Advice = Advice {
-    before: "",
-    after: " is there already",
-    right: "take another name, or remove this one first",
-};
+const RENAMED_ONTO: &str = " is there already\nhint: `replace` renames onto a name that is there";
 
-/// The new name of a rename is there already.
-static RENAME_ONTO: Advice = Advice {
-    before: "",
-    after: " is there already",
-    right: "a rename onto a name is not modelled: remove the new name first",
-};
+const SAME_PATH: &str = "\nhint: write the old path and then a new one";
 
-/// Both paths of a link or a rename are this one.
-static SAME_PATH: Advice = Advice {
-    before: "both paths are ",
-    after: "",
-    right: "write the old path and then a new one",
-};
+const SAME_FILE: &str =
+    "\nhint: a file takes the name of another file: take the name of another one";
 
-/// This directory is in the place of a file.
-static IS_DIRECTORY: Advice = Advice {
-    before: "",
-    after: " is a directory",
-    right: "only a file is written, linked or renamed",
-};
+const NO_BLOCK: &str = " has no block in this slot\n\
+    hint: `write` adds a block in the lowest free slot; without a slot all blocks are overwritten";
 
-/// This directory is to be unlinked.
-static UNLINK_OF_DIRECTORY: Advice = Advice {
-    before: "",
-    after: " is a directory",
-    right: "`rmdir` removes a directory",
-};
+const FILE_IN_PATH: &str =
+    " is a file\nhint: only a directory has names in it: make one by `mkdir`";
 
-/// This directory that is to be removed has names in it.
-static NOT_EMPTY: Advice = Advice {
-    before: "",
-    after: " is not empty",
-    right: "remove what is in it first",
-};
+const FILE_REMOVED: &str = " is a file\nhint: `unlink` removes a file";
 
-/// No inode is free.
-static NO_INODE: Advice = Advice {
-    before: "all 16 inodes are in use at this line",
-    after: "",
-    right: "the disk has 16 inodes, the root's among them: unlink a file first",
-};
+const DIRECTORY: &str = " is a directory\nhint: only a file is written, linked or renamed";
 
-/// The directory of this path is full.
-static DIRECTORY_FULL: Advice = Advice {
-    before: "the directory of ",
-    after: " has 10 names already",
-    right: "a directory holds at most 10 names: take another directory",
-};
+const DIRECTORY_CHANGED: &str =
+    " is a directory\nhint: only a file is overwritten, truncated or replaced";
 
-/// This file is full.
-static FILE_FULL: Advice = Advice {
-    before: "",
-    after: " has 4 blocks already",
-    right: "a file holds at most 4 blocks, and each `write` adds one",
-};
+const DIRECTORY_UNLINKED: &str = " is a directory\nhint: `rmdir` removes a directory";
 
-/// This file has as many names as a file can have.
-static LINKS_FULL: Advice = Advice {
-    before: "",
-    after: " has 8 names already",
-    right: "a file has at most 8 names: unlink one first",
-};
+const DIRECTORY_FULL: &str = " has 10 names already\n\
+    hint: a directory holds at most 10 names: take another directory";
 
-/// A verb and its paths, as a line has them.
+const FILE_FULL: &str = " has 4 blocks already\n\
+    hint: a file holds at most 4 blocks, and each `write` adds one";
+
+const LINKS_FULL: &str = " has 8 names already\nhint: a file has at most 8 names: unlink one first";
+
+const NO_INODE: &str = "all 16 inodes are in use at this line\n\
+    hint: the disk has 16 inodes, the root's among them: unlink a file first";
+
+/// What is wrong with an operation and what would be right: words, a path if it is not empty, and more words.
 #[derive(Clone, Copy)]
-pub(crate) struct Spoken<'a> {
-    pub verb: &'a [u8],
-    pub first: &'a [u8],
-    /// The second path, or the first if there is only one.
-    pub last: &'a [u8],
+pub(crate) struct Says<'a>(&'static str, &'a [u8], &'static str);
+
+impl fmt::Display for Says<'_> {
+    fn fmt<W: fmt::Write>(&self, f: &mut fmt::Formatter<W>) -> fmt::Result {
+        f.write_str(self.0)?;
+        if !self.1.is_empty() {
+            Quoted(self.1).fmt(f)?;
+        }
+        f.write_str(self.2)
+    }
 }
 
-/// Why the operation is refused on this disk, by the refusal that it got.
-pub(crate) fn operation_problem<'a, A: Allocator + Copy>(
+/// What a path names.
+#[derive(Clone, Copy, PartialEq, Eq)]
+enum Named {
+    Nothing,
+    File,
+    Directory,
+}
+
+/// Why the operation on this line is refused on this disk, by the refusal that it got.
+pub(crate) fn operation_text<'a, A: Allocator + Copy>(
     disk: &Image<A>,
-    spoken: Spoken<'a>,
+    line: &'a [u8],
     fault: RunFault,
-) -> Option<Problem<'a>> {
-    let Spoken { first, last, .. } = spoken;
+) -> Option<Says<'a>> {
+    let (verb, first, second) = (word_at(line, 0), word_at(line, 1), word_at(line, 2));
+    let has_one_path = second.is_empty() || verb == b"overwrite".as_slice();
+    let last = if has_one_path { first } else { second };
     Some(match fault {
-        RunFault::NotFound { .. } => return not_found(disk, first, last),
-        RunFault::NotADirectory { .. } => not_a_directory(disk, first, last),
-        RunFault::Exists { .. } => exists(spoken),
-        RunFault::NotAFile { .. } => not_a_file(spoken),
-        RunFault::NotEmpty { .. } => Problem(&NOT_EMPTY, Quote(first)),
-        RunFault::NoInode { .. } => Problem(&NO_INODE, Nothing),
-        RunFault::DirectoryFull { .. } => Problem(&DIRECTORY_FULL, Quote(last)),
-        RunFault::FileFull { .. } => Problem(&FILE_FULL, Quote(first)),
-        RunFault::LinksFull { .. } => Problem(&LINKS_FULL, Quote(first)),
+        RunFault::NotFound { .. } => not_found(disk, first)
+            .or(not_found(disk, last))
+            .or(missing_block(verb, first))?,
+        RunFault::NotADirectory { .. } => walk_fault(disk, first)
+            .or(walk_fault(disk, last))
+            .unwrap_or(Says("", first, FILE_REMOVED)),
+        RunFault::Exists { .. } => exists(verb, first, last),
+        RunFault::NotAFile { .. } => not_a_file(disk, verb, first, last),
+        RunFault::NotEmpty { .. } => Says("", first, NOT_EMPTY),
+        RunFault::NoInode { .. } => Says("", &[], NO_INODE),
+        RunFault::DirectoryFull { .. } => Says("the directory of ", last, DIRECTORY_FULL),
+        RunFault::FileFull { .. } => Says("", first, FILE_FULL),
+        RunFault::LinksFull { .. } => Says("", first, LINKS_FULL),
         _ => return None,
     })
 }
 
-/// Which of the paths leads to nothing.
-fn not_found<'a, A: Allocator + Copy>(
-    disk: &Image<A>,
-    first: &'a [u8],
-    last: &'a [u8],
-) -> Option<Problem<'a>> {
-    walk_fault(disk, first)
-        .or(missing(disk, first))
-        .or(walk_fault(disk, last))
-}
-
-/// Which file is in the place of a directory.
-fn not_a_directory<'a, A: Allocator + Copy>(
-    disk: &Image<A>,
-    first: &'a [u8],
-    last: &'a [u8],
-) -> Problem<'a> {
-    walk_fault(disk, first)
-        .or(walk_fault(disk, last))
-        .unwrap_or(Problem(&RMDIR_OF_FILE, Quote(first)))
-}
-
-/// What is there already.
-fn exists(spoken: Spoken<'_>) -> Problem<'_> {
-    let Spoken { verb, first, last } = spoken;
-    let renames = verb == b"rename".as_slice();
-    if first == last && (renames || verb == b"link".as_slice()) {
-        Problem(&SAME_PATH, Quote(first))
-    } else if renames {
-        Problem(&RENAME_ONTO, Quote(last))
-    } else {
-        Problem(&EXISTS, Quote(last))
+/// What is there already, of an operation with this verb and these paths.
+fn exists<'a>(verb: &[u8], first: &'a [u8], last: &'a [u8]) -> Says<'a> {
+    match verb {
+        b"link" | b"rename" | b"replace" if first == last => {
+            Says("both paths are ", first, SAME_PATH)
+        }
+        b"replace" => Says("both paths name the file of ", last, SAME_FILE),
+        b"rename" => Says("", last, RENAMED_ONTO),
+        _ => Says("", last, TAKEN),
     }
 }
 
 /// What is a directory, and no file.
-fn not_a_file(spoken: Spoken<'_>) -> Problem<'_> {
-    if spoken.verb == b"unlink".as_slice() {
-        Problem(&UNLINK_OF_DIRECTORY, Quote(spoken.first))
-    } else {
-        Problem(&IS_DIRECTORY, Quote(spoken.first))
+fn not_a_file<'a, A: Allocator + Copy>(
+    disk: &Image<A>,
+    verb: &[u8],
+    first: &'a [u8],
+    last: &'a [u8],
+) -> Says<'a> {
+    match verb {
+        b"unlink" => Says("", first, DIRECTORY_UNLINKED),
+        b"replace" if named_by(disk, first) == Named::File => Says("", last, DIRECTORY_CHANGED),
+        b"overwrite" | b"truncate" | b"replace" => Says("", first, DIRECTORY_CHANGED),
+        _ => Says("", first, DIRECTORY),
     }
 }
 
-/// What is wrong with the directories that the path goes through.
-fn walk_fault<'a, A: Allocator + Copy>(disk: &Image<A>, path: &'a [u8]) -> Option<Problem<'a>> {
-    let part = first_not_directory(disk, path);
-    if part.len() == path.len() {
-        return None;
+/// Why the path is not found, if it is not.
+fn not_found<'a, A: Allocator + Copy>(disk: &Image<A>, path: &'a [u8]) -> Option<Says<'a>> {
+    walk_fault(disk, path).or(missing(disk, path))
+}
+
+/// That the slot which is overwritten has no block.
+fn missing_block<'a>(verb: &[u8], path: &'a [u8]) -> Option<Says<'a>> {
+    match verb {
+        b"overwrite" => Some(Says("", path, NO_BLOCK)),
+        _ => None,
     }
-    match named_by(disk, part) {
-        Named::File => Some(Problem(&IS_FILE, Quote(part))),
-        _ => Some(Problem(&MISSING, Quote(part))),
+}
+
+/// What is wrong with the directories that the path goes through: the first that is none.
+fn walk_fault<'a, A: Allocator + Copy>(disk: &Image<A>, path: &'a [u8]) -> Option<Says<'a>> {
+    for end in 1..path.len() {
+        if path[end] != b'/' {
+            continue;
+        }
+        let part = &path[..end];
+        match named_by(disk, part) {
+            Named::Directory => {}
+            Named::File => return Some(Says("", part, FILE_IN_PATH)),
+            Named::Nothing => return missing(disk, part),
+        }
     }
+    None
 }
 
 /// That the path names nothing.
-fn missing<'a, A: Allocator + Copy>(disk: &Image<A>, path: &'a [u8]) -> Option<Problem<'a>> {
+fn missing<'a, A: Allocator + Copy>(disk: &Image<A>, path: &'a [u8]) -> Option<Says<'a>> {
     match named_by(disk, path) {
-        Named::Nothing => Some(Problem(&MISSING, Quote(path))),
+        Named::Nothing => Some(Says("there is no ", path, NOT_THERE)),
         _ => None,
+    }
+}
+
+/// What the path names on the disk.
+fn named_by<A: Allocator + Copy>(disk: &Image<A>, path: &[u8]) -> Named {
+    let Ok(text) = str::from_utf8(path) else {
+        return Named::Nothing;
+    };
+    let Some(path) = Path::read(text) else {
+        return Named::Nothing;
+    };
+    match plan(disk, &Op::Unlink(path)) {
+        Ok(_) => Named::File,
+        Err(FsFault::NotAFile) => Named::Directory,
+        Err(_) => Named::Nothing,
+    }
+}
+
+/// Applies the operations of the steps before the line of this number, up to one that is refused.
+pub(crate) fn operate<A: Allocator + Copy>(disk: &mut Image<A>, steps: &[Step], number: usize) {
+    for step in steps {
+        if step.line >= number {
+            return;
+        }
+        if let Act::Do(op) = &step.act {
+            match plan(disk, op) {
+                Ok(plan) => apply(disk, &plan),
+                Err(_) => return,
+            }
+        }
     }
 }

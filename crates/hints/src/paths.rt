@@ -1,9 +1,8 @@
 //! What is wrong with a path.
 
-use crate::quoted::Quoted;
-use crate::sentences::Middle::{Nothing, Number, Quote};
-use crate::sentences::Sentence;
-use std::fmt;
+use crate::quoted::{Quoted, line_at};
+use std::alloc::{AllocError, Allocator};
+use std::str;
 
 /// The most letters of a name.
 const LONGEST_NAME: usize = 10;
@@ -11,53 +10,66 @@ const LONGEST_NAME: usize = 10;
 /// The most names of a path.
 const MOST_NAMES: usize = 4;
 
-/// What is wrong with a path.
-#[derive(Clone, Copy)]
-pub enum PathFault<'a> {
-    /// It is the root directory.
-    Root,
-    /// It does not begin with a slash.
-    Relative(&'a str),
-    /// It has two slashes side by side, or one at its end.
-    EmptyName(&'a str),
-    /// A name has a letter that no name has.
-    Letter { path: &'a str, name: &'a str },
-    LongName { path: &'a str, name: &'a str },
-    ManyNames(&'a str),
+/// What is wrong with the first bad path of the line of this number, and what would be right.
+pub(crate) fn path_text<A: Allocator + Copy>(
+    alloc: A,
+    script: &[u8],
+    number: usize,
+) -> Result<Option<String<A>>, AllocError> {
+    let Ok(line) = str::from_utf8(line_at(script, number)) else {
+        return Ok(None);
+    };
+    for word in line.split(' ').skip(1) {
+        if let Some(fault) = path_fault(alloc, word)? {
+            return Ok(Some(format!(in alloc;
+                "{fault}\n\
+                 hint: a path is one to four times a slash and a name of 1 to 10 of a to z and 0 to 9"
+            )?));
+        }
+    }
+    Ok(None)
 }
 
 /// What is wrong with a path, if anything is.
-pub(crate) fn path_fault(path: &str) -> Option<PathFault<'_>> {
-    if path == "/" {
-        return Some(PathFault::Root);
-    }
+fn path_fault<A: Allocator + Copy>(alloc: A, path: &str) -> Result<Option<String<A>>, AllocError> {
+    let quoted = Quoted(path.as_bytes());
     let Some(names) = path.strip_prefix("/") else {
-        return Some(PathFault::Relative(path));
+        return Ok(Some(format!(in alloc; "{quoted} does not begin with a slash")?));
     };
+    if names.is_empty() {
+        return Ok(Some(format!(in alloc;
+            "{quoted} is the root directory, which is always there"
+        )?));
+    }
     let mut count = 0_usize;
     for name in names.split('/') {
-        if let Some(fault) = name_fault(path, name) {
-            return Some(fault);
+        if let Some(fault) = name_fault(alloc, quoted, name)? {
+            return Ok(Some(fault));
         }
         count = count.saturating_add(1);
     }
     if count > MOST_NAMES {
-        return Some(PathFault::ManyNames(path));
+        return Ok(Some(format!(in alloc; "{quoted} has more than four names")?));
     }
-    None
+    Ok(None)
 }
 
 /// What is wrong with a name of a path, if anything is.
-fn name_fault<'a>(path: &'a str, name: &'a str) -> Option<PathFault<'a>> {
-    if name.is_empty() {
-        Some(PathFault::EmptyName(path))
+fn name_fault<A: Allocator + Copy>(
+    alloc: A,
+    path: Quoted<'_>,
+    name: &str,
+) -> Result<Option<String<A>>, AllocError> {
+    let (quoted, letters) = (Quoted(name.as_bytes()), name.len());
+    Ok(Some(if name.is_empty() {
+        format!(in alloc; "{path} has an empty name")?
     } else if !is_spelled_right(name) {
-        Some(PathFault::Letter { path, name })
-    } else if name.len() > LONGEST_NAME {
-        Some(PathFault::LongName { path, name })
+        format!(in alloc; "the name {quoted} in {path} has a letter other than a to z and 0 to 9")?
+    } else if letters > LONGEST_NAME {
+        format!(in alloc; "the name {quoted} in {path} has {letters} letters")?
     } else {
-        None
-    }
+        return Ok(None);
+    }))
 }
 
 /// Whether each letter is one of a to z or 0 to 9.
@@ -68,46 +80,4 @@ fn is_spelled_right(name: &str) -> bool {
         }
     }
     true
-}
-
-impl fmt::Display for PathFault<'_> {
-    fn fmt<W: fmt::Write>(&self, f: &mut fmt::Formatter<W>) -> fmt::Result {
-        let sentence = match *self {
-            PathFault::Root => Sentence(
-                "`/` is the root directory, which is always there",
-                Nothing,
-                "",
-            ),
-            PathFault::Relative(path) => Sentence(
-                "",
-                Quote(path.as_bytes()),
-                " does not begin with a slash",
-            ),
-            PathFault::EmptyName(path) => Sentence(
-                "",
-                Quote(path.as_bytes()),
-                " has an empty name",
-            ),
-            PathFault::Letter { path, name } => {
-                write_name(f, path, name)?;
-                Sentence(" has a letter other than a to z and 0 to 9", Nothing, "")
-            }
-            PathFault::LongName { path, name } => {
-                write_name(f, path, name)?;
-                Sentence(" has ", Number(name.len()), " letters")
-            }
-            PathFault::ManyNames(path) => Sentence(
-                "",
-                Quote(path.as_bytes()),
-                " has more than four names",
-            ),
-        };
-        sentence.fmt(f)
-    }
-}
-
-/// Writes which name is wrong, and the path that it is in.
-fn write_name<W: fmt::Write>(f: &mut fmt::Formatter<W>, path: &str, name: &str) -> fmt::Result {
-    let (path, name) = (Quoted(path.as_bytes()), Quoted(name.as_bytes()));
-    write!(f, "the name {name} in {path}")
 }

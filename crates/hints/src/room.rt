@@ -1,7 +1,7 @@
 //! Scripts on disks of several sizes: which is enough, and how many closed sets there are.
 
 ghost use Rattle.std.specs.Prelude.{◌≡◌, ◌≤◌, Ok, IfOk, IfSome, OnOk};
-ghost use Rattle.crash_model.specs.Disk.{empty_disk};
+ghost use Rattle.crash_model.specs.Disk.{new_disk};
 ghost use Rattle.crash_model.specs.Trace.{base_from};
 ghost use Rattle.hints.specs.Enough.{FitsOn, IsEnough};
 
@@ -9,7 +9,6 @@ use crash_model::disk_bytes::MOST_BLOCKS;
 use crash_model::refusals::RunFault;
 use crash_model::settings::Settings;
 use disk_image::{Image, ImageFault};
-use fault_deciding::closed_number;
 use order_modules::{build_base, trace};
 use script_text::Script;
 use std::alloc::{AllocError, Allocator};
@@ -21,16 +20,11 @@ pub struct DiskSize {
     pub journal: usize,
 }
 
-/// The disk that the settings ask for.
-pub(crate) fn disk_of(settings: &Settings) -> DiskSize
-    ensures blocks { result.blocks ≡ settings.now.blocks }
-    ensures journal { result.journal ≡ settings.now.journal }
-{
-    DiskSize {
-        blocks: settings.blocks,
-        journal: settings.journal,
-    }
-}
+/// A disk on which each operation fits.
+pub(crate) const LARGE: DiskSize = DiskSize {
+    blocks: 128,
+    journal: 96,
+};
 
 /// A disk that is large enough for a script: for all of it, or for the lines before the one of this number, which is
 /// refused for another reason.
@@ -48,8 +42,8 @@ pub(crate) fn enough_blocks<A: Allocator + Copy>(
     settings: &Settings,
 ) -> Result<Option<Enough>, AllocError>
     ensures { IfOk result (λ found.
-        IfSome found (IsEnough settings.now.module settings.now.whole_blocks script.now.base.items
-        script.now.traced.items)) }
+        IfSome found (IsEnough settings.now.module settings.now.whole_blocks settings.now.generations
+        script.now.base.items script.now.traced.items)) }
 {
     match least_disk(alloc, script, settings, settings.journal)? {
         Some(enough) => Ok(Some(enough)),
@@ -65,8 +59,8 @@ pub(crate) fn enough_journal<A: Allocator + Copy>(
     from: usize,
 ) -> Result<Option<Enough>, AllocError>
     ensures { IfOk result (λ found.
-        IfSome found (IsEnough settings.now.module settings.now.whole_blocks script.now.base.items
-        script.now.traced.items)) }
+        IfSome found (IsEnough settings.now.module settings.now.whole_blocks settings.now.generations
+        script.now.base.items script.now.traced.items)) }
 {
     let blocks = MOST_BLOCKS;
     for journal in from..=MOST_BLOCKS {
@@ -85,8 +79,8 @@ fn least_disk<A: Allocator + Copy>(
     journal: usize,
 ) -> Result<Option<Enough>, AllocError>
     ensures enough { IfOk result (λ found.
-        IfSome found (IsEnough settings.now.module settings.now.whole_blocks script.now.base.items
-        script.now.traced.items)) }
+        IfSome found (IsEnough settings.now.module settings.now.whole_blocks settings.now.generations
+        script.now.base.items script.now.traced.items)) }
     ensures blocks { IfOk result (λ found. IfSome found (λ enough. settings.now.blocks ≤ enough.disk.blocks)) }
     ensures journal { IfOk result (λ found. IfSome found (λ enough. enough.disk.journal ≡ journal)) }
 {
@@ -106,8 +100,8 @@ fn enough_on<A: Allocator + Copy>(
     disk: DiskSize,
 ) -> Result<Option<Enough>, AllocError>
     ensures enough { IfOk result (λ found.
-        IfSome found (IsEnough settings.now.module settings.now.whole_blocks script.now.base.items
-        script.now.traced.items)) }
+        IfSome found (IsEnough settings.now.module settings.now.whole_blocks settings.now.generations
+        script.now.base.items script.now.traced.items)) }
     ensures disk { IfOk result (λ found. IfSome found (λ enough. enough.disk ≡ disk)) }
 {
     let Err(fault) = trace_on(alloc, script, settings, disk) else {
@@ -133,41 +127,30 @@ fn trace_on<A: Allocator + Copy>(
     disk: DiskSize,
 ) -> Result<(), RunFault>
     ensures { OnOk result
-        (FitsOn settings.now.module settings.now.whole_blocks disk.blocks disk.journal script.now.base.items
-        script.now.traced.items) }
+        (FitsOn settings.now.module settings.now.whole_blocks settings.now.generations disk.blocks disk.journal
+        script.now.base.items script.now.traced.items) }
 {
-    let base = base_on(alloc, script, disk)?;
+    let base = base_on(alloc, script, settings.generations, disk)?;
     let ordering = settings.ordering();
     let _traced = trace(alloc, &base, &script.traced, &ordering)?;
     Ok(())
 }
 
-/// A disk of this size after the lines before `start`.
+/// A disk of this size, with generations or without, after the lines before `start`.
 pub(crate) fn base_on<A: Allocator + Copy>(
     alloc: A,
     script: &Script<A>,
+    generations: bool,
     disk: DiskSize,
 ) -> Result<Image<A>, RunFault>
     ensures { IfOk result (λ base.
-        base_from (empty_disk disk.blocks disk.journal) script.now.base.items ≡ Ok base) }
+        base_from (new_disk disk.blocks disk.journal generations) script.now.base.items ≡ Ok base) }
 {
-    let mut base = match Image::formatted(alloc, disk.blocks, disk.journal) {
+    let mut base = match Image::formatted_with(alloc, disk.blocks, disk.journal, generations) {
         Ok(base) => base,
         Err(ImageFault::BadGeometry) => return Err(RunFault::BadGeometry),
         Err(ImageFault::OutOfMemory) => return Err(RunFault::OutOfMemory),
     };
     build_base(&mut base, &script.base)?;
     Ok(base)
-}
-
-/// The number of closed sets of a script's patches.
-pub(crate) fn closed_sets<A: Allocator + Copy>(
-    alloc: A,
-    script: &Script<A>,
-    settings: &Settings,
-) -> Result<u128, RunFault> {
-    let base = base_on(alloc, script, disk_of(settings))?;
-    let ordering = settings.ordering();
-    let traced = trace(alloc, &base, &script.traced, &ordering)?;
-    Ok(closed_number(traced.graph()))
 }

@@ -176,5 +176,8 @@ fn number_of(role: Role) -> u8 {
         Role::LinkUp => 8,
         Role::LinkDown => 9,
         Role::InodeFree => 10,
+        Role::PtrClear => 11,
+        Role::NewData => 12,
+        Role::Touch => 13,
     }
 }

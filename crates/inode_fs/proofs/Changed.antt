@@ -5,7 +5,7 @@ use Rattle.std.proofs.lemmas.Bool.{cases_eq, cases_lt, lt-ltb, le-ltb, false≢t
 use Rattle.crash_model.specs.Disk.{Disk, IsDisk}
 use Rattle.crash_model.specs.Names.{IsName}
 use Rattle.crash_model.specs.Lists.{some_below}
-use Rattle.crash_model.specs.Layout.{kind_of, links_of, pointer_of, is_data, target_of, is_entry}
+use Rattle.crash_model.specs.Layout.{kind_of, links_of, pointer_of, is_data, target_of, is_entry, generation_of}
 use Rattle.crash_model.specs.Plan.{name_spelling, inode_init, inode_free, map_set, map_clears, map_clear_at, init_block}
 use Rattle.crash_model.specs.Plan.{pointer_set, entry_set, entry_clear, link_count, has_entries, with_changes}
 use Rattle.crash_model.specs.declared.names.Path.{Path}
@@ -14,7 +14,8 @@ use Rattle.crash_model.specs.declared.plans.Role.TheVariants.{InitFile, InitDir,
 use Rattle.soundness_laws.specs.Tables.{Tables, Place, tables_of, with_value, with_inode, with_links, with_pointer}
 use Rattle.soundness_laws.specs.Tables.{with_used, with_mark, with_entry, with_place, tables_after_create}
 use Rattle.soundness_laws.specs.Tables.{tables_after_write, tables_after_link, tables_after_unlink}
-use Rattle.soundness_laws.specs.Tables.{tables_after_removal, tables_after_mkdir, HasPointer, Sound}
+use Rattle.soundness_laws.specs.Tables.{tables_after_removal, tables_after_mkdir, HasPointer, Sound, Mark, KeepsMarks}
+use Rattle.soundness_laws.specs.Tables.{place_of}
 use Rattle.soundness_laws.specs.Tables.Place.{Free, Leads}
 use Rattle.soundness_laws.specs.Tables.Mark.{FileOf, DirectoryOf}
 use Rattle.soundness_laws.proofs.Sums.{with_value-same, with_value-other}
@@ -28,7 +29,8 @@ use Rattle.soundness_laws.proofs.FromTables.{area}
 use Rattle.soundness_laws.proofs.Inodes.{not-fresh}
 use Rattle.soundness_laws.proofs.Blocks.{FreesBlocks}
 use Rattle.soundness_laws.proofs.Steps.{Stands, init-makes, free-makes, links-makes, pointer-makes, pointer-kind}
-use Rattle.soundness_laws.proofs.Steps.{empty-place, map_set-makes, block-makes, set-makes, clear-makes}
+use Rattle.soundness_laws.proofs.Steps.{empty-place, map_set-makes, block-makes, set-makes, clear-makes, free-keeps}
+use Rattle.soundness_laws.proofs.Steps.{init-generation, map-generation}
 use Rattle.soundness_laws.proofs.Kept.{CanCreate, CanMake, CanGrow, CanLink, CanUnlink, CanRemove, file-leaf}
 use Rattle.soundness_laws.proofs.Meant.{tables_after_rename}
 use Rattle.inode_fs.proofs.Accepted.{CreateFound, WriteFound, RelinkFound, LinkFound, RenameFound, UnlinkFound}
@@ -41,7 +43,7 @@ pub record Made (d : Disk) (changes : List Change) (t : Tables) : Type 0 where
   pub disk : IsDisk (with_changes d changes)
   pub tables : tables_of (with_changes d changes) ≡ t
 
-along : (d : Disk) (changes by : List Change) (t : Tables) → changes ≡ by → Made d by t → Made d changes t
+pub along : (d : Disk) (changes by : List Change) (t : Tables) → changes ≡ by → Made d by t → Made d changes t
 along d changes by t is m = subst (λ (x : List Change). Made d x t) (sym is) m
 
 -- ---- a directory stays if the tables keep its kind and its block
@@ -53,7 +55,7 @@ own_mark d dir sound two =
     sound.blocks.directory_blocks dir 0 (t.pointer dir 0) ((λ z. omega arith), refl, (sound.blocks.one_block dir two).0)
     two
 
-stands : (d e : Disk) (dir : ℕ) (t : Tables) → Sound (tables_of d) → Walked d dir → tables_of e ≡ t
+pub stands : (d e : Disk) (dir : ℕ) (t : Tables) → Sound (tables_of d) → Walked d dir → tables_of e ≡ t
     → t.kind dir ≡ (tables_of d).kind dir → t.pointer dir 0 ≡ (tables_of d).pointer dir 0
     → t.mark ((tables_of d).pointer dir 0) ≡ (tables_of d).mark ((tables_of d).pointer dir 0) → Stands d e dir
 stands d e dir t sound walk is kind pointer mark = record {
@@ -93,7 +95,7 @@ create-made d path changes disk sound is_name f =
     let walk = walk-found d path.through.items f.dir sound f.walk in
     let below = can.fresh.below in
     let one = init-makes d f.i 1 disk below (sym (kind-at d f.i below) ∙ can.fresh.free) in
-    let d1 = with_changes d (inode_init f.i 1 ∷ []) in
+    let d1 = with_changes d (inode_init d f.i 1 ∷ []) in
     let other = not-fresh t f.i 1 f.dir can.fresh (λ z. let two = walk.kind in omega arith) in
     let s = stands d d1 f.dir (with_inode t f.i 1 1) sound walk one.tables (with_value-other t.kind f.i 1 f.dir other)
     (ap (λ (row : ℕ → ℕ). row 0) (with_value-other t.pointer f.i (λ _. 0) f.dir other)) refl in
@@ -137,11 +139,12 @@ write-made d path changes disk sound f =
     let one = map_set-makes d f.b disk block.high in
     let d1 = with_changes d (map_set f.b ∷ []) in
     let inside : is_data d f.b ≡ true = area d f.b (can.low, can.high) in
-    let two = block-makes d1 InitFile f.b 0x46 target one.disk inside (λ dir in_dir kind.
+    let generation : generation_of d target ≡ generation_of d1 target = sym (map-generation d f.b target disk block.high) in
+    let two = block-makes d d1 InitFile f.b 0x46 target one.disk inside below generation (λ dir in_dir kind.
     let old_kind : t.kind dir ≡ 2 = ap (λ (x : Tables). x.kind dir) (sym one.tables) ∙ kind-at d1 dir in_dir ∙ kind in
     λ same. block-apart t dir f.b sound old_kind can.free
     (ap (λ (x : Tables). x.pointer dir 0) (sym one.tables) ∙ pointer-at d1 dir 0 in_dir (omega arith) ∙ same)) in
-    let d2 = with_changes d1 (init_block InitFile f.b 0x46 target ∷ []) in
+    let d2 = with_changes d1 (init_block d InitFile f.b 0x46 target ∷ []) in
     let tables : tables_of d2 ≡ with_mark (with_used t f.b true) f.b (FileOf target) = two.tables
     ∙ ap (λ (x : Tables). with_mark x f.b (FileOf target)) one.tables in
     let kind : kind_of d2 target ≡ 1 = sym (kind-at d2 target below) ∙ ap (λ (x : Tables). x.kind target) tables
@@ -234,41 +237,81 @@ rename-made d old new changes disk sound is_name found =
 
 -- ---- unlink
 
+-- an inode of d is freed on a later disk, with its blocks below a slot
+pub record Freed (d e : Disk) (i n : ℕ) : Type 0 where
+  pub used : ℕ → Bool
+  pub mark : ℕ → Mark
+  pub made : Made e (inode_free d i ∷ some_below n (map_clear_at d i)) (record (tables_of e) {
+    kind = with_value (tables_of e).kind i 0;
+    links = with_value (tables_of e).links i 0;
+    pointer = with_value (tables_of e).pointer i (λ _. 0);
+    used = used;
+    mark = mark;
+  })
+  pub frees : FreesBlocks (tables_of d).kind (tables_of d).pointer (tables_of d).used used i
+  pub keeps : KeepsMarks (tables_of e).mark mark i
+
+pub free-made : (d e : Disk) (i n : ℕ) → IsDisk e → Sound (tables_of d) → i < 16 → (tables_of d).kind i ≢ 0
+    → e.blocks ≡ d.blocks → (tables_of e).used ≡ (tables_of d).used
+    → ((m : ℕ) → m < 10 → place_of e i m ≡ Free) → n ≤ 4
+    → ((s b : ℕ) → HasPointer (tables_of d).kind (tables_of d).pointer i s b → s < n) → Freed d e i n
+free-made d e i n disk sound below live size same_used empty few slots =
+    let one = free-makes d e i disk below empty in
+    let e1 = with_changes e (inode_free d i ∷ []) in
+    let cleared = clears-make d e1 i n one.disk size in
+    let same : (tables_of e1).used ≡ (tables_of d).used = ap (λ (x : Tables). x.used) one.tables ∙ same_used in
+    record {
+      used = cleared.used;
+      mark = (tables_of e1).mark;
+      made = record {
+        disk = cleared.disk;
+        tables = cleared.tables ∙ ap (λ (x : Tables). record x { used = cleared.used }) one.tables;
+      };
+      frees = clears-free d e1 (with_changes e1 (some_below n (map_clear_at d i))) i n sound live few same cleared slots;
+      keeps = free-keeps d e i disk below;
+    }
+
 -- the last name of an inode, and its blocks below a slot
+pub record Removal (d : Disk) (dir k i n : ℕ) : Type 0 where
+  pub used : ℕ → Bool
+  pub mark : ℕ → Mark
+  pub made : Made d (entry_clear d dir k ∷ inode_free d i ∷ some_below n (map_clear_at d i))
+      (tables_after_removal (tables_of d) dir k i used mark)
+  pub frees : FreesBlocks (tables_of d).kind (tables_of d).pointer (tables_of d).used used i
+  pub keeps : KeepsMarks (tables_of d).mark mark i
+
 remove-made : (d : Disk) (dir k i n : ℕ) (name : List ℕ) → IsDisk d → Sound (tables_of d) → Walked d dir → k < 10
     → i < 16
     → (tables_of d).entry dir k ≡ Leads i (name_spelling name)
     → ((m j : ℕ) (sp : List ℕ) → (tables_of d).entry i m ≢ Leads j sp) → n ≤ 4
-    → ((s b : ℕ) → HasPointer (tables_of d).kind (tables_of d).pointer i s b → s < n)
-    → (used : ℕ → Bool) × Made d (entry_clear d dir k ∷ inode_free i ∷ some_below n (map_clear_at d i))
-    (tables_after_removal (tables_of d) dir k i used)
-    × FreesBlocks (tables_of d).kind (tables_of d).pointer (tables_of d).used used i
+    → ((s b : ℕ) → HasPointer (tables_of d).kind (tables_of d).pointer i s b → s < n) → Removal d dir k i n
 remove-made d dir k i n name disk sound walk in_place below there leaf few slots =
     let t = tables_of d in
     let s = stands d d dir t sound walk refl refl refl refl in
     let one = clear-makes d d dir k disk s in_place in
     let d1 = with_changes d (entry_clear d dir k ∷ []) in
-    let two = free-makes d1 i one.disk below (λ m small.
-    sym (entry-at d1 i m below small) ∙ ap (λ (x : Tables). x.entry i m) one.tables
-    ∙ empty (with_place t.entry dir k Free i m) (λ j sp e. leaf m j sp (left_back t.entry dir k i m j sp e).1)) in
-    let d2 = with_changes d1 (inode_free i ∷ []) in
-    let cleared = clears-make d d2 i n two.disk refl in
-    let tables : tables_of d2 ≡ tables_after_removal t dir k i t.used = two.tables
-    ∙ ap (λ (x : Tables). record x {
-      kind = with_value x.kind i 0;
-      links = with_value x.links i 0;
-      pointer = with_value x.pointer i (λ _. 0);
-    }) one.tables in
     let live : t.kind i ≢ 0 = sound.names.no_dangling dir k i (name_spelling name) there in
-    let same : (tables_of d2).used ≡ t.used = ap (λ (x : Tables). x.used) tables in (
-      cleared.used,
-      record {
-        disk = cleared.disk;
-        tables = cleared.tables
-            ∙ ap (λ (x : Tables). record x { used = cleared.used }) tables;
-      },
-      clears-free d d2 (with_changes d2 (some_below n (map_clear_at d i))) i n sound live few same cleared slots,
-    )
+    let freed = free-made d d1 i n one.disk sound below live refl (ap (λ (x : Tables). x.used) one.tables) (λ m small.
+    sym (entry-at d1 i m below small) ∙ ap (λ (x : Tables). x.entry i m) one.tables
+    ∙ empty (with_place t.entry dir k Free i m) (λ j sp e. leaf m j sp (left_back t.entry dir k i m j sp e).1)) few
+    slots in
+    record {
+      used = freed.used;
+      mark = freed.mark;
+      made = record {
+        disk = freed.made.disk;
+        tables = freed.made.tables
+            ∙ ap (λ (x : Tables). record x {
+              kind = with_value x.kind i 0;
+              links = with_value x.links i 0;
+              pointer = with_value x.pointer i (λ _. 0);
+              used = freed.used;
+              mark = freed.mark;
+            }) one.tables;
+      };
+      frees = freed.frees;
+      keeps = subst (λ (x : Tables). KeepsMarks x.mark freed.mark i) one.tables freed.keeps;
+    }
   where
     empty : (p : Place) → ((j : ℕ) (sp : List ℕ) → p ≢ Leads j sp) → p ≡ Free
     empty Free none = refl
@@ -278,8 +321,8 @@ remove-made d dir k i n name disk sound walk in_place below there leaf few slots
 pub data Unlinked (d : Disk) (dir k i : ℕ) (name : List ℕ) (changes : List Change) : Type 0 where
   Named : (left : ℕ) → CanUnlink (tables_of d) dir k i (name_spelling name) left
       → Made d changes (tables_after_unlink (tables_of d) dir k i left) → Unlinked d dir k i name changes
-  Gone : (used : ℕ → Bool) → CanRemove (tables_of d) dir k i (name_spelling name) used
-      → Made d changes (tables_after_removal (tables_of d) dir k i used) → Unlinked d dir k i name changes
+  Gone : (used : ℕ → Bool) (mark : ℕ → Mark) → CanRemove (tables_of d) dir k i (name_spelling name) used mark
+      → Made d changes (tables_after_removal (tables_of d) dir k i used mark) → Unlinked d dir k i name changes
 
 pub unlink-made : (d : Disk) (path : Path) (changes : List Change) → IsDisk d → Sound (tables_of d)
     → (f : UnlinkFound d path changes) → Unlinked d f.dir f.k (target_of d f.dir f.k) path.last changes
@@ -309,10 +352,16 @@ unlink-made d path changes disk sound f =
           let leaf = file-leaf t target sound file in
           let gone = remove-made d f.dir f.k target 4 path.last disk sound walk entry.below entry.target_below
           entry.leads leaf (omega arith) (λ s b h. sound.blocks.slots target s (λ z. h.2 (sym h.1 ∙ z))) in
-          Gone gone.0
-          (record { there = entry.leads; leaf = leaf; last = omega (arith, some.0); frees = gone.2 })
-          (along d changes (entry_clear d f.dir f.k ∷ inode_free target ∷ map_clears d target)
-          _ (f.are ∙ rw (le-ltb 1 (links_of d target) last) refl) gone.1)
+          Gone gone.used gone.mark
+          (record {
+            there = entry.leads;
+            leaf = leaf;
+            last = omega (arith, some.0);
+            frees = gone.frees;
+            marks = gone.keeps;
+          })
+          (along d changes (entry_clear d f.dir f.k ∷ inode_free d target ∷ map_clears d target)
+          _ (f.are ∙ rw (le-ltb 1 (links_of d target) last) refl) gone.made)
     ]
 
 -- ---- rmdir
@@ -327,8 +376,9 @@ empty-leaf d i none m j sp e =
 
 pub record Removed (d : Disk) (dir k i : ℕ) (name : List ℕ) (changes : List Change) : Type 0 where
   pub used : ℕ → Bool
-  pub can : CanRemove (tables_of d) dir k i (name_spelling name) used
-  pub made : Made d changes (tables_after_removal (tables_of d) dir k i used)
+  pub mark : ℕ → Mark
+  pub can : CanRemove (tables_of d) dir k i (name_spelling name) used mark
+  pub made : Made d changes (tables_after_removal (tables_of d) dir k i used mark)
 
 pub rmdir-made : (d : Disk) (path : Path) (changes : List Change) → IsDisk d → Sound (tables_of d)
     → (f : RmdirFound d path changes) → Removed d f.dir f.k (target_of d f.dir f.k) path.last changes
@@ -346,9 +396,16 @@ rmdir-made d path changes disk sound f =
       | inr other ↦ absurd (h.2 (sym h.1 ∙ (sound.blocks.one_block target directory).1 s other))
     ]) in
     record {
-      used = gone.0;
-      can = record { there = entry.leads; leaf = leaf; last = sound.inodes.one_name target directory; frees = gone.2 };
-      made = along d changes _ _ f.are gone.1;
+      used = gone.used;
+      mark = gone.mark;
+      can = record {
+        there = entry.leads;
+        leaf = leaf;
+        last = sound.inodes.one_name target directory;
+        frees = gone.frees;
+        marks = gone.keeps;
+      };
+      made = along d changes _ _ f.are gone.made;
     }
 
 -- ---- mkdir
@@ -383,14 +440,16 @@ mkdir-made d path changes disk sound is_name f =
     let other : f.dir ≢ i = apart f.dir can.fresh (λ z. let two = walk.kind in omega arith) in
     let one = init-makes d i 2 disk below (sym (kind-at d i below) ∙ can.fresh.free) in
     let t1 = with_inode t i 2 1 in
-    let d1 = with_changes d (inode_init i 2 ∷ []) in
+    let d1 = with_changes d (inode_init d i 2 ∷ []) in
     let two = map_set-makes d1 b one.disk block.high in
     let t2 = with_used t1 b true in
     let d2 = with_changes d1 (map_set b ∷ []) in
     let tables2 : tables_of d2 ≡ t2 = two.tables ∙ ap (λ (x : Tables). with_used x b true) one.tables in
     let inside : is_data d b ≡ true = area d b (can.low, can.high) in
     let own_none : t2.pointer i 0 ≡ 0 = ap (λ (row : ℕ → ℕ). row 0) (with_value-same t.pointer i (λ _. 0)) in
-    let three = block-makes d2 InitDir b 0x44 i two.disk inside (λ dir in_dir kind same.
+    let generation : generation_of d i ≡ generation_of d2 i = sym (map-generation d1 b i one.disk block.high
+    ∙ init-generation d i 2 disk below) in
+    let three = block-makes d d2 InitDir b 0x44 i two.disk inside below generation (λ dir in_dir kind same.
     let pointer : t2.pointer dir 0 ≡ b = ap (λ (x : Tables). x.pointer dir 0) (sym tables2)
     ∙ pointer-at d2 dir 0 in_dir (omega arith) ∙ same in
     elim (cases_eq dir i) [
@@ -402,12 +461,12 @@ mkdir-made d path changes disk sound is_name f =
           (ap (λ (row : ℕ → ℕ). row 0) (sym (with_value-other t.pointer i (λ _. 0) dir n)) ∙ pointer)
     ]) in
     let t3 = with_mark t2 b (DirectoryOf i) in
-    let d3 = with_changes d2 (init_block InitDir b 0x44 i ∷ []) in
+    let d3 = with_changes d2 (init_block d InitDir b 0x44 i ∷ []) in
     let tables3 : tables_of d3 ≡ t3 = three.tables ∙ ap (λ (x : Tables). with_mark x b (DirectoryOf i)) tables2 in
     let no_block : pointer_of d3 i 0 ≡ 0 = sym (pointer-at d3 i 0 below (omega arith))
     ∙ ap (λ (x : Tables). x.pointer i 0) tables3 ∙ own_none in
     let four = pointer-makes d3 i 0 b three.disk below (omega arith) (λ m small.
-    empty-place d2 InitDir i b 0x44 two.disk below low block.high m small ∙ sym (place-no_block d3 i m no_block)) in
+    empty-place d d2 InitDir i b 0x44 two.disk below low block.high m small ∙ sym (place-no_block d3 i m no_block)) in
     let t4 = with_pointer t3 i 0 b in
     let d4 = with_changes d3 (pointer_set i 0 b ∷ []) in
     let tables4 : tables_of d4 ≡ t4 = four.tables ∙ ap (λ (x : Tables). with_pointer x i 0 b) tables3 in

@@ -1,6 +1,6 @@
 -- Where the changes of a plan lie: in a block of the disk, and in none of the journal.
-use Rattle.std.proofs.Common.{◌≡◌, ℕ, zero, suc, ◌+◌, ◌-◌, ◌*◌, ◌<◌, ◌≤◌, ◌⊎◌, inl, inr, List, [], ◌∷◌, ◌++◌, Bool}
-use Rattle.std.proofs.Common.{true, false, Option, Ok, length, replicate, arith, refl, sym, ◌∙◌, subst}
+use Rattle.std.proofs.Common.{◌≡◌, ℕ, zero, suc, ◌+◌, ◌-◌, ◌*◌, ◌%◌, ◌<◌, ◌≤◌, ◌⊎◌, inl, inr, List, [], ◌∷◌, ◌++◌, Bool}
+use Rattle.std.proofs.Common.{true, false, Option, Some, None, Ok, length, replicate, arith, refl, sym, ◌∙◌, subst}
 use Rattle.std.specs.Prelude.{All, option_to_list, nat_lt, if◌then◌else◌}
 use Rattle.std.proofs.lemmas.List.Elements.{All-nil, All-cons}
 use Rattle.std.proofs.lemmas.Bool.Decides.{nat_tests}
@@ -11,14 +11,20 @@ use Rattle.crash_model.specs.Lists.{some_below, when}
 use Rattle.crash_model.specs.Layout.{links_of, pointer_of, counts, is_data, target_of, entry_offset}
 use Rattle.crash_model.specs.Plan.{name_spelling, is_named, is_free_entry, is_free_block, is_free_slot, is_free_inode}
 use Rattle.crash_model.specs.Plan.{change, at_inode, inode_free, link_count, entry_set, map_clear, init_block}
+use Rattle.crash_model.specs.Plan.{next_generation, name_dropped, new_data, new_data_at, new_data_in, touch, touched_of}
+use Rattle.crash_model.specs.Layout.{generation_of}
+use Rattle.crash_model.specs.Slots.{slot_number}
+use Rattle.crash_model.specs.declared.operations.Slot.{Slot}
 use Rattle.crash_model.specs.Plan.{map_clear_at, map_clears, plan_of, with_changes}
 use Rattle.crash_model.specs.declared.names.Path.{Path}
 use Rattle.crash_model.specs.declared.operations.Op.{Op}
 use Rattle.crash_model.specs.declared.operations.Op.TheVariants.{Create, Write, Link, Unlink, Rename, Mkdir, Rmdir}
+use Rattle.crash_model.specs.declared.operations.Op.TheVariants.{Overwrite, Truncate, Replace}
 use Rattle.crash_model.specs.declared.plans.Change.{Change}
 use Rattle.crash_model.specs.declared.plans.Role.{Role}
 use Rattle.crash_model.specs.declared.plans.Role.TheVariants.{InodeInit, InodeFree, InitFile, InitDir, LinkUp, LinkDown}
-use Rattle.crash_model.specs.declared.plans.Role.TheVariants.{EntrySet, EntryClear, Ptr, MapSet, MapClear}
+use Rattle.crash_model.specs.declared.plans.Role.TheVariants.{EntrySet, EntryClear, Ptr, MapSet, MapClear, PtrClear}
+use Rattle.crash_model.specs.declared.plans.Role.TheVariants.{Touch, NewData}
 use Rattle.crash_model.proofs.Bytes.{length-overwrite}
 use Rattle.soundness_laws.proofs.Searches.{first_below-is_some}
 use Rattle.soundness_laws.proofs.OnTables.{counts-parts}
@@ -26,6 +32,7 @@ use Rattle.soundness_laws.proofs.Puts.{data-block, range-outside}
 use Rattle.inode_fs.specs.Inside.{LiesInside, HasSameJournal, GivesName}
 use Rattle.inode_fs.proofs.Accepted.{CreateFound, create-ok, WriteFound, write-ok, LinkFound, RenameFound, link-ok}
 use Rattle.inode_fs.proofs.Accepted.{rename-ok, UnlinkFound, unlink-ok, MkdirFound, mkdir-ok, RmdirFound, rmdir-ok}
+use Rattle.inode_fs.proofs.Accepted.{OverwriteFound, overwrite-ok, TruncateFound, truncate-ok, ReplaceFound, replace-ok}
 
 pub record Lands (d : Disk) (c : Change) : Type 0 where
   pub block : c.block < d.blocks
@@ -61,7 +68,8 @@ entry-lands d role dir k new holds below some fits =
     let own = counts-parts d dir holds in
     record { block = own.high; some = some; range = omega arith; spares = inr own.low; behind = omega (arith, own.low) }
 
-block-lands : (d : Disk) (role : Role) (b mark owner : ℕ) → is_data d b ≡ true → Lands d (init_block role b mark owner)
+block-lands : (d : Disk) (role : Role) (b mark owner : ℕ) → is_data d b ≡ true
+    → Lands d (init_block d role b mark owner)
 block-lands d role b mark owner inside =
     let own = data-block d b inside in
     record { block = own.1; some = omega arith; range = omega arith; spares = inr own.0; behind = omega (arith, own.0) }
@@ -113,6 +121,41 @@ clear-lands d i s disk = go (is_data d (pointer_of d i s)) refl
 clears-land : (d : Disk) (i : ℕ) → IsDisk d → AllLand d (map_clears d i)
 clears-land d i disk = some-land d 4 (map_clear_at d i) (λ s. clear-lands d i s disk)
 
+-- a name that goes
+dropped-land : (d : Disk) (i : ℕ) → IsDisk d → i < 16 → AllLand d (name_dropped d i)
+dropped-land d i disk below =
+    elim (nat_lt 1 (links_of d i)) as (λ t. AllLand d (if t then link_count LinkDown i (links_of d i - 1) ∷ []
+    else (inode_free d i ∷ map_clears d i))) [
+      | true ↦ (inode-lands d LinkDown i 1 ((links_of d i - 1) ∷ []) disk below (omega arith) (omega arith), tt)
+      | false ↦ (
+        inode-lands d InodeFree i 0 (0 ∷ 0 ∷ next_generation d i ∷ replicate 13 0) disk below (omega arith)
+            (omega arith),
+        clears-land d i disk,
+      )
+    ]
+
+data-lands : (d : Disk) (i s : ℕ) → AllLand d (option_to_list (new_data_at d i s))
+data-lands d i s = go (is_data d (pointer_of d i s)) refl
+  where
+    go : (test : Bool) → is_data d (pointer_of d i s) ≡ test
+        → AllLand d (option_to_list (when test (new_data d (pointer_of d i s))))
+    go true inside =
+        let own = data-block d (pointer_of d i s) inside in (
+          record {
+            block = own.1;
+            some = omega arith;
+            range = omega arith;
+            spares = inr own.0;
+            behind = omega (arith, own.0);
+          },
+          tt,
+        )
+    go false outside = tt
+
+datas-land : (d : Disk) (i : ℕ) (slot : Option Slot) → AllLand d (new_data_in d i slot)
+datas-land d i None = some-land d 4 (new_data_at d i) (λ s. data-lands d i s)
+datas-land d i (Some slot) = data-lands d i (slot_number slot)
+
 -- ---- the operations
 
 create-lands : (d : Disk) (path : Path) (changes : List Change) → IsDisk d → IsName path.last
@@ -121,7 +164,7 @@ create-lands d path changes disk is_name f =
     let inode = first_below-is_some 16 (is_free_inode d) f.i f.inode in
     let place = first_below-is_some 10 (is_free_entry d f.dir) f.k f.place in
     subst (AllLand d) (sym f.are) (
-      inode-lands d InodeInit f.i 0 (1 ∷ 1 ∷ replicate 14 0) disk inode.below (omega arith) (omega arith),
+      inode-lands d InodeInit f.i 0 (1 ∷ 1 ∷ generation_of d f.i ∷ replicate 13 0) disk inode.below (omega arith) (omega arith),
       (set-lands d f.dir f.k f.i path.last (free-counts d f.dir f.k place.holds) place.below is_name, tt),
     )
 
@@ -160,23 +203,10 @@ unlink-lands d path changes disk f =
     let entry = first_below-is_some 10 (is_named d f.dir path.last) f.k f.named in
     let target = target_of d f.dir f.k in
     let below = named-below d f.dir path.last f.k entry.holds in
-    let rest : (test : Bool) → AllLand d (if test then link_count LinkDown target (links_of d target - 1)
-    ∷ [] else (inode_free target ∷ map_clears d target)) = λ test.
-    elim test as (λ t. AllLand d (if t then link_count LinkDown target (links_of d target - 1)
-    ∷ [] else (inode_free target ∷ map_clears d target))) [
-      | true ↦ (
-        inode-lands d LinkDown target 1 ((links_of d target - 1) ∷ []) disk below (omega arith) (omega arith),
-        tt,
-      )
-      | false ↦ (
-        inode-lands d InodeFree target 0 (replicate 16 0) disk below (omega arith) (omega arith),
-        clears-land d target disk,
-      )
-    ] in
     subst (AllLand d) (sym f.are) (
       entry-lands d EntryClear f.dir f.k (replicate 12 0) (named-counts d f.dir path.last f.k entry.holds) entry.below
           (omega arith) (omega arith),
-      rest (nat_lt 1 (links_of d target)),
+      dropped-land d target disk below,
     )
 
 rename-lands : (d : Disk) (old new : Path) (changes : List Change) → IsDisk d → IsName new.last
@@ -206,7 +236,7 @@ mkdir-lands d path changes disk is_name f =
     let block = first_below-is_some d.blocks (is_free_block d) f.b f.block in
     let place = first_below-is_some 10 (is_free_entry d f.dir) f.k f.place in
     subst (AllLand d) (sym f.are) (
-      inode-lands d InodeInit f.i 0 (2 ∷ 1 ∷ replicate 14 0) disk inode.below (omega arith) (omega arith),
+      inode-lands d InodeInit f.i 0 (2 ∷ 1 ∷ generation_of d f.i ∷ replicate 13 0) disk inode.below (omega arith) (omega arith),
       (
         map-lands d MapSet f.b 1 disk block.below,
         (
@@ -229,8 +259,50 @@ rmdir-lands d path changes disk f =
       entry-lands d EntryClear f.dir f.k (replicate 12 0) (named-counts d f.dir path.last f.k entry.holds) entry.below
           (omega arith) (omega arith),
       (
-        inode-lands d InodeFree target 0 (replicate 16 0) disk below (omega arith) (omega arith),
+        inode-lands d InodeFree target 0 (0 ∷ 0 ∷ next_generation d target ∷ replicate 13 0) disk below (omega arith)
+            (omega arith),
         clear-lands d target 0 disk,
+      ),
+    )
+
+overwrite-lands : (d : Disk) (path : Path) (slot : Option Slot) (changes : List Change) → IsDisk d
+    → OverwriteFound d path slot changes → AllLand d changes
+overwrite-lands d path slot changes disk f =
+    let entry = first_below-is_some 10 (is_named d f.dir path.last) f.k f.named in
+    let target = target_of d f.dir f.k in
+    let below = named-below d f.dir path.last f.k entry.holds in
+    subst (AllLand d) (sym f.are) (AllLand-append d (new_data_in d target slot) (touch d target ∷ [])
+    (datas-land d target slot)
+    (inode-lands d Touch target 8 ((touched_of d target + 1) % 256 ∷ []) disk below (omega arith) (omega arith), tt))
+
+truncate-lands : (d : Disk) (path : Path) (changes : List Change) → IsDisk d → TruncateFound d path changes
+    → AllLand d changes
+truncate-lands d path changes disk f =
+    let entry = first_below-is_some 10 (is_named d f.dir path.last) f.k f.named in
+    let target = target_of d f.dir f.k in
+    let below = named-below d f.dir path.last f.k entry.holds in
+    subst (AllLand d) (sym f.are)
+    (inode-lands d PtrClear target 4 (replicate 4 0) disk below (omega arith) (omega arith), clears-land d target disk)
+
+replace-lands : (d : Disk) (old new : Path) (changes : List Change) → IsDisk d → IsName new.last
+    → ReplaceFound d old new changes → AllLand d changes
+replace-lands d old new changes disk is_name f =
+    let target = target_of d f.old_dir f.old_k in
+    let entry = first_below-is_some 10 (is_named d f.old_dir old.last) f.old_k f.named in
+    let below = named-below d f.old_dir old.last f.old_k entry.holds in
+    let place = first_below-is_some 10 (is_named d f.dir new.last) f.k f.new_named in
+    subst (AllLand d) (sym f.are) (
+      inode-lands d LinkUp target 1 ((links_of d target + 1) ∷ []) disk below (omega arith) (omega arith),
+      (
+        set-lands d f.dir f.k target new.last (named-counts d f.dir new.last f.k place.holds) place.below is_name,
+        (
+          entry-lands d EntryClear f.old_dir f.old_k (replicate 12 0)
+              (named-counts d f.old_dir old.last f.old_k entry.holds) entry.below (omega arith) (omega arith),
+          (
+            inode-lands d LinkDown target 1 (links_of d target ∷ []) disk below (omega arith) (omega arith),
+            dropped-land d (target_of d f.dir f.k) disk (named-below d f.dir new.last f.k place.holds),
+          ),
+        ),
       ),
     )
 
@@ -246,6 +318,11 @@ plan-lands d (Rename old new) changes disk is_name e =
     rename-lands d old new changes disk is_name (rename-ok d old new changes e)
 plan-lands d (Mkdir path) changes disk is_name e = mkdir-lands d path changes disk is_name (mkdir-ok d path changes e)
 plan-lands d (Rmdir path) changes disk is_name e = rmdir-lands d path changes disk (rmdir-ok d path changes e)
+plan-lands d (Overwrite path slot) changes disk is_name e =
+    overwrite-lands d path slot changes disk (overwrite-ok d path slot changes e)
+plan-lands d (Truncate path) changes disk is_name e = truncate-lands d path changes disk (truncate-ok d path changes e)
+plan-lands d (Replace old new) changes disk is_name e =
+    replace-lands d old new changes disk is_name (replace-ok d old new changes e)
 
 -- ---- what follows of them
 

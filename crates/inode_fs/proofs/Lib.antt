@@ -1,6 +1,7 @@
 pub mod Accepted
 pub mod Lands
 pub mod Counts
+pub mod Saved
 pub mod Searched
 pub mod Clears
 pub mod Changed

@@ -10,29 +10,36 @@ use Rattle.crash_model.specs.Sound.{IsSound}
 use Rattle.crash_model.specs.View.{View, view_of}
 use Rattle.crash_model.specs.Meaning.{Becomes, nothing, with_name, IsLowest, IsFreeInode, IsFreeBlock, IsFreeSlot}
 use Rattle.crash_model.specs.Meaning.{IsKind, Walks, IsParent, IsTarget, Means, MeansUnlinkOne, MeansUnlinkLast}
+use Rattle.crash_model.specs.Meaning.{MeansReplaceOne, MeansReplaceLast, with_blocks_of, names_replaced}
 use Rattle.crash_model.specs.declared.operations.Op.{Op}
 use Rattle.crash_model.specs.declared.names.Path.{Path}
 use Rattle.crash_model.specs.declared.operations.Op.TheVariants.{Create, Write, Link, Unlink, Rename, Mkdir, Rmdir}
+use Rattle.crash_model.specs.declared.operations.Op.TheVariants.{Overwrite, Truncate, Replace}
 use Rattle.crash_model.specs.declared.plans.Change.{Change}
-use Rattle.soundness_laws.specs.Tables.{Tables, tables_of, view, SameView, Sound}
+use Rattle.soundness_laws.specs.Tables.{Tables, tables_of, tables_after_link, tables_after_unlink, tables_after_removal}
+use Rattle.soundness_laws.specs.Tables.{view, SameView, Sound}
 use Rattle.soundness_laws.specs.Tables.Place.{Leads}
 use Rattle.soundness_laws.proofs.Answered.{then_ok-ok, Entered, directory_named-ok}
-use Rattle.soundness_laws.proofs.Becomes.{same-self, same-all_of, becomes-same}
+use Rattle.soundness_laws.proofs.Becomes.{same-self, same-all_of, same-blocks_of, becomes-same}
 use Rattle.soundness_laws.proofs.ByTables.{kind-at}
 use Rattle.soundness_laws.proofs.Views.{same-view}
 use Rattle.soundness_laws.proofs.ToTables.{sound-tables}
-use Rattle.soundness_laws.proofs.Kept.{tables_after_link-sound}
+use Rattle.soundness_laws.proofs.Kept.{tables_after_link-sound, tables_after_unlink-sound, tables_after_removal-sound}
 use Rattle.soundness_laws.proofs.Meant.{tables_after_create-becomes, tables_after_write-becomes}
 use Rattle.soundness_laws.proofs.Meant.{tables_after_link-becomes, tables_after_unlink-becomes}
 use Rattle.soundness_laws.proofs.Meant.{tables_after_removal-becomes, tables_after_rename-becomes}
-use Rattle.soundness_laws.proofs.Meant.{tables_after_mkdir-becomes}
+use Rattle.soundness_laws.proofs.Meant.{tables_after_mkdir-becomes, tables_after_truncate-becomes, tables-same_view}
+use Rattle.soundness_laws.proofs.Meant.{replaced-one, replaced-last, tables_after_rename}
 use Rattle.inode_fs.specs.Inside.{GivesName}
 use Rattle.inode_fs.proofs.Accepted.{create-ok, write-ok, link-ok, rename-ok, unlink-ok, mkdir-ok, rmdir-ok}
+use Rattle.inode_fs.proofs.Accepted.{overwrite-ok, truncate-ok, replace-ok}
 use Rattle.inode_fs.proofs.Searched.{Walked, walk-found, fresh-found, fresh-lowest, block-found, slot-found}
 use Rattle.inode_fs.proofs.Searched.{named-found}
 use Rattle.inode_fs.proofs.Changed.{Made, can-create, create-made, can-grow, write-made, can-link, link-made}
 use Rattle.inode_fs.proofs.Changed.{rename-made, unlink-made, rmdir-made, can-make, mkdir-made}
 use Rattle.inode_fs.proofs.Changed.Unlinked.{Named, Gone}
+use Rattle.inode_fs.proofs.Saved.{CanReplace, overwrite-made, truncate-made, replace-made}
+use Rattle.inode_fs.proofs.Saved.Replaced.{Remains, Vanishes}
 use Rattle.inode_fs.proofs.Sounds.{old-entry}
 
 -- ---- names and kinds of the view
@@ -206,11 +213,11 @@ plan-means d (Unlink path) changes disk sound name e =
         becomes = after d changes _ _ _ _ made (same-self _)
             (tables_after_unlink-becomes (tables_of d) f.dir f.k target path.last left t can);
       })
-      | Gone used can made ↦ inr (record {
+      | Gone used mark can made ↦ inr (record {
         had = ((same-view d).inodes target 1 1).1 (file, can.last, λ z. omega arith);
         becomes = after d changes _ _ _ _ made (same-all_of (with_name nothing f.dir path.last target) (view_of d)
             (view (tables_of d)) target (same-view d)) (tables_after_removal-becomes (tables_of d) f.dir f.k target
-            path.last used t can);
+            path.last used mark t can);
       })
     ] in
     (f.dir, target, target-is d path f.dir f.k t f.walk f.named, means)
@@ -260,6 +267,76 @@ plan-means d (Rmdir path) changes disk sound name e =
         had = ((same-view d).inodes target 2 1).1 (directory, r.can.last, λ z. omega arith);
         becomes = after d changes _ _ _ _ r.made (same-all_of (with_name nothing f.dir path.last target) (view_of d)
             (view (tables_of d)) target (same-view d)) (tables_after_removal-becomes (tables_of d) f.dir f.k target
-            path.last r.used t r.can);
+            path.last r.used r.mark t r.can);
       },
+    )
+plan-means d (Overwrite path slot) changes disk sound name e =
+    let t = sound-tables d disk sound in
+    let f = overwrite-ok d path slot changes e in (
+      f.dir,
+      target_of d f.dir f.k,
+      target-is d path f.dir f.k t f.walk f.named,
+      after d changes _ _ _ _ (overwrite-made d path slot changes disk t f) (same-self nothing)
+          (tables-same_view (tables_of d)),
+    )
+plan-means d (Truncate path) changes disk sound name e =
+    let t = sound-tables d disk sound in
+    let f = truncate-ok d path changes e in
+    let target = target_of d f.dir f.k in
+    let r = truncate-made d path changes disk t f in (
+      f.dir,
+      target,
+      target-is d path f.dir f.k t f.walk f.named,
+      after d changes _ _ _ _ r.made (same-blocks_of nothing (view_of d) (view (tables_of d)) target (same-view d))
+          (tables_after_truncate-becomes (tables_of d) target r.used r.can),
+    )
+plan-means d (Replace old new) changes disk sound name e =
+    let t = sound-tables d disk sound in
+    let f = replace-ok d old new changes e in
+    let target = target_of d f.old_dir f.old_k in
+    let other = target_of d f.dir f.k in
+    let renamed : (s : Tables) → Sound s → CanReplace s f.old_dir f.old_k f.dir f.k target old.last new.last
+    → Becomes (view s) (view (tables_after_rename s f.old_dir f.old_k f.dir f.k target new.last))
+    (with_name nothing f.dir new.last target) (with_name nothing f.old_dir old.last target) =
+    λ s is can. tables_after_rename-becomes s f.old_dir f.old_k f.dir f.k target old.last new.last
+    (tables_after_link-sound s f.dir f.k target new.last is can.link) can.link can.there in
+    let means : MeansReplaceOne (view_of d) (view_of (with_changes d changes)) f.old_dir old.last target f.dir new.last
+    other
+    ⊎ MeansReplaceLast (view_of d) (view_of (with_changes d changes)) f.old_dir old.last target f.dir new.last other =
+    elim (replace-made d old new changes disk t name f) [
+      | Remains left can then made ↦
+          let s = tables_after_unlink (tables_of d) f.dir f.k other left in
+          inl (record {
+            left = left;
+            some = can.some;
+            had = ((same-view d).inodes other 1 (left + 1)).1 (can.file, can.links, λ z. omega arith);
+            becomes = after d changes _ _ _ _ made (same-self _) (replaced-one (view (tables_of d)) (view s) _ f.old_dir
+                old.last target f.dir new.last other left
+                (tables_after_unlink-becomes (tables_of d) f.dir f.k other new.last left t can)
+                (renamed s (tables_after_unlink-sound (tables_of d) f.dir f.k other (name_spelling new.last) left t can)
+                then));
+          })
+      | Vanishes used mark can then made ↦
+          let s = tables_after_removal (tables_of d) f.dir f.k other used mark in
+          let walk = walk-found d new.through.items f.dir t f.new_walk in
+          let file = kind-at d other (named-found d f.dir new.last f.k walk.below f.new_named).target_below
+          ∙ f.other_file in
+          inr (record {
+            had = ((same-view d).inodes other 1 1).1 (file, can.last, λ z. omega arith);
+            becomes = after d changes _ _ _ _ made (same-all_of (names_replaced f.old_dir old.last target f.dir new.last
+                other) (view_of d) (view (tables_of d)) other (same-view d))
+                (replaced-last (view (tables_of d)) (view (tables_of d)) (view s) _ f.old_dir old.last target f.dir
+                new.last other
+                (tables_after_removal-becomes (tables_of d) f.dir f.k other new.last used mark t can)
+                (renamed s (tables_after_removal-sound (tables_of d) f.dir f.k other (name_spelling new.last) used mark t
+                can) then));
+          })
+    ] in (
+      f.old_dir,
+      target,
+      f.dir,
+      other,
+      target-is d old f.old_dir f.old_k t f.walk f.named,
+      target-is d new f.dir f.k t f.new_walk f.new_named,
+      means,
     )

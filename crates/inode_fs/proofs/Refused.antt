@@ -14,6 +14,7 @@ use Rattle.crash_model.specs.declared.refusals.FsFault.TheVariants.{NotFound, No
 use Rattle.crash_model.specs.declared.operations.Op.{Op}
 use Rattle.crash_model.specs.declared.names.Path.{Path}
 use Rattle.crash_model.specs.declared.operations.Op.TheVariants.{Create, Write, Link, Unlink, Rename, Mkdir, Rmdir}
+use Rattle.crash_model.specs.declared.operations.Op.TheVariants.{Overwrite, Truncate, Replace}
 use Rattle.crash_model.specs.declared.plans.Change.{Change}
 use Rattle.soundness_laws.specs.Tables.{tables_of, Sound}
 use Rattle.soundness_laws.proofs.Answered.{test-holds}
@@ -23,7 +24,7 @@ use Rattle.soundness_laws.proofs.ToTables.{sound-tables}
 use Rattle.inode_fs.proofs.Searched.{Walked, walk-found, NamedEntry, named-found}
 use Rattle.inode_fs.proofs.Means.{kind-of, name-of, walks, root-walk_end}
 use Rattle.inode_fs.proofs.ViewTests.{named-by, test-named, test-inode, test-block, test-slot, test-full, test-kind}
-use Rattle.inode_fs.proofs.ViewTests.{test-links, test-entries}
+use Rattle.inode_fs.proofs.ViewTests.{test-links, test-entries, test-lacks_block, test-same}
 
 -- an answer is a refusal exactly if something holds of the fault
 abbrev pub Refuses : {B : Type 0} → Result B FsFault → (FsFault → Type 0) → Type 0
@@ -273,3 +274,23 @@ plan-refused d (Rmdir path) disk sound =
     at-name d path _ _ t (λ dir k walk n.
     one _ _ _ _ _ (test-kind d (target_of d dir k) 2 n.target_below (λ z. omega arith))
     (one _ _ _ _ _ (test-entries d (target_of d dir k) t n.target_below) (accepted _)))
+plan-refused d (Overwrite path slot) disk sound =
+    let t = sound-tables d disk sound in
+    at-name d path _ _ t (λ dir k walk n.
+    let live = live-target d dir path.last k t n in
+    one _ _ _ _ _ (test-kind d (target_of d dir k) 1 n.target_below (λ z. omega arith))
+    (one _ _ _ _ _ (test-lacks_block d (target_of d dir k) slot n.target_below live) (accepted _)))
+plan-refused d (Truncate path) disk sound =
+    let t = sound-tables d disk sound in
+    at-name d path _ _ t (λ dir k walk n.
+    one _ _ _ _ _ (test-kind d (target_of d dir k) 1 n.target_below (λ z. omega arith)) (accepted _))
+plan-refused d (Replace old new) disk sound =
+    let t = sound-tables d disk sound in
+    at-name d old _ _ t (λ old_dir old_k _ n.
+    at-name d new _ _ t (λ dir k _ m.
+    let target = target_of d old_dir old_k in
+    let other = target_of d dir k in
+    one _ _ _ _ _ (test-kind d target 1 n.target_below (λ z. omega arith))
+    (one _ _ _ _ _ (test-kind d other 1 m.target_below (λ z. omega arith))
+    (one _ _ _ _ _ (test-same target other)
+    (one _ _ _ _ _ (test-links d target t n.target_below (live-target d old_dir old.last old_k t n)) (accepted _))))))

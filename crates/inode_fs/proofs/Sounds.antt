@@ -7,8 +7,10 @@ use Rattle.crash_model.specs.Sound.{IsSound}
 use Rattle.crash_model.specs.declared.operations.Op.{Op}
 use Rattle.crash_model.specs.declared.names.Path.{Path}
 use Rattle.crash_model.specs.declared.operations.Op.TheVariants.{Create, Write, Link, Unlink, Rename, Mkdir, Rmdir}
+use Rattle.crash_model.specs.declared.operations.Op.TheVariants.{Overwrite, Truncate, Replace}
 use Rattle.crash_model.specs.declared.plans.Change.{Change}
-use Rattle.soundness_laws.specs.Tables.{Tables, tables_of, tables_after_link, Sound}
+use Rattle.soundness_laws.specs.Tables.{Tables, tables_of, tables_after_link, tables_after_unlink, tables_after_removal}
+use Rattle.soundness_laws.specs.Tables.{Sound}
 use Rattle.soundness_laws.specs.Tables.Place.{Leads}
 use Rattle.soundness_laws.proofs.Sums.{with_value-same}
 use Rattle.soundness_laws.proofs.Names.{entry_kept}
@@ -16,15 +18,17 @@ use Rattle.soundness_laws.proofs.ToTables.{sound-tables}
 use Rattle.soundness_laws.proofs.FromTables.{tables-sound}
 use Rattle.soundness_laws.proofs.Kept.{CanLink, tables_after_create-sound, tables_after_mkdir-sound}
 use Rattle.soundness_laws.proofs.Kept.{tables_after_write-sound, tables_after_link-sound, tables_after_unlink-sound}
-use Rattle.soundness_laws.proofs.Kept.{tables_after_removal-sound}
+use Rattle.soundness_laws.proofs.Kept.{tables_after_removal-sound, tables_after_truncate-sound}
 use Rattle.soundness_laws.proofs.Meant.{tables_after_rename}
 use Rattle.inode_fs.specs.Inside.{GivesName}
 use Rattle.inode_fs.proofs.Accepted.{create-ok, write-ok, RelinkFound, link-ok, rename-ok, unlink-ok, mkdir-ok}
-use Rattle.inode_fs.proofs.Accepted.{rmdir-ok}
+use Rattle.inode_fs.proofs.Accepted.{rmdir-ok, overwrite-ok, truncate-ok, replace-ok}
 use Rattle.inode_fs.proofs.Searched.{walk-found, named-found}
 use Rattle.inode_fs.proofs.Changed.{Made, can-create, create-made, can-grow, write-made, can-link, link-made}
 use Rattle.inode_fs.proofs.Changed.{rename-made, unlink-made, rmdir-made, can-make, mkdir-made}
 use Rattle.inode_fs.proofs.Changed.Unlinked.{Named, Gone}
+use Rattle.inode_fs.proofs.Saved.{overwrite-made, truncate-made, replace-made}
+use Rattle.inode_fs.proofs.Saved.Replaced.{Remains, Vanishes}
 
 sound-made : (d : Disk) (changes : List Change) (t : Tables) → Made d changes t → Sound t
     → IsSound (with_changes d changes)
@@ -79,8 +83,8 @@ plan-keeps d (Unlink path) changes disk sound name e =
     elim (unlink-made d path changes disk t f) [
       | Named left can made ↦ sound-made d changes _ made (tables_after_unlink-sound (tables_of d) f.dir f.k target
           (name_spelling path.last) left t can)
-      | Gone used can made ↦ sound-made d changes _ made (tables_after_removal-sound (tables_of d) f.dir f.k target
-          (name_spelling path.last) used t can)
+      | Gone used mark can made ↦ sound-made d changes _ made (tables_after_removal-sound (tables_of d) f.dir f.k target
+          (name_spelling path.last) used mark t can)
     ]
 plan-keeps d (Rename old new) changes disk sound name e =
     let t = sound-tables d disk sound in
@@ -99,4 +103,27 @@ plan-keeps d (Rmdir path) changes disk sound name e =
     let f = rmdir-ok d path changes e in
     let r = rmdir-made d path changes disk t f in
     sound-made d changes _ r.made (tables_after_removal-sound (tables_of d) f.dir f.k (target_of d f.dir f.k)
-    (name_spelling path.last) r.used t r.can)
+    (name_spelling path.last) r.used r.mark t r.can)
+plan-keeps d (Overwrite path slot) changes disk sound name e =
+    let t = sound-tables d disk sound in
+    sound-made d changes _ (overwrite-made d path slot changes disk t (overwrite-ok d path slot changes e)) t
+plan-keeps d (Truncate path) changes disk sound name e =
+    let t = sound-tables d disk sound in
+    let f = truncate-ok d path changes e in
+    let r = truncate-made d path changes disk t f in
+    sound-made d changes _ r.made (tables_after_truncate-sound (tables_of d) (target_of d f.dir f.k) r.used t r.can)
+plan-keeps d (Replace old new) changes disk sound name e =
+    let t = sound-tables d disk sound in
+    let f = replace-ok d old new changes e in
+    let target = target_of d f.old_dir f.old_k in
+    let other = target_of d f.dir f.k in
+    elim (replace-made d old new changes disk t name f) [
+      | Remains left can then made ↦ sound-made d changes _ made
+          (tables_after_rename-sound (tables_after_unlink (tables_of d) f.dir f.k other left) f.old_dir f.old_k f.dir f.k
+          target old.last new.last (tables_after_unlink-sound (tables_of d) f.dir f.k other (name_spelling new.last) left
+          t can) then.link then.there)
+      | Vanishes used mark can then made ↦ sound-made d changes _ made
+          (tables_after_rename-sound (tables_after_removal (tables_of d) f.dir f.k other used mark) f.old_dir f.old_k
+          f.dir f.k target old.last new.last (tables_after_removal-sound (tables_of d) f.dir f.k other
+          (name_spelling new.last) used mark t can) then.link then.there)
+    ]

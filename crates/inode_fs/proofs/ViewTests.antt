@@ -2,7 +2,7 @@
 use Rattle.std.proofs.Common.{◌≡◌, ◌≢◌, ℕ, ◌<◌, ◌≤◌, ◌⊎◌, ◌↔◌, inl, inr, List, [], Bool, true, false, ◌&&◌, not, eqb}
 use Rattle.std.proofs.Common.{leb, Option, Some, None, arith, refl, sym, ◌∙◌, ap}
 use Rattle.std.specs.Prelude.{is_some}
-use Rattle.std.proofs.lemmas.Bool.{cases_eq, cases_lt, eq-eqb, ne_eqb, eqb-false, le-leb, leb-true, false≢true}
+use Rattle.std.proofs.lemmas.Bool.{cases_eq, cases_lt, eq-eqb, ne_eqb, eqb-true, eqb-false, le-leb, leb-true, false≢true}
 use Rattle.std.proofs.lemmas.Bool.Decides.{nat_tests}
 use Rattle.crash_model.specs.Disk.{Disk}
 use Rattle.crash_model.specs.Layout.{kind_of, links_of, pointer_of, map_of, is_data, is_entry, counts, entry_of}
@@ -11,7 +11,11 @@ use Rattle.crash_model.specs.Lists.{first_below}
 use Rattle.crash_model.specs.Plan.{name_spelling, entry_named, is_free_inode, free_inode, is_free_block, free_block}
 use Rattle.crash_model.specs.Plan.{is_free_entry, free_entry, is_free_slot, free_slot, has_entries}
 use Rattle.crash_model.specs.View.{view_of}
-use Rattle.crash_model.specs.Meaning.{LeadsTo, IsKind, IsFull, NoInodeLeft, NoBlockLeft, IsFreeSlot}
+use Rattle.crash_model.specs.Meaning.{LeadsTo, IsKind, IsFull, NoInodeLeft, NoBlockLeft, IsFreeSlot, LacksBlockIn}
+use Rattle.crash_model.specs.Plan.{lacks_block_in}
+use Rattle.crash_model.specs.Slots.{slot_number}
+use Rattle.crash_model.specs.declared.operations.Slot.{Slot}
+use Rattle.crash_model.specs.declared.operations.Slot.TheVariants.{Zero, One, Two, Three}
 use Rattle.soundness_laws.specs.Tables.{tables_of, Sound}
 use Rattle.soundness_laws.specs.Tables.Place.{Leads}
 use Rattle.soundness_laws.proofs.Searches.{first_below-is_none, first_below-is_some}
@@ -293,3 +297,31 @@ test-entries d i sound below = (
       false≢true (sym (first_below-is_none 10 (is_entry d i) none place.0 b.in_place)
       ∙ (entry-is d i place.0 w.1.0 (name_spelling w.0) b).0)),
 )
+
+-- ---- 10: a slot that is asked for names no block
+
+slot-below : (slot : Slot) → slot_number slot < 4
+slot-below Zero = omega arith
+slot-below One = omega arith
+slot-below Two = omega arith
+slot-below Three = omega arith
+
+pub test-lacks_block : (d : Disk) (i : ℕ) (slot : Option Slot) → i < 16 → (tables_of d).kind i ≢ 0
+    → ((lacks_block_in d i slot ≡ true) ↔ LacksBlockIn (view_of d) i slot)
+test-lacks_block d i None below live = (λ e. cc, λ none. absurd none)
+test-lacks_block d i (Some slot) below live = (
+  λ e b h.
+      let in_tables = ((same-view d).pointers i (slot_number slot) b).0 h in
+      let none = eqb-true (pointer_of d i (slot_number slot)) 0 e in
+      in_tables.2 (sym in_tables.1 ∙ pointer-at d i (slot_number slot) below (slot-below slot) ∙ none),
+  λ none. elim (cases_eq (pointer_of d i (slot_number slot)) 0) [
+    | inl zero ↦ eq-eqb (pointer_of d i (slot_number slot)) 0 zero
+    | inr some ↦ absurd (none (pointer_of d i (slot_number slot)) (((same-view d).pointers i (slot_number slot)
+        (pointer_of d i (slot_number slot))).1 (live, pointer-at d i (slot_number slot) below (slot-below slot), some)))
+  ],
+)
+
+-- ---- 12: both names lead to one file
+
+pub test-same : (i j : ℕ) → ((eqb i j ≡ true) ↔ (i ≡ j))
+test-same i j = (λ e. eqb-true i j e, λ same. eq-eqb i j same)

@@ -6,6 +6,7 @@ use Rattle.crash_model.specs.Names.{IsName}
 use Rattle.crash_model.specs.declared.plans.Change.{Change}
 use Rattle.crash_model.specs.declared.operations.Op.{Op}
 use Rattle.crash_model.specs.declared.operations.Op.TheVariants.{Create, Write, Link, Unlink, Rename, Mkdir, Rmdir}
+use Rattle.crash_model.specs.declared.operations.Op.TheVariants.{Overwrite, Truncate, Replace}
 
 -- the range of a change is one of a block of a disk with this many blocks, and has a byte
 pub record LiesInside (blocks : ℕ) (c : Change) : Type 0 where
@@ -27,3 +28,6 @@ GivesName (Unlink path) = Unit {0}
 GivesName (Rename old new) = IsName new.last
 GivesName (Mkdir path) = IsName path.last
 GivesName (Rmdir path) = Unit {0}
+GivesName (Overwrite path slot) = Unit {0}
+GivesName (Truncate path) = Unit {0}
+GivesName (Replace old new) = IsName new.last

@@ -3,11 +3,13 @@
 ghost use Rattle.std.specs.Prelude.{◌≡◌, ◌<◌, ◌≤◌, ◌+◌, ◌-◌, ◌*◌, ◌++◌, length, replicate};
 ghost use Rattle.crash_model.specs.Names.{IsName};
 ghost use Rattle.crash_model.specs.Plan.{at_inode, inode_init, inode_free, link_count, pointer_set, entry_set};
-ghost use Rattle.crash_model.specs.Plan.{entry_clear, map_set, map_clear, init_block};
+ghost use Rattle.crash_model.specs.Plan.{entry_clear, map_set, map_clear, init_block, next_generation, new_data, touch};
+ghost use Rattle.crash_model.specs.Plan.{pointers_clear};
 
 use arrayvec::ArrayVec;
 use crash_model::disk_bytes::{
-    BLOCK_SIZE, ENTRIES, ENTRY_SIZE, INODE_SIZE, INODES, POINTERS_FROM, SLOTS,
+    BLOCK_SIZE, DATA_FROM, ENTRIES, ENTRY_SIZE, INODE_SIZE, INODES, POINTERS_FROM, SLOTS,
+    TOUCHED_FROM,
 };
 use crash_model::names::Name;
 use crash_model::plans::{Change, Role};
@@ -58,25 +60,44 @@ fn at_inode(role: Role, inode: u8, from: u8, new: ArrayVec<u8, BLOCK_SIZE>) -> C
     }
 }
 
-/// A new inode of a kind, with one link and no block.
-pub fn inode_init(inode: u8, kind: u8) -> Change
+/// A new inode of a kind, with one link and no block. It keeps its generation.
+pub fn inode_init<A: Allocator + Copy>(image: &Image<A>, inode: u8, kind: u8) -> Change
     requires { inode < INODES }
-    ensures { result ≡ inode_init inode kind }
+    ensures { result ≡ inode_init image.now inode kind }
 {
+    let first = [kind, 1, image.generation(inode)];
     at_inode(
         Role::InodeInit,
         inode,
         0,
-        with_zeros(&[kind, 1], INODE_SIZE - 2),
+        with_zeros(&first, INODE_SIZE - 3),
     )
 }
 
-/// An inode that is free again.
-pub fn inode_free(inode: u8) -> Change
+/// An inode that is free again, of the next generation.
+pub fn inode_free<A: Allocator + Copy>(image: &Image<A>, inode: u8) -> Change
     requires { inode < INODES }
-    ensures { result ≡ inode_free inode }
+    ensures { result ≡ inode_free image.now inode }
 {
-    at_inode(Role::InodeFree, inode, 0, with_zeros(&[], INODE_SIZE))
+    let first = [0, 0, next_generation(image, inode)];
+    at_inode(
+        Role::InodeFree,
+        inode,
+        0,
+        with_zeros(&first, INODE_SIZE - 3),
+    )
+}
+
+/// The generation after that of an inode; 0 on a disk without generations.
+#[tactic(auto, unfolding(crash_model::specs::Plan::next_generation))]
+fn next_generation<A: Allocator + Copy>(image: &Image<A>, inode: u8) -> u8
+    requires { inode < INODES }
+    ensures { result ≡ next_generation image.now inode }
+{
+    if !image.has_generations() {
+        return 0;
+    }
+    image.generation(inode).wrapping_add(1)
 }
 
 /// Another link count, for the role `LinkUp` or `LinkDown`.
@@ -163,14 +184,63 @@ pub fn map_clear(block: u8) -> Change
     }
 }
 
-/// A whole block with nothing but its mark and its owner, for the role `InitFile` or `InitDir`.
-pub fn init_block(role: Role, block: u8, mark: u8, inode: u8) -> Change
-    ensures { result ≡ init_block role block mark inode }
+/// A whole block with nothing but its mark, its owner and the owner's generation, for the role `InitFile` or `InitDir`.
+pub fn init_block<A: Allocator + Copy>(
+    image: &Image<A>,
+    role: Role,
+    block: u8,
+    mark: u8,
+    inode: u8,
+) -> Change
+    requires { inode < INODES }
+    ensures { result ≡ init_block image.now role block mark inode }
 {
+    let first = [mark, inode, image.generation(inode)];
     Change {
         block,
         offset: 0,
-        new: with_zeros(&[mark, inode], BLOCK_SIZE - 2),
+        new: with_zeros(&first, BLOCK_SIZE - 3),
         role,
     }
+}
+
+/// The data of a block anew: one of its bytes stands for them, and is one more.
+pub fn new_data<A: Allocator + Copy>(image: &Image<A>, block: u8) -> Change
+    requires { block < image.now.blocks }
+    ensures { result ≡ new_data image.now block }
+{
+    let data = image.byte(block as usize, DATA_FROM as usize);
+    Change {
+        block,
+        offset: DATA_FROM,
+        new: with_zeros(&[data.wrapping_add(1)], 0),
+        role: Role::NewData,
+    }
+}
+
+/// An inode whose file's data are written anew: one of its bytes is one more.
+pub fn touch<A: Allocator + Copy>(image: &Image<A>, inode: u8) -> Change
+    requires { inode < INODES }
+    ensures { result ≡ touch image.now inode }
+{
+    let touched = image.touched(inode);
+    at_inode(
+        Role::Touch,
+        inode,
+        TOUCHED_FROM,
+        with_zeros(&[touched.wrapping_add(1)], 0),
+    )
+}
+
+/// An inode with no pointer.
+pub fn pointers_clear(inode: u8) -> Change
+    requires { inode < INODES }
+    ensures { result ≡ pointers_clear inode }
+{
+    at_inode(
+        Role::PtrClear,
+        inode,
+        POINTERS_FROM,
+        with_zeros(&[], SLOTS as usize),
+    )
 }

@@ -8,9 +8,11 @@
 mod applying;
 mod changes;
 mod demanding;
+mod dropping;
 mod live_inodes;
 mod lookup;
 mod planning;
+mod saving;
 
 pub use applying::apply;
 pub use crash_model::names::{Name, Path};

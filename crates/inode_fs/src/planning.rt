@@ -1,11 +1,11 @@
 //! The plan of each operation: its changes in the order in which they are emitted, or the first refusal.
 
-ghost use Rattle.std.specs.Prelude.{ℕ, List, ◌≡◌, ◌<◌, ◌≤◌, ◌↔◌, ◌+◌, ◌++◌, ◌∷◌, length, option_to_list, All, IfOk};
+ghost use Rattle.std.specs.Prelude.{ℕ, List, ◌≡◌, ◌<◌, ◌≤◌, ◌↔◌, ◌+◌, ◌∷◌, length, All, IfOk};
 ghost use Rattle.std.specs.Prelude.{MatchResult, Ok, Err, Some};
 ghost use Rattle.crash_model.specs.Names.{IsName};
 ghost use Rattle.crash_model.specs.Layout.{links_of};
-ghost use Rattle.crash_model.specs.Plan.{plan_of, relink_plan, free_entry, link_count, entry_set, map_clear_at};
-ghost use Rattle.crash_model.specs.Plan.{map_clears, with_changes};
+ghost use Rattle.crash_model.specs.Plan.{plan_of, relink_plan, free_entry, link_count, entry_set};
+ghost use Rattle.crash_model.specs.Plan.{with_changes};
 ghost use Rattle.crash_model.specs.declared.plans.Change.{Change};
 ghost use Rattle.crash_model.specs.Sound.{IsSound};
 ghost use Rattle.crash_model.specs.View.{view_of};
@@ -17,16 +17,17 @@ ghost use Rattle.crash_model.specs.declared.operations.Op.TheVariants.{Rmdir};
 ghost use Rattle.crash_model.specs.declared.plans.Role.TheVariants.{LinkUp};
 
 use crate::changes::{
-    entry_clear, entry_set, init_block, inode_free, inode_init, link_count, map_clear, map_set,
-    pointer_set,
+    entry_clear, entry_set, init_block, inode_free, inode_init, link_count, map_set, pointer_set,
 };
+use crate::dropping::{add_map_clear, drop_name};
 use crate::lookup::{
     Entry, entry_named, find, free_block, free_inode, free_slot, has_entries, walk,
 };
+use crate::saving::{overwrite, replace, truncate};
 use arrayvec::ArrayVec;
 use crash_model::disk_bytes::{
     DIRECTORY_KIND, DIRECTORY_MARK, ENTRIES, FILE_KIND, FILE_MARK, INODES, MOST_CHANGES,
-    MOST_LINKS, SLOTS,
+    MOST_LINKS, MOST_TARGETS,
 };
 use crash_model::names::Path;
 use crash_model::operations::Op;
@@ -77,6 +78,9 @@ fn changes_of<A: Allocator + Copy>(image: &Image<A>, op: &Op) -> Result<Plan, Fs
         Op::Rename(old, new) => rename(image, old, new),
         Op::Mkdir(path) => mkdir(image, path),
         Op::Rmdir(path) => rmdir(image, path),
+        Op::Overwrite(path, slot) => overwrite(image, path, *slot),
+        Op::Truncate(path) => truncate(image, path),
+        Op::Replace(old, new) => replace(image, old, new),
     }
 }
 
@@ -94,7 +98,7 @@ fn create<A: Allocator + Copy>(image: &Image<A>, path: &Path) -> Result<Plan, Fs
     let inode = free_inode(image).ok_or(FsFault::NoInode)?;
     let place = image.free_entry(dir).ok_or(FsFault::DirectoryFull)?;
     let mut plan = ArrayVec::new();
-    plan.push(inode_init(inode, FILE_KIND));
+    plan.push(inode_init(image, inode, FILE_KIND));
     plan.push(entry_set(image, dir, place, inode, &path.last));
     Ok(plan)
 }
@@ -113,7 +117,7 @@ fn write<A: Allocator + Copy>(image: &Image<A>, path: &Path) -> Result<Plan, FsF
     let slot = free_slot(image, target).ok_or(FsFault::FileFull)?;
     let mut plan = ArrayVec::new();
     plan.push(map_set(block));
-    plan.push(init_block(Role::InitFile, block, FILE_MARK, target));
+    plan.push(init_block(image, Role::InitFile, block, FILE_MARK, target));
     plan.push(pointer_set(target, slot, block));
     Ok(plan)
 }
@@ -191,13 +195,7 @@ fn unlink<A: Allocator + Copy>(image: &Image<A>, path: &Path) -> Result<Plan, Fs
     }
     let mut plan = ArrayVec::new();
     plan.push(entry_clear(image, dir, place));
-    let links = image.links(target);
-    if links > 1 {
-        plan.push(link_count(Role::LinkDown, target, links - 1));
-    } else {
-        plan.push(inode_free(target));
-        add_map_clears(image, target, &mut plan);
-    }
+    drop_name(image, target, &mut plan);
     Ok(plan)
 }
 
@@ -232,9 +230,9 @@ fn mkdir<A: Allocator + Copy>(image: &Image<A>, path: &Path) -> Result<Plan, FsF
     let block = free_block(image).ok_or(FsFault::NoBlock)?;
     let place = image.free_entry(dir).ok_or(FsFault::DirectoryFull)?;
     let mut plan = ArrayVec::new();
-    plan.push(inode_init(inode, DIRECTORY_KIND));
+    plan.push(inode_init(image, inode, DIRECTORY_KIND));
     plan.push(map_set(block));
-    plan.push(init_block(Role::InitDir, block, DIRECTORY_MARK, inode));
+    plan.push(init_block(image, Role::InitDir, block, DIRECTORY_MARK, inode));
     plan.push(pointer_set(inode, 0, block));
     plan.push(entry_set(image, dir, place, inode, &path.last));
     Ok(plan)
@@ -255,32 +253,7 @@ fn rmdir<A: Allocator + Copy>(image: &Image<A>, path: &Path) -> Result<Plan, FsF
     }
     let mut plan = ArrayVec::new();
     plan.push(entry_clear(image, dir, place));
-    plan.push(inode_free(target));
+    plan.push(inode_free(image, target));
     add_map_clear(image, target, 0, &mut plan);
     Ok(plan)
-}
-
-/// Adds the freeing of the block that a slot of an inode names, if that is a block of the data area.
-fn add_map_clear<A: Allocator + Copy>(image: &Image<A>, inode: u8, slot: u8, plan: &mut Plan)
-    requires inode { inode < INODES }
-    requires slot { slot < SLOTS }
-    requires room { length plan.old.items < MOST_CHANGES }
-    ensures { plan.new.items ≡ plan.old.items ++ option_to_list (map_clear_at image.now inode slot) }
-{
-    let block = image.pointer(inode, slot);
-    if image.is_data(block) {
-        plan.push(map_clear(block));
-    }
-}
-
-/// Adds the freeing of all blocks of an inode, by ascending slot.
-#[tactic(auto, using(crash_model::proofs::EachBelow::each_below_steps, std::proofs::lemmas::Grind::common_steps))]
-fn add_map_clears<A: Allocator + Copy>(image: &Image<A>, inode: u8, plan: &mut Plan)
-    requires inode { inode < INODES }
-    requires room { length plan.old.items + SLOTS ≤ MOST_CHANGES }
-    ensures { plan.new.items ≡ plan.old.items ++ map_clears image.now inode }
-{
-    for slot in 0..SLOTS {
-        add_map_clear(image, inode, slot, plan);
-    }
 }

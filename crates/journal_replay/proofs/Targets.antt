@@ -134,7 +134,7 @@ no_copy row j b a = elim (bool_is (slice_index row 0 == 0xC7)) [
 -- ---- headers
 
 abbrev header_by : ℕ → ℕ → ℕ → ℕ → List ℕ → Bool
-header_by bl jn j t row = is_header (record { blocks = bl; journal = jn; bytes = [] }) j t row
+header_by bl jn j t row = is_header (record { blocks = bl; journal = jn; generations = false; bytes = [] }) j t row
 
 -- whether a block is a header depends on its bytes and the disk's numbers
 pub same_header : (d e : Disk) (j t : ℕ) (row : List ℕ) → e.blocks ≡ d.blocks → e.journal ≡ d.journal

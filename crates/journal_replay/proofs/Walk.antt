@@ -1,6 +1,6 @@
 -- Replay by a walk that copies while it goes.
 use Rattle.std.proofs.Common.{◌≡◌, ◌≢◌, ℕ, zero, suc, ◌+◌, ◌-◌, ◌*◌, ◌<◌, ◌≤◌, ◌⊎◌, inl, inr, List, [], ◌∷◌, ◌++◌}
-use Rattle.std.proofs.Common.{length, take, drop, get_or, true, false, Option, None, arith, refl, sym, ◌∙◌, ap, subst}
+use Rattle.std.proofs.Common.{length, take, drop, get_or, Bool, true, false, Option, None, arith, refl, sym, ◌∙◌, ap, subst}
 use Rattle.std.specs.Prelude.{slice_index, unwrap_or, option_map, if◌then◌else◌, ◌==◌}
 use Rattle.std.specs.List.{position, All}
 use Rattle.std.proofs.lemmas.List.{length-take, length-drop, length-take-le}
@@ -433,17 +433,41 @@ disk_after_walk-block d b i below =
     in_or_out : (b jl : ℕ) → IsOutside jl b ⊎ ((4 ≤ b) × (b < 4 + jl))
     in_or_out b jl = grind arith
 
-same_disk : (e : Disk) (n j : ℕ) (xs : List ℕ) → e.blocks ≡ n → e.journal ≡ j → e.bytes ≡ xs
-    → e ≡ record { blocks = n; journal = j; bytes = xs }
-same_disk e n j xs p q r =
-    let disk : ℕ → ℕ → List ℕ → Disk = λ a b c. record { blocks = a; journal = b; bytes = c } in
-    ap (λ (a : ℕ). disk a e.journal e.bytes) p ∙ ap (λ (b : ℕ). disk n b e.bytes) q ∙ ap (λ (c : List ℕ). disk n j c) r
+-- copies leave what says whether there are generations
+generations-with_copies : (d : Disk) (j : ℕ) (bs : List ℕ) → (with_copies d j bs).generations ≡ d.generations
+generations-with_copies d j [] = refl
+generations-with_copies d j (b ∷ bs) = generations-with_copies (with_bytes d b 0 (block_of d j)) (j + 1) bs
+
+generations-with_row_copies : (d : Disk) (j : ℕ) (row : List ℕ) → (with_row_copies d j row).generations ≡ d.generations
+generations-with_row_copies d j row = elim (bool_is (slice_index row 0 == 0xC7)) [
+  | inr done ↦ rw done refl
+  | inl held ↦ rw held (generations-with_copies d (j + 1) (targets_of row))
+]
+
+generations-disk_after_walk : (most : ℕ) (d : Disk) (j t : ℕ)
+    → (disk_after_walk most d j t).generations ≡ d.generations
+generations-disk_after_walk zero d j t = refl
+generations-disk_after_walk (suc most) d j t = elim (bool_is (is_header d j t (block_of d j))) [
+  | inr none ↦ rw none refl
+  | inl is ↦ rw is (generations-disk_after_walk most (with_row_copies d j (block_of d j))
+      (j + 1 + count_of (block_of d j)) (t + 1) ∙ generations-with_row_copies d j (block_of d j))
+]
+
+same_disk : (e d : Disk) → e.blocks ≡ d.blocks → e.journal ≡ d.journal → e.generations ≡ d.generations
+    → e.bytes ≡ d.bytes → e ≡ d
+same_disk e d p q g r =
+    let disk : ℕ → ℕ → Bool → List ℕ → Disk =
+    λ a b c xs. record { blocks = a; journal = b; generations = c; bytes = xs } in
+    ap (λ (a : ℕ). disk a e.journal e.generations e.bytes) p
+    ∙ ap (λ (b : ℕ). disk d.blocks b e.generations e.bytes) q
+    ∙ ap (λ (c : Bool). disk d.blocks d.journal c e.bytes) g
+    ∙ ap (λ (xs : List ℕ). disk d.blocks d.journal d.generations xs) r
 
 pub disk_after_walk-image_after_replay : (d : Disk) → IsDisk d → disk_after_walk d.journal d 4 1 ≡ image_after_replay d
 disk_after_walk-image_after_replay d i =
     let e : Disk = disk_after_walk d.journal d 4 1 in
     let s : IsShaped d.blocks d.journal e = shaped-disk_after_walk d.journal d 4 1 i in
-    same_disk e d.blocks d.journal (image_after_replay d).bytes s.blocks s.journal
+    same_disk e (image_after_replay d) s.blocks s.journal (generations-disk_after_walk d.journal d 4 1)
     (joined_blocks d.blocks e (λ block. block_of d (copy_after d block block (headers d))) s.long
     (λ b below. disk_after_walk-block d b i below))
 

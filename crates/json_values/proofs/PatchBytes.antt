@@ -23,6 +23,10 @@ use Rattle.crash_model.specs.Script.{IsPath, IsAct, path_text}
 use Rattle.crash_model.specs.Trace.{Emitted, depends}
 use Rattle.crash_model.specs.declared.operations.Op.{Op}
 use Rattle.crash_model.specs.declared.operations.Op.TheVariants.{Create, Write, Link, Unlink, Rename, Mkdir, Rmdir}
+use Rattle.crash_model.specs.declared.operations.Op.TheVariants.{Overwrite, Truncate, Replace}
+use Rattle.crash_model.specs.declared.operations.Slot.{Slot}
+use Rattle.crash_model.specs.declared.operations.Slot.TheVariants.{Zero, One, Two, Three}
+use Rattle.crash_model.specs.Slots.{slot_text}
 use Rattle.crash_model.specs.declared.names.Path.{Path}
 use Rattle.crash_model.specs.declared.plans.Role.{Role}
 use Rattle.crash_model.specs.declared.plans.Role.TheVariants as role
@@ -56,11 +60,15 @@ role_plain role.Ptr = refl
 role_plain role.LinkUp = refl
 role_plain role.LinkDown = refl
 role_plain role.InodeFree = refl
+role_plain role.PtrClear = refl
+role_plain role.NewData = refl
+role_plain role.Touch = refl
 
 part_plain : (p : Part) → IsPlain (part_text p)
 unfolding escape_byte
 part_plain (part.InPlace r) = role_plain r
 part_plain part.FileData = refl
+part_plain part.NewData = refl
 part_plain part.Copy = refl
 part_plain part.Commit = refl
 part_plain part.Done = refl
@@ -130,6 +138,21 @@ two_paths verb p q plain first second =
     (plain-append (32 ∷ []) (path_text p ++ (32 ∷ path_text q)) refl
     (one_path (path_text p) q (path_plain p first) second))
 
+slot_plain : (slot : Slot) → IsPlain (32 ∷ slot_text slot)
+unfolding escape_byte
+slot_plain Zero = refl
+slot_plain One = refl
+slot_plain Two = refl
+slot_plain Three = refl
+
+path_and_slot : (verb : List ℕ) (p : Path) (slot : Slot) → IsPlain verb → IsPath p
+    → IsPlain (verb ++ (32 ∷ (path_text p ++ (32 ∷ slot_text slot))))
+unfolding escape_byte
+path_and_slot verb p slot plain is =
+    plain-append verb (32 ∷ (path_text p ++ (32 ∷ slot_text slot))) plain
+    (plain-append (32 ∷ []) (path_text p ++ (32 ∷ slot_text slot)) refl
+    (plain-append (path_text p) (32 ∷ slot_text slot) (path_plain p is) (slot_plain slot)))
+
 op_plain : (op : Op) → IsAct (Do op) → IsPlain (op_text op)
 unfolding escape_byte
 op_plain (Create p) is = one_path (codes "create") p refl is.0
@@ -139,6 +162,10 @@ op_plain (Unlink p) is = one_path (codes "unlink") p refl is.0
 op_plain (Rename p q) is = two_paths (codes "rename") p q refl is.0 is.1.0
 op_plain (Mkdir p) is = one_path (codes "mkdir") p refl is.0
 op_plain (Rmdir p) is = one_path (codes "rmdir") p refl is.0
+op_plain (Overwrite p None) is = one_path (codes "overwrite") p refl is.0
+op_plain (Overwrite p (Some slot)) is = path_and_slot (codes "overwrite") p slot refl is.0
+op_plain (Truncate p) is = one_path (codes "truncate") p refl is.0
+op_plain (Replace p q) is = two_paths (codes "replace") p q refl is.0 is.1.0
 
 -- ---- dependencies
 

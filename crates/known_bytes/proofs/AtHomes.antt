@@ -20,6 +20,7 @@ like_after true base d like = record {
   disk = disk-replayed d like.disk;
   blocks = like.blocks;
   journal = like.journal;
+  generations = like.generations;
 }
 like_after false base d like = like
 

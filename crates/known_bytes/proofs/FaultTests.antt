@@ -5,7 +5,8 @@ use Rattle.std.specs.Prelude.{◌==◌, nat_le, nat_lt}
 use Rattle.std.proofs.lemmas.Bool.{cases_eq, eq-eqb, ne_eqb}
 use Rattle.journal_replay.proofs.Targets.{bool_is}
 use Rattle.crash_model.specs.Disk.{Disk, byte}
-use Rattle.crash_model.specs.Layout.{kind_of, pointer_of, entry_of, target_of, map_of, is_data, is_live, counts}
+use Rattle.crash_model.specs.Layout.{kind_of, pointer_of, entry_of, target_of, map_of, is_data, is_live, is_owned}
+use Rattle.crash_model.specs.Layout.{counts}
 use Rattle.crash_model.specs.Faults.{is_dangling, is_wild, is_unwritten, is_marked_free, names_block, leads_to}
 use Rattle.fs_check.specs.Passed.{is_marked}
 use Rattle.known_bytes.specs.Directories.{IsItsBlock, counts_at}
@@ -21,12 +22,12 @@ none_of a p x h = grind (arith, tests)
 
 pub counts_is : (d : Disk) (dir block : ℕ) → IsItsBlock dir block d → counts_at dir block d ≡ counts d dir
 counts_is d dir block its = elim (cases_eq (pointer_of d dir 0) block) [
-  | inl same ↦ sym (ap (λ (p : ℕ). (kind_of d dir == 2) && is_data d p && (byte d p 0 == 0x44) && (byte d p 1 == dir))
+  | inl same ↦ sym (ap (λ (p : ℕ). (kind_of d dir == 2) && is_data d p && (byte d p 0 == 0x44) && is_owned d p dir)
       same
-      ∙ all_four (kind_of d dir == 2) (is_data d block) (byte d block 0 == 0x44) (byte d block 1 == dir)
+      ∙ all_four (kind_of d dir == 2) (is_data d block) (byte d block 0 == 0x44) (is_owned d block dir)
       (pointer_of d dir 0 == block) its.tame (eq-eqb (pointer_of d dir 0) block same))
   | inr other ↦
-      none_of (kind_of d dir == 2) (pointer_of d dir 0 == block) ((byte d block 0 == 0x44) && (byte d block 1 == dir))
+      none_of (kind_of d dir == 2) (pointer_of d dir 0 == block) ((byte d block 0 == 0x44) && is_owned d block dir)
       (ne_eqb (pointer_of d dir 0) block other)
       ∙ sym (elim (bool_is (counts d dir)) [
         | inl is ↦ absurd (other (its.only is))

@@ -39,6 +39,7 @@ module _ (f : Family) (sets : List ℕ) (chains : AreChains record { base = f.ba
         };
         blocks = shape.blocks;
         journal = shape.journal;
+        generations = shape.generations;
       }
 
   module _ (block offset : ℕ) (below : block < f.base.blocks) (within : offset < 128) where

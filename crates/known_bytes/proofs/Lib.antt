@@ -18,3 +18,4 @@ pub mod Named
 pub mod ToldFaults
 pub mod Sources
 pub mod ShownDisks
+pub mod Owned

@@ -2,7 +2,7 @@
 use Rattle.std.specs.Prelude.{◌≡◌, ℕ, Bool, true, ◌&&◌, ◌==◌, Result}
 use Rattle.crash_model.specs.declared.disk_bytes.TheConstants.{DIRECTORY_KIND, DIRECTORY_MARK}
 use Rattle.crash_model.specs.Disk.{Disk, byte}
-use Rattle.crash_model.specs.Layout.{kind_of, pointer_of, is_data, counts}
+use Rattle.crash_model.specs.Layout.{kind_of, pointer_of, is_data, is_owned, counts}
 use Rattle.known_bytes.specs.Reading.{Reading, InEachDisk, IsKnown}
 
 -- a directory that counts has this block, which is one of the data area
@@ -14,7 +14,7 @@ pub record IsItsBlock (dir block : ℕ) (d : Disk) : Type 0 where
 abbrev pub counts_at : ℕ → ℕ → Disk → Bool
 counts_at dir block d =
     (kind_of d dir == DIRECTORY_KIND && pointer_of d dir 0 == block)
-    && (byte d block 0 == DIRECTORY_MARK && byte d block 1 == dir)
+    && (byte d block 0 == DIRECTORY_MARK && is_owned d block dir)
 
 -- of a directory that may count it was found which block it has if it does, and whether it does
 pub record IsFound (r : Reading) (dir block : ℕ) (counted : Result Bool ℕ) : Type 0 where

@@ -24,11 +24,12 @@ pub record IsMember (f : Family) (set : ℕ) : Type 0 where
 abbrev pub InEach : Family → (Disk → Type 0) → Type 0
 InEach f P = (set : ℕ) → IsMember f set → P (image_of f.base f.patches set)
 
--- a disk with as many blocks and journal blocks as another
+-- a disk with as many blocks and journal blocks as another, and with generations if that has them
 pub record IsLike (base d : Disk) : Type 0 where
   pub disk : IsDisk d
   pub blocks : d.blocks ≡ base.blocks
   pub journal : d.journal ≡ base.journal
+  pub generations : d.generations ≡ base.generations
 
 -- a patch that is neither held nor barred
 pub record IsUndecided (f : Family) (id : ℕ) : Type 0 where

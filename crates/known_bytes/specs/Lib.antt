@@ -7,3 +7,4 @@ pub mod Counts
 pub mod Reached
 pub mod Texts
 pub mod Shown
+pub mod Generations

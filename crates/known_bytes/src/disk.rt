@@ -19,53 +19,36 @@ use patch_sets::ends::{lowest, without_lowest};
 use std::alloc::Allocator;
 use std::marker::Model;
 
-/// The disks that the closed sets of a family leave, before replay of the journal or after it.
+/// The disks that the closed sets of a family leave, after replay of the journal.
 ///
 /// A question about them has one answer for all, or an undecided patch on which the answer depends. Contracts see the
-/// family, and whether its disks are read after replay.
+/// family, whose disks are read after replay.
 #[derive(Drop)]
 pub struct KnownDisk<'a, A: Allocator + Copy> {
     bytes: KnownBytes<'a, A>,
     homes: Homes,
-    replayed: bool,
 }
 
 impl<'a, A: Allocator + Copy> Model for KnownDisk<'a, A> {
+    ghost use Rattle.std.specs.Prelude.{true};
     ghost use Rattle.known_bytes.specs.Reading.{Reading, AreHomes};
 
     ghost Value = { Reading };
 
-    ghost view = { λ k. record { family = k.bytes; replayed = k.replayed } };
+    ghost view = { λ k. record { family = k.bytes; replayed = true } };
 
-    ghost invariant = { λ k. AreHomes (record { family = k.bytes; replayed = k.replayed }) k.homes.blocks
-        k.homes.others k.homes.asks };
+    ghost invariant = { λ k. AreHomes (record { family = k.bytes; replayed = true }) k.homes.blocks k.homes.others
+        k.homes.asks };
 }
 
 impl<'a, A: Allocator + Copy> KnownDisk<'a, A> {
-    /// The disks as a crash leaves them.
-    pub fn left(bytes: KnownBytes<'a, A>) -> KnownDisk<'a, A>
-        ensures { result ≡ record { family = bytes.entry; replayed = false } }
-    {
-        // For the proof: how many blocks every image has at most.
-        let _base = bytes.base();
-        KnownDisk {
-            bytes,
-            homes: Homes::own(),
-            replayed: false,
-        }
-    }
-
     /// The disks after replay. No header need be known. An error is an undecided patch on which a header depends.
     pub fn replayed(bytes: KnownBytes<'a, A>) -> Result<KnownDisk<'a, A>, usize>
         ensures ok { IfOk result (λ disk. disk ≡ record { family = bytes.entry; replayed = true }) }
         ensures err { IfErr result (IsUndecided bytes.entry) }
     {
         let homes = bytes.homes()?;
-        Ok(KnownDisk {
-            bytes,
-            homes,
-            replayed: true,
-        })
+        Ok(KnownDisk { bytes, homes })
     }
 
     /// The base. All disks have its numbers of blocks.

@@ -54,7 +54,7 @@ impl<'a, A: Allocator + Copy> KnownDisk<'a, A> {
         );
         let is_marked = both(
             self.byte_is(at, 0, DIRECTORY_MARK),
-            self.byte_is(at, 1, dir),
+            self.is_owned(block, dir),
         );
         both(is_directory, is_marked)
     }
@@ -112,7 +112,7 @@ impl<'a, A: Allocator + Copy> KnownDisk<'a, A> {
         self.points_to(inode, slot, block)
     }
 
-    /// Whether a block's first two bytes are the mark of an inode's kind and the inode's number.
+    /// Whether a block's mark is that of an inode's kind, and names the inode with its generation.
     fn is_marked(&self, inode: u8, block: u8) -> Result<bool, usize>
         requires inode { inode < INODES }
         requires block { block < self.now.family.base.blocks }
@@ -127,7 +127,7 @@ impl<'a, A: Allocator + Copy> KnownDisk<'a, A> {
             self.kind_is(inode, DIRECTORY_KIND),
             self.byte_is(at, 0, DIRECTORY_MARK),
         );
-        both(either(is_file, is_directory), self.byte_is(at, 1, inode))
+        both(either(is_file, is_directory), self.is_owned(block, inode))
     }
 
     /// Whether a slot names this block, and the block is not marked as the inode's.

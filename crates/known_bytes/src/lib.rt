@@ -17,6 +17,7 @@ mod faults;
 mod headers;
 mod homes;
 mod laws;
+mod owners;
 mod possible;
 mod reach;
 mod shown;

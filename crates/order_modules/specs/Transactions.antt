@@ -3,8 +3,8 @@ use Rattle.std.specs.Prelude.{ℕ, ◌+◌, ◌==◌, List, [], ◌∷◌, ◌++
 use Rattle.std.specs.List.{filter, list_any, range_with_len}
 use Rattle.crash_model.specs.declared.disk_bytes.TheConstants.{COMMITTED_MARK, DONE_MARK}
 use Rattle.crash_model.specs.Disk.{Disk}
-use Rattle.crash_model.specs.Trace.{Emitted, Origin, is_file_data, in_place_patch, part_of, copies}
-use Rattle.crash_model.specs.declared.rules.Part.TheVariants.{FileData, Commit, Done}
+use Rattle.crash_model.specs.Trace.{Emitted, Origin, is_file_data, data_part, in_place_patch, part_of, copies}
+use Rattle.crash_model.specs.declared.rules.Part.TheVariants.{Commit, Done}
 use Rattle.crash_model.specs.declared.plans.Change.{Change}
 use Rattle.crash_model.specs.declared.modules.Module.{Module}
 use Rattle.crash_model.specs.declared.modules.Module.TheVariants.{Async, Soft, Meta, Full}
@@ -27,7 +27,7 @@ abbrev pub changes_in_place : Module → List Change → List Change
 changes_in_place kind changes = filter (is_placed kind) changes
 
 abbrev pub file_data : ℕ → Origin → Change → Emitted
-file_data turn origin c = part_of turn origin FileData c.block c.offset c.new.items
+file_data turn origin c = part_of turn origin (data_part c.role) c.block c.offset c.new.items
 
 -- the blocks below n that the changes in place touch, ascending
 abbrev pub targets_of : Module → ℕ → List Change → List ℕ

@@ -3,7 +3,7 @@
 ghost use Rattle.std.specs.Prelude.{◌≡◌, ◌+◌, ◌<◌, ◌≤◌, ◌==◌, [], ◌∷◌, length, map, OnOk};
 ghost use Rattle.std.specs.List.{All, list_any};
 ghost use Rattle.crash_model.specs.declared.disk_bytes.TheConstants.{COMMITTED_MARK, DONE_MARK};
-ghost use Rattle.crash_model.specs.Trace.{in_place_patch, part_of, copies};
+ghost use Rattle.crash_model.specs.Trace.{in_place_patch, part_of, copies, data_part};
 ghost use Rattle.crash_model.specs.declared.rules.Part.TheVariants as part;
 ghost use Rattle.inode_fs.specs.Inside.{LiesInside};
 ghost use Rattle.traced_patches.specs.Labels.{origin_by};
@@ -26,7 +26,17 @@ use traced_patches::{Label, Origin};
 pub fn is_ahead(module: Module, change: &Change) -> bool
     ensures { result ≡ is_ahead «module» change.now }
 {
-    module == Module::Meta && change.role == Role::InitFile
+    module == Module::Meta && matches!(change.role, Role::InitFile | Role::NewData)
+}
+
+/// What the patch of file data is that goes ahead of its transaction.
+fn data_part(role: Role) -> Part
+    ensures { result ≡ data_part role }
+{
+    match role {
+        Role::NewData => Part::NewData,
+        _ => Part::FileData,
+    }
 }
 
 /// The blocks that a transaction has copies of, ascending: those that its changes in place touch.
@@ -123,7 +133,7 @@ impl<'a, A: Allocator + Copy> PatchLog<'a, A> {
         for change in changes {
             if is_ahead(self.module(), change) {
                 let label = Label {
-                    part: Part::FileData,
+                    part: data_part(change.role),
                     turn,
                     origin,
                 };

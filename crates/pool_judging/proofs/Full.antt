@@ -12,6 +12,7 @@ use Rattle.crash_model.specs.declared.modules.Module.{Module}
 use Rattle.crash_model.specs.declared.modules.Module.TheVariants.{Full}
 use Rattle.crash_model.specs.declared.operations.Op.{Op}
 use Rattle.crash_model.specs.declared.operations.Op.TheVariants.{Create, Write, Link, Unlink, Rename, Mkdir, Rmdir}
+use Rattle.crash_model.specs.declared.operations.Op.TheVariants.{Overwrite, Truncate, Replace}
 use Rattle.crash_model.specs.declared.steps.Act.{Act}
 use Rattle.crash_model.specs.declared.steps.Act.TheVariants.{Do, Group, End, Depend}
 use Rattle.crash_model.specs.declared.steps.Step.{Step}
@@ -35,6 +36,9 @@ op_gives (Unlink path) is = tt
 op_gives (Rename old new) (is, (also, rest)) = also.last
 op_gives (Mkdir path) (is, rest) = is.last
 op_gives (Rmdir path) is = tt
+op_gives (Overwrite path slot) is = tt
+op_gives (Truncate path) is = tt
+op_gives (Replace old new) (is, (also, rest)) = also.last
 
 act_gives : (act : Act) → IsAct act → All GivesName (ops_at act)
 act_gives (Do op) is = All-cons GivesName op [] (op_gives op is) (All-nil GivesName)

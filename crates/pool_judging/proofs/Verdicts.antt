@@ -13,8 +13,8 @@ use Rattle.question_model.specs.Verdict.{IsVerdict}
 use Rattle.question_model.specs.Workloads.{Search, HasPatches, steps_at, trace_at}
 use Rattle.question_model.specs.declared.verdict.Verdict.{Verdict}
 use Rattle.question_model.specs.declared.verdict.Verdict.TheVariants.{Refused, Passes, Fails}
-use Rattle.worked_example_laws.proofs.Keeping.{one_demands}
-use Rattle.worked_example_laws.proofs.OneGraph.{graph_one}
+use Rattle.uniqueness_laws.proofs.Demands.{one_demands}
+use Rattle.uniqueness_laws.proofs.OneGraph.{graph_one}
 use Rattle.pool_judging.specs.Firsts.{AreFirstOfKinds}
 use Rattle.pool_judging.specs.Judging.{SomeFails, IsVerdictOn, IsNoFailure}
 

@@ -7,6 +7,7 @@ use Rattle.crash_model.specs.Checker.{Demands, IsFailingUnder}
 use Rattle.crash_model.specs.declared.modules.Module.TheVariants.{Full}
 use Rattle.crash_model.specs.declared.patches.Patch.{Patch}
 use Rattle.pool_judging.specs.Firsts.{AreFirstOfKinds}
+use Rattle.question_model.specs.Lengths.{operations_of}
 use Rattle.question_model.specs.Workloads.{Search}
 use Rattle.question_model.specs.declared.verdict.Verdict.{Verdict}
 use Rattle.question_model.specs.declared.verdict.Verdict.TheVariants.{Refused, Passes, Fails}
@@ -22,7 +23,7 @@ search_by j = record {
   atomic = j.atomic;
   base = j.base.now;
   pool = j.pool.now;
-  most = j.most;
+  most = operations_of j.longest;
 }
 
 -- a set of the patches fails

@@ -34,6 +34,9 @@ fn op_copy(op: &Op) -> Op
         Op::Rename(old, new) => Op::Rename(path_copy(old), path_copy(new)),
         Op::Mkdir(path) => Op::Mkdir(path_copy(path)),
         Op::Rmdir(path) => Op::Rmdir(path_copy(path)),
+        Op::Overwrite(path, slot) => Op::Overwrite(path_copy(path), *slot),
+        Op::Truncate(path) => Op::Truncate(path_copy(path)),
+        Op::Replace(old, new) => Op::Replace(path_copy(old), path_copy(new)),
     }
 }
 

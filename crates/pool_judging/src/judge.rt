@@ -7,9 +7,10 @@ ghost use Rattle.question_model.specs.Workloads.{IsOperation};
 use crash_model::orderings::Ordering;
 use crash_model::steps::Step;
 use disk_image::Image;
+use question_model::WorkloadLength;
 use std::alloc::Allocator;
 
-/// A pool of operations, whose sequences of up to `most` are judged over a base, under an ordering.
+/// A pool of operations, whose sequences of up to the longest length are judged over a base, under an ordering.
 ///
 /// With `strict` the checker also requires of each image that nothing the operations of the sequence keep is lost; with
 /// `atomic`, that it shows the disk after some number of them. The base is sound, and its journal is zero.
@@ -18,7 +19,7 @@ pub struct PoolJudge<'a, A: Allocator + Copy> {
     pub alloc: A,
     pub base: &'a Image<A>,
     pub pool: &'a [Step],
-    pub most: usize,
+    pub longest: WorkloadLength,
     pub ordering: &'a Ordering,
     pub strict: bool,
     pub atomic: bool,

@@ -21,6 +21,7 @@ use inode_fs::demands;
 use order_modules::Tracer;
 use patch_graph::Graph;
 use question_model::{Places, Refusal, Verdict};
+use recoverable_traces::finish;
 use std::alloc::{AllocError, Allocator};
 use workload_search::Judge;
 
@@ -83,7 +84,7 @@ impl<'a, A: Allocator + Copy> PoolJudge<'a, A> {
     {
         // For the proof: what holds of every image.
         let _blocks = self.base.blocks();
-        let traced = tracer.into_traced();
+        let traced = finish(tracer);
         self.judge_graph(traced.graph(), demands)
     }
 

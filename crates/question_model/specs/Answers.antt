@@ -1,30 +1,41 @@
--- The answer to a question, from a script's bytes and the settings. No worker and no order of discovery is in it.
-use Rattle.std.specs.Prelude.{◌≢◌, ℕ, List}
-use Rattle.report_model.specs.Answer.{Answer, Refused, Reported, IsAnswer}
-use Rattle.crash_model.specs.declared.refusals.RunFault.{RunFault}
-use Rattle.crash_model.specs.declared.refusals.RunFault.TheVariants.{TooMany}
+-- The answer to a question, from a script's bytes and the settings. No worker, no explorer and no order of discovery is in
+-- it.
+use Rattle.std.specs.Prelude.{ℕ, List}
+use Rattle.std.specs.List.{All}
+use Rattle.report_model.specs.Answer.{Answer, Refused, Reported, HasBase, IsReported, IsUntraced, IsVisited}
+use Rattle.crash_model.specs.Disk.{Disk}
 use Rattle.crash_model.specs.declared.settings.Settings.{Settings}
-use Rattle.question_model.specs.Decision.{IsDecided}
-use Rattle.question_model.specs.EnoughReport.{IsEnoughAnswer}
+use Rattle.crash_model.specs.declared.steps.Step.{Step}
+use Rattle.question_model.specs.Decision.{IsDecision}
+use Rattle.question_model.specs.EnoughReport.{IsEnoughReport}
+use Rattle.question_model.specs.Lengths.{operations_of}
+use Rattle.question_model.specs.SearchReport.{IsSearchReport, IsSearchRefusal}
+use Rattle.question_model.specs.SearchRulesReport.{IsSearchRulesReport}
+use Rattle.question_model.specs.Workloads.{IsOperation}
 use Rattle.question_model.specs.declared.question.Question.{Question}
 use Rattle.question_model.specs.declared.question.Question.TheVariants.{Visit, Decide, Enough, Search, SearchRules}
-use Rattle.question_model.specs.Most.{number_of_most}
-use Rattle.question_model.specs.SearchReport.{IsSearched, IsSearchRefusal}
-use Rattle.question_model.specs.SearchRulesReport.{IsSearchedForRules}
 
--- a refusal where no closed set is visited: that of a visit, but never for too many closed sets
-abbrev pub IsRefusedUnvisited : List ℕ → Settings → RunFault → Type 0
-IsRefusedUnvisited bytes settings fault = IsAnswer bytes settings (Refused fault) × (fault ≢ TooMany)
+-- the text and the number are those of such a report on the script's steps after the start line, which are a pool of
+-- operations
+pub record IsReportedOfPool (IsOn : Disk → List Step → List ℕ → ℕ → Type 0) (bytes : List ℕ) (settings : Settings)
+    (text : List ℕ) (number : ℕ) : Type 0 where
+  pub base : Disk
+  pub pool : List Step
+  pub start : HasBase bytes settings base pool
+  pub operations : All IsOperation pool
+  pub report : IsOn base pool text number
 
 abbrev pub IsAnswerTo : Question → List ℕ → Settings → Answer → Type 0
-IsAnswerTo Visit bytes settings answer = IsAnswer bytes settings answer
-IsAnswerTo Decide bytes settings (Refused fault) = IsRefusedUnvisited bytes settings fault
-IsAnswerTo Decide bytes settings (Reported text number) = IsDecided bytes settings text number
-IsAnswerTo Enough bytes settings (Refused fault) = IsRefusedUnvisited bytes settings fault
-IsAnswerTo Enough bytes settings (Reported text number) = IsEnoughAnswer bytes settings text number
-IsAnswerTo (Search most) bytes settings (Refused fault) = IsSearchRefusal bytes settings fault
-IsAnswerTo (Search most) bytes settings (Reported text number) =
-    IsSearched bytes settings (number_of_most most) text number
-IsAnswerTo (SearchRules most) bytes settings (Refused fault) = IsSearchRefusal bytes settings fault
-IsAnswerTo (SearchRules most) bytes settings (Reported text number) =
-    IsSearchedForRules bytes settings (number_of_most most) text number
+IsAnswerTo (Visit visit) bytes settings answer = IsVisited bytes settings visit.report visit.limit answer
+IsAnswerTo Decide bytes settings (Refused fault) = IsUntraced bytes settings fault
+IsAnswerTo Decide bytes settings (Reported text number) =
+    IsReported (IsDecision settings) bytes settings text number
+IsAnswerTo Enough bytes settings (Refused fault) = IsUntraced bytes settings fault
+IsAnswerTo Enough bytes settings (Reported text number) =
+    IsReported (IsEnoughReport settings) bytes settings text number
+IsAnswerTo (Search length) bytes settings (Refused fault) = IsSearchRefusal bytes settings fault
+IsAnswerTo (Search length) bytes settings (Reported text number) =
+    IsReportedOfPool (IsSearchReport settings (operations_of length)) bytes settings text number
+IsAnswerTo (SearchRules length) bytes settings (Refused fault) = IsSearchRefusal bytes settings fault
+IsAnswerTo (SearchRules length) bytes settings (Reported text number) =
+    IsReportedOfPool (IsSearchRulesReport settings (operations_of length)) bytes settings text number

@@ -1,7 +1,7 @@
 -- What a decision reports: how many closed sets there are, and each fault that one of them has.
 use Rattle.std.specs.Prelude.{◌≡◌, ℕ, List, [], ◌++◌, length, map, flat_map, if◌then◌else◌, Option, codes, decimal}
 use Rattle.std.specs.List.{All}
-use Rattle.report_model.specs.Answer.{HasGraph, detail_of, ordering_rules}
+use Rattle.report_model.specs.Answer.{detail_of, ordering_rules}
 use Rattle.crash_model.specs.Disk.{Disk}
 use Rattle.crash_model.specs.Reasons.{Explanation, explanation}
 use Rattle.report_model.specs.Explain.{explanation_text, trace_json}
@@ -10,10 +10,10 @@ use Rattle.crash_model.specs.Patches.{CountsClosed}
 use Rattle.report_model.specs.Report.{Detail, Section, AreSections, IsLed, line, crash_text}
 use Rattle.crash_model.specs.Texts.{fault_text, module_text}
 use Rattle.report_model.specs.Report.{json_string, json_array, ids_json, replay_json, writes_json}
-use Rattle.crash_model.specs.Checker.{Demands, AreDemands}
+use Rattle.crash_model.specs.Checker.{Demands}
 use Rattle.crash_model.specs.FaultRows.{HasFault}
 use Rattle.crash_model.specs.Trace.{Tracing}
-use Rattle.report_model.specs.Whole.{told_without, told_with, rule_lines, first_json, rules_json}
+use Rattle.report_model.specs.Whole.{told_without, told_with, rule_lines, first_json, rules_json, blocks_text, before_module}
 use Rattle.crash_model.specs.declared.patches.Patch.{Patch}
 use Rattle.crash_model.specs.declared.settings.Settings.{Settings}
 use Rattle.question_model.specs.Decided.{AreDecided}
@@ -45,7 +45,7 @@ ordering_text settings =
     line (codes "module " ++ module_text settings.module)
     ++ rule_lines (codes "without") (told_without settings)
     ++ rule_lines (codes "with") (told_with settings)
-    ++ (if settings.whole_blocks then line (codes "whole blocks") else [])
+    ++ blocks_text settings.generations settings.whole_blocks
     ++ (if settings.strict then line (codes "strict") else [])
     ++ (if settings.atomic then line (codes "atomic") else [])
 
@@ -76,7 +76,7 @@ json_decision settings d =
     codes "{" ++ first_json settings d.explanation
     ++ codes "\"closed\":" ++ json_string (decimal d.closed)
     ++ codes ",\"faults\":" ++ json_array (map (decided_json d.patches) d.faults)
-    ++ codes ",\"module\":" ++ json_string (module_text settings.module)
+    ++ before_module settings.generations ++ json_string (module_text settings.module)
     ++ codes ",\"patches\":" ++ decimal d.patches
     ++ (if settings.strict then codes ",\"strict\":true" else [])
     ++ trace_json d.explanation
@@ -104,13 +104,3 @@ pub record IsDecision (settings : Settings) (demands : Demands) (base : Disk) (l
     explanation = when settings.explain (explanation (ordering_rules settings) base last patches);
     faults = told;
   })
-
--- the report that decides a script, with the number of faults in it
-pub record IsDecided (bytes : List ℕ) (settings : Settings) (text : List ℕ) (number : ℕ) : Type 0 where
-  pub demands : Demands
-  pub base : Disk
-  pub last : Tracing
-  pub patches : List Patch
-  pub graph : HasGraph bytes settings base last patches
-  pub told : AreDemands settings.strict settings.atomic base graph.steps demands
-  pub report : IsDecision settings demands base last patches text number

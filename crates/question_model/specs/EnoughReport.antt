@@ -3,7 +3,7 @@ use Rattle.std.specs.Prelude.{◌≡◌, ◌≢◌, ℕ, List, [], ◌∷◌, �
 use Rattle.std.specs.Prelude.{None, codes, decimal, option_to_list}
 use Rattle.std.specs.List.{All}
 use Rattle.patch_sets.specs.Sets.{AreAllInOrder}
-use Rattle.report_model.specs.Answer.{HasGraph, detail_of, ordering_rules}
+use Rattle.report_model.specs.Answer.{detail_of, ordering_rules}
 use Rattle.crash_model.specs.Disk.{Disk}
 use Rattle.crash_model.specs.Reasons.{Explanation, explanation}
 use Rattle.report_model.specs.Explain.{explanation_text, trace_json}
@@ -14,10 +14,10 @@ use Rattle.report_model.specs.Report.{Detail, AreSections, IsLed, line, json_str
 use Rattle.crash_model.specs.Texts.{fault_text, module_text}
 use Rattle.report_model.specs.Report.{ids_json, replay_json, writes_json}
 use Rattle.crash_model.specs.Rules.{rule_text}
-use Rattle.crash_model.specs.Checker.{Demands, AreDemands}
+use Rattle.crash_model.specs.Checker.{Demands}
 use Rattle.crash_model.specs.FaultRows.{HasFault, IsFaultBefore, IsFirst}
 use Rattle.crash_model.specs.Trace.{Tracing}
-use Rattle.report_model.specs.Whole.{told_without, told_with, first_json, rules_json}
+use Rattle.report_model.specs.Whole.{told_without, told_with, first_json, rules_json, before_module}
 use Rattle.crash_model.specs.declared.fault.Fault.{Fault}
 use Rattle.crash_model.specs.declared.patches.Patch.{Patch}
 use Rattle.crash_model.specs.declared.rules.Rule.{Rule}
@@ -112,7 +112,7 @@ json_rules_report settings r =
     ++ codes "\"closed\":" ++ json_string (decimal r.closed)
     ++ codes ",\"enough\":" ++ json_array (map (set_json rules) r.enough)
     ++ first_fault_json r.patches r.first
-    ++ codes ",\"module\":" ++ json_string (module_text settings.module)
+    ++ before_module settings.generations ++ json_string (module_text settings.module)
     ++ codes ",\"needs\":" ++ json_array (map (group_json rules r.patches) r.needs)
     ++ codes ",\"patches\":" ++ decimal r.patches
     ++ (if settings.strict then codes ",\"strict\":true" else [])
@@ -150,13 +150,3 @@ pub record IsEnoughReport (settings : Settings) (demands : Demands) (base : Disk
     needs = needs;
     first = first;
   })
-
--- the report on the rules that a script needs
-pub record IsEnoughAnswer (bytes : List ℕ) (settings : Settings) (text : List ℕ) (number : ℕ) : Type 0 where
-  pub demands : Demands
-  pub base : Disk
-  pub last : Tracing
-  pub patches : List Patch
-  pub graph : HasGraph bytes settings base last patches
-  pub told : AreDemands settings.strict settings.atomic base graph.steps demands
-  pub report : IsEnoughReport settings demands base last patches text number

@@ -3,7 +3,7 @@ pub mod Decision
 pub mod Enough
 pub mod EnoughReport
 pub mod Kinds
-pub mod Most
+pub mod Lengths
 pub mod Refused
 pub mod Sequences
 pub mod Workloads
@@ -13,3 +13,4 @@ pub mod SearchReport
 pub mod EnoughFor
 pub mod SearchRulesReport
 pub mod Answers
+pub mod Asked

@@ -4,7 +4,7 @@ use Rattle.std.specs.Prelude.{◌≡◌, ℕ, List, [], ◌∷◌, ◌++◌, len
 use Rattle.std.specs.Prelude.{Bool, ◌==◌}
 use Rattle.std.specs.List.{All}
 use Rattle.crash_model.specs.declared.separators.TheConstants.{SPACE}
-use Rattle.report_model.specs.Answer.{HasBase, IsAnswer, Refused, ordering_rules}
+use Rattle.report_model.specs.Answer.{HasBase, IsUntraced, ordering_rules}
 use Rattle.crash_model.specs.Checker.{Demands}
 use Rattle.crash_model.specs.Disk.{Disk}
 use Rattle.crash_model.specs.Lists.{join_of}
@@ -12,7 +12,7 @@ use Rattle.report_model.specs.Report.{Section, AreSections, IsLed, line, section
 use Rattle.crash_model.specs.Texts.{module_text, fault_text}
 use Rattle.report_model.specs.Report.{json_string, json_array, ids_json, replay_json, writes_json}
 use Rattle.crash_model.specs.Script.{words_of}
-use Rattle.report_model.specs.Whole.{told_without, told_with, atomic_json, rules_json}
+use Rattle.report_model.specs.Whole.{told_without, told_with, atomic_json, rules_json, generations_json}
 use Rattle.crash_model.specs.declared.patches.Patch.{Patch}
 use Rattle.crash_model.specs.declared.refusals.RunFault.{RunFault}
 use Rattle.crash_model.specs.declared.refusals.RunFault.TheVariants.{GroupFault}
@@ -94,10 +94,14 @@ kind_json t =
     ++ codes ",\"workloads\":" ++ decimal t.shown.workloads
     ++ codes ",\"writes\":" ++ writes_json t.patches t.first.writes ++ codes "}"
 
+-- that inodes have generations, if they have, and then the key of the kinds
+abbrev pub before_kinds : Bool → List ℕ
+before_kinds generations = generations_json generations ++ codes ",\"kinds\":"
+
 unfoldable pub json_search : Settings → ℕ → ℕ → Found → List ToldKind → List ℕ
 json_search settings most pool found kinds =
     codes "{" ++ atomic_json settings.atomic ++ codes "\"failing\":" ++ decimal found.failing
-    ++ codes ",\"kinds\":" ++ json_array (map kind_json kinds)
+    ++ before_kinds settings.generations ++ json_array (map kind_json kinds)
     ++ codes ",\"module\":" ++ json_string (module_text settings.module)
     ++ codes ",\"pool\":" ++ decimal pool
     ++ codes ",\"refused\":" ++ json_array (map refused_json found.refused.items)
@@ -140,18 +144,10 @@ pub record IsSearchReport (settings : Settings) (most : ℕ) (base : Disk) (pool
   pub whole : text ≡ search_bytes settings most (length pool) found told
   pub number_of : number ≡ (if found.failing == 0 then 0 else 1)
 
--- the report on a script whose steps after the start line are a pool of operations
-pub record IsSearched (bytes : List ℕ) (settings : Settings) (most : ℕ) (text : List ℕ) (number : ℕ) : Type 0 where
-  pub base : Disk
-  pub pool : List Step
-  pub start : HasBase bytes settings base pool
-  pub operations : All IsOperation pool
-  pub report : IsSearchReport settings most base pool text number
-
--- a search is refused: as any other run before its first traced step, or for the first line of the pool that is no
+-- a search is refused: as any other question before the first traced step, or for the first line of the pool that is no
 -- operation
 pub data IsSearchRefusal (bytes : List ℕ) (settings : Settings) : RunFault → Type 0 where
-  before_the_pool : (fault : RunFault) → IsAnswer bytes settings (Refused fault)
+  before_the_pool : (fault : RunFault) → IsUntraced bytes settings fault
       → ((base : Disk) (pool : List Step) → ¬ (HasBase bytes settings base pool))
       → IsSearchRefusal bytes settings fault
   no_operation : (base : Disk) (front rest : List Step) (step : Step)

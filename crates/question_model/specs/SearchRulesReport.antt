@@ -3,13 +3,13 @@ use Rattle.std.specs.Prelude.{◌≡◌, ℕ, List, [], ◌++◌, length, map, f
 use Rattle.std.specs.Prelude.{Bool, ◌==◌}
 use Rattle.std.specs.List.{All}
 use Rattle.patch_sets.specs.Sets.{AreAllInOrder}
-use Rattle.report_model.specs.Answer.{HasBase, ordering_rules}
+use Rattle.report_model.specs.Answer.{ordering_rules}
 use Rattle.crash_model.specs.Checker.{Demands}
 use Rattle.crash_model.specs.Disk.{Disk}
 use Rattle.crash_model.specs.Texts.{fault_text, module_text}
 use Rattle.report_model.specs.Report.{line, json_string, json_array, ids_json, replay_json}
 use Rattle.report_model.specs.Report.{writes_json}
-use Rattle.report_model.specs.Whole.{told_without, told_with, atomic_json, rules_json}
+use Rattle.report_model.specs.Whole.{told_without, told_with, atomic_json, rules_json, before_module}
 use Rattle.crash_model.specs.declared.patches.Patch.{Patch}
 use Rattle.crash_model.specs.declared.rules.Rule.{Rule}
 use Rattle.crash_model.specs.declared.settings.Settings.{Settings}
@@ -20,7 +20,7 @@ use Rattle.question_model.specs.EnoughReport.{IsToldFirst, rules_text, set_json}
 use Rattle.question_model.specs.Found.{AreFound}
 use Rattle.question_model.specs.SearchReport.{refused_json, search_of, search_text, step_text}
 use Rattle.question_model.specs.Sequences.{IsFirstSequence}
-use Rattle.question_model.specs.Workloads.{Search, IsOperation, HasPatches, steps_at}
+use Rattle.question_model.specs.Workloads.{Search, HasPatches, steps_at}
 use Rattle.question_model.specs.declared.found.Found.{Found}
 use Rattle.question_model.specs.EnoughFor.{FailsBy, IsMinimalInSearch, IsNeededInSearch, search_with}
 
@@ -79,7 +79,7 @@ json_search_rules settings most pool found enough needs =
     let rules = ordering_rules settings in
     codes "{" ++ atomic_json settings.atomic ++ codes "\"enough\":" ++ json_array (map (set_json rules) enough)
     ++ codes ",\"failing\":" ++ decimal found.failing
-    ++ codes ",\"module\":" ++ json_string (module_text settings.module)
+    ++ before_module settings.generations ++ json_string (module_text settings.module)
     ++ codes ",\"needs\":" ++ json_array (map (need_json rules) needs)
     ++ codes ",\"pool\":" ++ decimal pool
     ++ codes ",\"refused\":" ++ json_array (map refused_json found.refused.items)
@@ -112,13 +112,3 @@ pub record IsSearchRulesReport (settings : Settings) (most : ℕ) (base : Disk) 
   pub told : All (IsToldNeed (search_of settings most base pool) settings.explain) needs
   pub whole : text ≡ search_rules_bytes settings most (length pool) found enough needs
   pub number_of : number ≡ (if found.failing == 0 then 0 else 1)
-
--- the report on a script whose steps after the start line are a pool of operations; what refuses a search refuses
--- this one
-pub record IsSearchedForRules (bytes : List ℕ) (settings : Settings) (most : ℕ) (text : List ℕ)
-    (number : ℕ) : Type 0 where
-  pub base : Disk
-  pub pool : List Step
-  pub start : HasBase bytes settings base pool
-  pub operations : All IsOperation pool
-  pub report : IsSearchRulesReport settings most base pool text number

@@ -1,7 +1,7 @@
 //! What a search finds.
 
 use crate::fault_kind::{FaultKind, KINDS};
-use crate::most::MAX_OPERATIONS;
+use crate::length::MAX_OPERATIONS;
 use crate::refusal::{REFUSALS, Refusal};
 use arrayvec::ArrayVec;
 

@@ -11,7 +11,7 @@
 pub mod decided_fault;
 pub mod fault_kind;
 pub mod found;
-pub mod most;
+pub mod length;
 pub mod question;
 pub mod refusal;
 pub mod verdict;
@@ -19,7 +19,7 @@ pub mod verdict;
 pub use decided_fault::DecidedFault;
 pub use fault_kind::{FaultKind, KINDS};
 pub use found::{Found, Places, RefusedCount, ShownKind};
-pub use most::{MAX_OPERATIONS, Most};
+pub use length::{MAX_OPERATIONS, WorkloadLength};
 pub use question::{Question, Request};
 pub use refusal::{REFUSALS, Refusal};
 pub use verdict::Verdict;

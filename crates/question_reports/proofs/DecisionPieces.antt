@@ -8,7 +8,7 @@ use Rattle.report_model.specs.Explain.{trace_json, explanation_text}
 use Rattle.crash_model.specs.Lists.{when}
 use Rattle.report_model.specs.Report.{Section, ids_json, json_string, replay_json, writes_json}
 use Rattle.crash_model.specs.Texts.{fault_text, module_text}
-use Rattle.report_model.specs.Whole.{first_json, rules_json, told_with, told_without}
+use Rattle.report_model.specs.Whole.{first_json, rules_json, told_with, told_without, before_module}
 use Rattle.crash_model.specs.declared.settings.Settings.{Settings}
 use Rattle.question_model.specs.Decision.{ToldDecided, decided_text, decided_json, text_decision, json_decision}
 use Rattle.question_model.specs.Decision.{decision_bytes, ordering_text}
@@ -102,7 +102,7 @@ pub json_pieces : {A : Type 0} (decision : Decision A) (n : ℕ) (told : List To
     → three ≡ two ++ (codes "\"closed\":\"" ++ decimal decision.closed ++ codes "\",\"faults\":[")
     → four ≡ three ++ fault_items (length decision.traced.now.patches) told
     → five ≡ four ++ codes "]"
-    → six ≡ five ++ module_key decision.settings.now.module n
+    → six ≡ five ++ module_key decision.settings.now.generations decision.settings.now.module n
     → seven ≡ six ++ from_strict decision.settings.now (explanation_by decision.base.now decision.traced.now)
     → last ≡ seven ++ codes "}\n"
     → last ≡ json_decision decision.settings.now (decision_of decision told)
@@ -115,7 +115,7 @@ json_pieces decision n told empty one two three four five six seven last number 
     let base = first_json settings (when settings.explain explained) in
     let closed = codes "\"closed\":\"" ++ decimal decision.closed ++ codes "\",\"faults\":[" in
     let items = fault_items patches told in
-    let key = module_key settings.module in
+    let key = module_key settings.generations settings.module in
     let rest = from_strict settings explained in
     let start : three ≡ codes "{" ++ base ++ closed = third ∙ ap (λ (t : List ℕ). t ++ closed)
     (second ∙ ap (λ (t : List ℕ). t ++ base) (first ∙ ap (λ (t : List ℕ). t ++ codes "{") none)) in
@@ -125,7 +125,7 @@ json_pieces decision n told empty one two three four five six seven last number 
     (fifth ∙ ap (λ (t : List ℕ). t ++ codes "]") fourth)))) in
     end ∙ (ap (λ (t : List ℕ). t ++ items ++ codes "]" ++ key patches ++ rest ++ codes "}\n") start
     ∙ regroup (codes "{") base (codes "\"closed\":") (codes "\"") (decimal decision.closed) (codes ",\"faults\":")
-    (codes "[") items (codes "]") (codes ",\"module\":") (module_text settings.module) (codes ",\"patches\":")
+    (codes "[") items (codes "]") (before_module settings.generations) (module_text settings.module) (codes ",\"patches\":")
     (decimal patches) (strict_key settings.strict) (trace_json (when settings.explain explained))
     (whole_key settings.whole_blocks)
     (rules_json (codes "with") (told_with settings)) (rules_json (codes "without") (told_without settings))

@@ -10,7 +10,7 @@ use Rattle.report_model.specs.Explain.{trace_json}
 use Rattle.crash_model.specs.Lists.{join_of, when}
 use Rattle.crash_model.specs.Texts.{fault_text, module_text}
 use Rattle.report_model.specs.Report.{ids_json, json_string, line, replay_json, writes_json}
-use Rattle.report_model.specs.Whole.{first_json, rules_json, told_with, told_without}
+use Rattle.report_model.specs.Whole.{first_json, rules_json, told_with, told_without, before_module}
 use Rattle.crash_model.specs.declared.rules.Rule.{Rule}
 use Rattle.question_model.specs.Decision.{ToldDecided, decided_text}
 use Rattle.question_reports.specs.DecisionParts.{head_lines}
@@ -130,7 +130,7 @@ pub json_pieces : {A : Type 0} (found : EnoughFindings A) (rules : List Rule) (n
     → four ≡ three ++ set_items rules found.enough.now
     → five ≡ four ++ codes "]"
     → six ≡ five ++ first_fault_json k (option_map told_first found.first.now)
-    → seven ≡ six ++ (codes ",\"module\":" ++ json_string (module_text found.settings.now.module))
+    → seven ≡ six ++ (before_module found.settings.now.generations ++ json_string (module_text found.settings.now.module))
     → eight ≡ seven ++ codes ",\"needs\":["
     → nine ≡ eight ++ group_items rules m found.needs.now
     → ten ≡ nine ++ (codes "],\"patches\":" ++ decimal n)
@@ -148,7 +148,7 @@ json_pieces {A = A} found rules n k m empty one two three four five six seven ei
     let closed = codes "\"closed\":\"" ++ decimal found.closed ++ codes "\",\"enough\":[" in
     let sets = set_items all found.enough.now in
     let fault = first_fault_json patches (option_map told_first found.first.now) in
-    let name = codes ",\"module\":" ++ json_string (module_text settings.module) in
+    let name = before_module settings.generations ++ json_string (module_text settings.module) in
     let groups = join_of 44 (map (group_json all patches) (map told_group found.needs.now)) in
     let number = codes "],\"patches\":" ++ decimal patches in
     let rest = from_strict settings explained in
@@ -169,7 +169,7 @@ json_pieces {A = A} found rules n k m empty one two three four five six seven ei
     (eighth ∙ ap (λ (t : List ℕ). t ++ codes ",\"needs\":[") (seventh ∙ ap (λ (t : List ℕ). t ++ name)
     (faults ∙ ap (λ (t : List ℕ). t ++ fault) start))))))
     ∙ regroup (codes "{") base (codes "\"closed\":") (codes "\"") (decimal found.closed) (codes ",\"enough\":")
-    (codes "[") sets (codes "]") fault (codes ",\"module\":") (json_string (module_text settings.module))
+    (codes "[") sets (codes "]") fault (before_module settings.generations) (json_string (module_text settings.module))
     (codes ",\"needs\":") groups (codes ",\"patches\":") (decimal patches) (strict_key settings.strict)
     (trace_json (when settings.explain explained)) (whole_key settings.whole_blocks) (rules_json (codes "with")
     (told_with settings))

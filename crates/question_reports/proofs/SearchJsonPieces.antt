@@ -12,10 +12,10 @@ use Rattle.report_json.specs.JsonReport.{strict_key, whole_key}
 use Rattle.report_sections.specs.Replay.{told_replay}
 use Rattle.question_model.specs.Kinds.{kind_number, kind_name}
 use Rattle.question_model.specs.Refused.{refusal_number, refusal_text}
-use Rattle.question_model.specs.SearchReport.{json_search, kind_json, refused_json, step_text}
+use Rattle.question_model.specs.SearchReport.{json_search, kind_json, refused_json, step_text, before_kinds}
 use Rattle.question_model.specs.declared.found.Found.{Found}
 use Rattle.question_model.specs.declared.found.RefusedCount.{RefusedCount}
-use Rattle.question_reports.specs.SearchFindings.{kind_head, kind_items, last_keys, ordering_keys, told_kind}
+use Rattle.question_reports.specs.SearchFindings.{kind_head, kind_items, last_keys, ordering_keys, told_kind, failing_keys}
 use Rattle.question_reports.specs.SearchFindings.{told_kinds}
 use Rattle.question_reports.specs.declared.search.findings.KindCrash.{KindCrash}
 use Rattle.question_reports.specs.declared.search.findings.SearchFindings.{SearchFindings}
@@ -126,7 +126,7 @@ pub json_pieces : {A : Type 0} (f : SearchFindings A) (empty zero half one two t
     → empty ≡ []
     → zero ≡ empty ++ codes "{"
     → half ≡ zero ++ atomic_json f.settings.now.atomic
-    → one ≡ half ++ (codes "\"failing\":" ++ (decimal f.found.now.failing ++ codes ",\"kinds\":["))
+    → one ≡ half ++ failing_keys f.found.now.failing f.settings.now.generations
     → two ≡ one ++ kind_items f.pool.now f.kinds.now
     → three ≡ two ++ codes "]"
     → four ≡ three ++ (codes ",\"module\":" ++ json_string (module_text f.settings.now.module))
@@ -138,7 +138,7 @@ json_pieces {A = A} f empty zero half one two three four last none opened atomic
     let found = f.found.now in
     let pool = length f.pool.now in
     let atomic = atomic_json settings.atomic in
-    let fails = codes "\"failing\":" ++ (decimal found.failing ++ codes ",\"kinds\":[") in
+    let fails = failing_keys found.failing settings.generations in
     let head = (codes "{" ++ atomic) ++ fails in
     let kinds = join_of 44 (map kind_json (told_kinds f)) in
     let name = codes ",\"module\":" ++ json_string (module_text settings.module) in
@@ -149,7 +149,7 @@ json_pieces {A = A} f empty zero half one two three four last none opened atomic
     (sym (map-map kind_json (told_kind {A = A} f.pool.now) f.kinds.now))
     ∙ ap (λ (t : List ℕ). t ++ kinds) (first ∙ ap (λ (t : List ℕ). t ++ fails)
     (atomic_is ∙ ap (λ (t : List ℕ). t ++ atomic) (opened ∙ ap (λ (t : List ℕ). t ++ codes "{") none)))))))
-    ∙ regroup (codes "{") atomic (codes "\"failing\":") (decimal found.failing) (codes ",\"kinds\":") (codes "[") kinds
+    ∙ regroup (codes "{") atomic (codes "\"failing\":") (decimal found.failing) (before_kinds settings.generations) (codes "[") kinds
     (codes "]")
     (codes ",\"module\":") (json_string (module_text settings.module)) (codes ",\"pool\":") (decimal pool)
     (codes ",\"refused\":") (json_array (map refused_json found.refused.items)) (codes ",\"search\":")

@@ -5,7 +5,7 @@ use Rattle.report_model.specs.Answer.{ordering_rules}
 use Rattle.crash_model.specs.Lists.{join_of}
 use Rattle.report_model.specs.Report.{ids_json, json_array, json_string, write_json}
 use Rattle.crash_model.specs.Texts.{module_text}
-use Rattle.report_model.specs.Whole.{atomic_json, rules_json, told_with, told_without}
+use Rattle.report_model.specs.Whole.{atomic_json, rules_json, told_with, told_without, before_module}
 use Rattle.crash_model.specs.declared.rules.Rule.{Rule}
 use Rattle.crash_model.specs.declared.steps.Step.{Step}
 use Rattle.question_reports.specs.EnoughFindings.{group_head, set_items, told_first}
@@ -59,7 +59,7 @@ pub json_pieces : {A : Type 0} (f : SearchRulesFindings A) (rules : List Rule)
     → one ≡ half ++ codes "\"enough\":["
     → two ≡ one ++ set_items rules f.enough.now
     → three ≡ two ++ (codes "],\"failing\":" ++ decimal f.found.now.failing)
-    → four ≡ three ++ (codes ",\"module\":" ++ json_string (module_text f.settings.now.module))
+    → four ≡ three ++ (before_module f.settings.now.generations ++ json_string (module_text f.settings.now.module))
     → five ≡ four ++ codes ",\"needs\":["
     → six ≡ five ++ need_items rules f.pool.now f.needs.now
     → seven ≡ six ++ codes "]"
@@ -75,7 +75,7 @@ json_pieces {A = A} f rules empty zero half one two three four five six seven la
     let atomic = atomic_json settings.atomic in
     let sets = set_items all f.enough.now in
     let failing = codes "],\"failing\":" ++ decimal found.failing in
-    let name = codes ",\"module\":" ++ json_string (module_text settings.module) in
+    let name = before_module settings.generations ++ json_string (module_text settings.module) in
     let needs = join_of 44 (map (need_json all) (told_needs f)) in
     let end = last_keys settings f.most pool found in
     let start : four ≡ codes "{" ++ atomic ++ codes "\"enough\":[" ++ sets ++ failing ++ name =
@@ -91,7 +91,7 @@ json_pieces {A = A} f rules empty zero half one two three four five six seven la
     (groups ∙ ap (λ (t : List ℕ). t ++ needs) (fifth ∙ ap (λ (t : List ℕ). t ++ codes ",\"needs\":[") start)))
     ∙ regroup (codes "{") atomic (codes "\"enough\":") (codes "[") sets (codes "]") (codes ",\"failing\":")
     (decimal found.failing)
-    (codes ",\"module\":") (json_string (module_text settings.module)) (codes ",\"needs\":") needs
+    (before_module settings.generations) (json_string (module_text settings.module)) (codes ",\"needs\":") needs
     (codes ",\"pool\":") (decimal pool) (codes ",\"refused\":")
     (json_array (map refused_json found.refused.items)) (codes ",\"search\":") (decimal f.most)
     (strict_key settings.strict) (whole_key settings.whole_blocks) (rules_json (codes "with") (told_with settings))

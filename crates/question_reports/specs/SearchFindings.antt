@@ -1,5 +1,5 @@
 -- What a search finds, as the definition of the report sees it.
-use Rattle.std.specs.Prelude.{ℕ, List, [], ◌++◌, map, flat_map, if◌then◌else◌, codes, decimal}
+use Rattle.std.specs.Prelude.{ℕ, List, [], ◌++◌, map, flat_map, if◌then◌else◌, codes, decimal, Bool}
 use Rattle.crash_model.specs.declared.separators.TheConstants.{COMMA}
 use Rattle.crash_model.specs.Lists.{join_of}
 use Rattle.crash_model.specs.Texts.{fault_text}
@@ -12,7 +12,7 @@ use Rattle.report_json.specs.JsonReport.{strict_key, whole_key}
 use Rattle.report_sections.specs.Replay.{told_replay}
 use Rattle.report_sections.specs.Sections.{section_of}
 use Rattle.question_model.specs.Kinds.{kind_number, kind_name}
-use Rattle.question_model.specs.SearchReport.{ToldKind, kind_json, kind_text, refused_json}
+use Rattle.question_model.specs.SearchReport.{ToldKind, kind_json, kind_text, refused_json, before_kinds}
 use Rattle.question_model.specs.Workloads.{steps_at}
 use Rattle.question_model.specs.declared.found.Found.{Found}
 use Rattle.question_reports.specs.declared.search.findings.KindCrash.{KindCrash}
@@ -49,6 +49,11 @@ kind_head k =
     ++ codes ",\"kind\":" ++ decimal (kind_number k.shown.now.kind)
     ++ codes ",\"name\":" ++ json_string (kind_name k.shown.now.kind) ++ codes ","
     ++ replay_json (told_replay k.section.replay)
+
+-- how many workloads fail, that inodes have generations, if they have, and the key of the kinds up to its array
+abbrev pub failing_keys : ℕ → Bool → List ℕ
+failing_keys failing generations =
+    codes "\"failing\":" ++ (decimal failing ++ (before_kinds generations ++ codes "["))
 
 -- the keys that say that the run is strict, that blocks are written whole, and which rules are put in and taken out
 abbrev pub ordering_keys : Settings → List ℕ

@@ -8,7 +8,7 @@ use Rattle.crash_model.specs.Disk.{Disk}
 use Rattle.report_model.specs.Report.{Detail, section_json}
 use Rattle.crash_model.specs.Texts.{module_text}
 use Rattle.report_model.specs.Summary.{ToldFault, told_fault_json}
-use Rattle.report_model.specs.Whole.{Body, told_with, told_without, first_json, rules_json, early_json, late_json}
+use Rattle.report_model.specs.Whole.{Body, told_with, told_without, first_json, rules_json, early_json, late_json, before_module}
 use Rattle.report_model.specs.Whole.{json_report}
 use Rattle.crash_model.specs.declared.fault.FaultRow.{FaultRow}
 use Rattle.crash_model.specs.declared.patches.Patch.{Patch}
@@ -83,13 +83,14 @@ fault_more detail base patches rows i n d old so_far after text s within number 
 -- the keys from the module on, one after another
 pub keys_from_module : {A : Type 0} (report : Report A) (n : ℕ) (body : Body) (before one two last : List ℕ)
     → n ≡ length report.traced.now.patches
-    → one ≡ before ++ module_key report.settings.now.module n
+    → one ≡ before ++ module_key report.settings.now.generations report.settings.now.module n
     → two ≡ one ++ late_json (length report.traced.now.patches) report.failing body
     → last ≡ two ++ from_strict report.settings.now (explanation_by report.base.now report.traced.now)
     → last ≡ before ++ from_module report body
 keys_from_module report n body before one two last number first second third =
     let kind = report.settings.now.module in
-    three_pieces before one two last _ _ _ (first ∙ ap (λ (k : ℕ). before ++ module_key kind k) number) second third
+    let generations = report.settings.now.generations in
+    three_pieces before one two last _ _ _ (first ∙ ap (λ (k : ℕ). before ++ module_key generations kind k) number) second third
 
 -- the pieces of the whole, one after another
 pub whole_text : {A : Type 0} (report : Report A) (body : Body) (empty one two three four five last : List ℕ)
@@ -115,7 +116,7 @@ whole_text report body empty one two three four five last none first second thir
     let end : last ≡ three ++ early ++ rest ++ codes "}\n" = sixth
     ∙ ap (λ (t : List ℕ). t ++ codes "}\n") (fifth ∙ ap (λ (t : List ℕ). t ++ rest) fourth) in
     end ∙ (ap (λ (t : List ℕ). t ++ early ++ rest ++ codes "}\n") start
-    ∙ regroup (codes "{") base (codes "\"closed\":") (decimal report.closed) early (codes ",\"module\":") (codes "\"")
+    ∙ regroup (codes "{") base (codes "\"closed\":") (decimal report.closed) early (before_module report.settings.now.generations) (codes "\"")
     (module_text report.settings.now.module) (codes "\"") (codes ",\"patches\":") (decimal patches)
     (late_json patches report.failing body) (strict_key report.settings.now.strict) (trace_json told)
     (whole_key report.settings.now.whole_blocks)

@@ -10,7 +10,7 @@ use Rattle.crash_model.specs.Texts.{module_text}
 use Rattle.report_model.specs.Summary.{ToldFault, told_fault_json}
 use Rattle.report_model.specs.Needs.{told_rule_json}
 use Rattle.report_model.specs.Whole as whole
-use Rattle.report_model.specs.Whole.{early_json, late_json, rules_json, told_with, told_without}
+use Rattle.report_model.specs.Whole.{early_json, late_json, rules_json, told_with, told_without, before_module}
 use Rattle.crash_model.specs.declared.fault.FaultRow.{FaultRow}
 use Rattle.crash_model.specs.declared.patches.Patch.{Patch}
 use Rattle.crash_model.specs.declared.modules.Module.{Module}
@@ -30,9 +30,10 @@ abbrev pub trace_key : TracedPatches → List ℕ
 trace_key t = codes ",\"trace\":" ++ json_array (map told_json (told_patches t.rules t.whole t.links t.emitted
     t.patches))
 
--- the module and the number of patches
-abbrev pub module_key : Module → ℕ → List ℕ
-module_key kind patches = codes ",\"module\":\"" ++ module_text kind ++ codes "\",\"patches\":" ++ decimal patches
+-- that inodes have generations, if they have, the module and the number of patches
+abbrev pub module_key : Bool → Module → ℕ → List ℕ
+module_key generations kind patches =
+    before_module generations ++ codes "\"" ++ module_text kind ++ codes "\",\"patches\":" ++ decimal patches
 
 -- that the run is strict, if it is
 abbrev pub strict_key : Bool → List ℕ
@@ -66,7 +67,7 @@ WritesLate report old new =
 -- the keys from the module on
 abbrev pub from_module : {A : Type 0} → Report A → whole.Body → List ℕ
 from_module report body =
-    module_key report.settings.now.module (length report.traced.now.patches)
+    module_key report.settings.now.generations report.settings.now.module (length report.traced.now.patches)
     ++ late_json (length report.traced.now.patches) report.failing body
     ++ from_strict report.settings.now (explanation_by report.base.now report.traced.now)
 

@@ -7,7 +7,7 @@ ghost use Rattle.crash_model.specs.Lists.{join_of, when};
 ghost use Rattle.report_model.specs.Report.{json_string};
 ghost use Rattle.crash_model.specs.Texts.{module_text};
 ghost use Rattle.crash_model.specs.Rules.{rule_text};
-ghost use Rattle.report_model.specs.Whole.{atomic_json, first_json, rules_json};
+ghost use Rattle.report_model.specs.Whole.{atomic_json, first_json, rules_json, generations_json, before_module};
 ghost use Rattle.traced_patches.specs.Traced.{TracedPatches};
 ghost use Rattle.report_sections.specs.Bodies.{explanation_by};
 ghost use Rattle.report_json.specs.JsonReport.{module_key, strict_key, whole_key, from_strict};
@@ -102,16 +102,19 @@ fn write_explained_trace<A: Allocator + Copy, B: Allocator>(
     Ok(())
 }
 
-/// The module and the number of patches, with a comma before them. It fails only when out of memory.
+/// That inodes have generations, if they have, the module and the number of patches, with a comma before them. It fails
+/// only when out of memory.
 pub fn write_module<B: Allocator>(
     out: &mut String<B>,
-    module: Module,
+    settings: &Settings,
     patches: usize,
 ) -> Result<(), AllocError>
-    ensures { OnOk result (string_bytes out.new ≡ string_bytes out.old ++ module_key «module» patches) }
+    ensures { OnOk result (string_bytes out.new
+        ≡ string_bytes out.old ++ module_key settings.now.generations settings.now.«module» patches) }
 {
+    write_generations_key(out, settings.generations)?;
     out.push_str(",\"module\":\"")?;
-    out.push_str(module.name())?;
+    out.push_str(settings.module.name())?;
     out.push_str("\",\"patches\":")?;
     write!(out, "{patches}")?;
     Ok(())
@@ -124,6 +127,32 @@ pub fn write_module_key<B: Allocator>(out: &mut String<B>, module: Module) -> Re
 {
     let name = module.name();
     write!(out, ",\"module\":\"{name}\"")
+}
+
+/// That inodes have generations, if they have, and the key of the module, with a comma before them. It fails only when
+/// out of memory.
+pub fn write_disk_and_module<B: Allocator>(
+    out: &mut String<B>,
+    settings: &Settings,
+) -> Result<(), AllocError>
+    ensures { OnOk result (string_bytes out.new ≡ string_bytes out.old
+        ++ (before_module settings.now.generations ++ json_string (module_text settings.now.«module»))) }
+{
+    write_generations_key(out, settings.generations)?;
+    write_module_key(out, settings.module)
+}
+
+/// The key of a disk with generations, with a comma before it. It fails only when out of memory.
+pub fn write_generations_key<B: Allocator>(
+    out: &mut String<B>,
+    generations: bool,
+) -> Result<(), AllocError>
+    ensures { OnOk result (string_bytes out.new ≡ string_bytes out.old ++ generations_json generations) }
+{
+    if generations {
+        out.push_str(",\"generations\":true")?;
+    }
+    Ok(())
 }
 
 /// The key of a strict run, with a comma before it. It fails only when out of memory.

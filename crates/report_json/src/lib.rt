@@ -7,7 +7,8 @@ mod patches;
 pub mod report;
 
 pub use head::{
-    write_atomic_key, write_first_keys, write_from_strict, write_module, write_module_key,
-    write_rule_key, write_rule_texts, write_strict_key, write_whole_key,
+    write_atomic_key, write_disk_and_module, write_first_keys, write_from_strict,
+    write_generations_key, write_module, write_module_key, write_rule_key, write_rule_texts,
+    write_strict_key, write_whole_key,
 };
 pub use report::report_json;

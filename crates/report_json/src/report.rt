@@ -85,7 +85,7 @@ fn write_from_module<A: Allocator + Copy>(
     ensures { OnOk result (WritesFromModule report.now (string_bytes out.old) (string_bytes out.new)) }
 {
     let settings = report.settings;
-    write_module(out, settings.module, report.traced.graph().len())?;
+    write_module(out, settings, report.traced.graph().len())?;
     write_late(out, heap, report)?;
     write_from_strict(out, heap, settings, report.traced)
 }

@@ -37,13 +37,19 @@ told_with settings = rules_put_in settings.module settings.without.items setting
 abbrev pub rule_lines : List ℕ → List Rule → List ℕ
 rule_lines word rules = flat_map (λ rule. line (word ++ codes " " ++ rule_text rule)) rules
 
+-- the lines that say that inodes have generations, and that blocks are written whole
+abbrev pub blocks_text : Bool → Bool → List ℕ
+blocks_text generations whole =
+    (if generations then line (codes "generations") else [])
+    ++ (if whole then line (codes "whole blocks") else [])
+
 -- the lines before the first patch or set
 abbrev pub head_text : Settings → ℕ → ℕ → ℕ → List ℕ
 head_text settings patches closed failing =
     line (codes "module " ++ module_text settings.module)
     ++ rule_lines (codes "without") (told_without settings)
     ++ rule_lines (codes "with") (told_with settings)
-    ++ (if settings.whole_blocks then line (codes "whole blocks") else [])
+    ++ blocks_text settings.generations settings.whole_blocks
     ++ (if settings.strict then line (codes "strict") else [])
     ++ (if settings.atomic then line (codes "atomic") else [])
     ++ line (codes "patches " ++ decimal patches)
@@ -71,6 +77,14 @@ rules_json key (rule ∷ rules) =
 abbrev pub atomic_json : Bool → List ℕ
 atomic_json atomic = if atomic then codes "\"atomic\":true," else []
 
+-- that inodes have generations, if they have
+abbrev pub generations_json : Bool → List ℕ
+generations_json generations = if generations then codes ",\"generations\":true" else []
+
+-- that, and then the key of the module
+abbrev pub before_module : Bool → List ℕ
+before_module generations = generations_json generations ++ codes ",\"module\":"
+
 abbrev pub first_json : Settings → Option Explanation → List ℕ
 first_json settings explanation = atomic_json settings.atomic ++ base_json explanation
 
@@ -91,7 +105,7 @@ json_report settings r =
     codes "{" ++ first_json settings r.explanation
     ++ codes "\"closed\":" ++ decimal r.closed
     ++ early_json r.patches r.failing r.body
-    ++ codes ",\"module\":" ++ json_string (module_text settings.module)
+    ++ before_module settings.generations ++ json_string (module_text settings.module)
     ++ codes ",\"patches\":" ++ decimal r.patches
     ++ late_json r.patches r.failing r.body
     ++ (if settings.strict then codes ",\"strict\":true" else [])

@@ -3,7 +3,7 @@
 ghost use Rattle.std.specs.Prelude.{◌≡◌, ◌++◌, [], if◌then◌else◌, codes, decimal, string_bytes, OnOk};
 ghost use Rattle.report_model.specs.Report.{line};
 ghost use Rattle.crash_model.specs.Texts.{module_text};
-ghost use Rattle.report_model.specs.Whole.{head_text, rule_lines, told_with, told_without};
+ghost use Rattle.report_model.specs.Whole.{head_text, rule_lines, told_with, told_without, blocks_text};
 
 use crash_model::rules::Rule;
 use crash_model::settings::Settings;
@@ -42,7 +42,7 @@ fn write_numbers<A: Allocator>(
 }
 
 /// The lines that say which ordering and which checker a run uses: the module, each rule that is taken out or put in,
-/// whether blocks are written whole, whether the run is strict, and whether operations are to be atomic. It fails only
+/// whether inodes have generations, whether blocks are written whole, whether the run is strict, and whether operations are to be atomic. It fails only
 /// when out of memory.
 pub fn write_ordering<A: Allocator>(
     out: &mut String<A>,
@@ -52,7 +52,7 @@ pub fn write_ordering<A: Allocator>(
         ++ (line (codes "module " ++ module_text settings.now.module)
         ++ rule_lines (codes "without") (told_without settings.now)
         ++ rule_lines (codes "with") (told_with settings.now)
-        ++ (if settings.now.whole_blocks then line (codes "whole blocks") else [])
+        ++ blocks_text settings.now.generations settings.now.whole_blocks
         ++ (if settings.now.strict then line (codes "strict") else [])
         ++ (if settings.now.atomic then line (codes "atomic") else []))) }
 {
@@ -60,16 +60,22 @@ pub fn write_ordering<A: Allocator>(
     write!(out, "module {name}\n")?;
     write_rule_lines(out, "without", settings.taken_out().as_slice())?;
     write_rule_lines(out, "with", settings.put_in().as_slice())?;
-    write_whole_line(out, settings.whole_blocks)?;
+    write_blocks_lines(out, settings.generations, settings.whole_blocks)?;
     write_strict_line(out, settings.strict)?;
     write_atomic_line(out, settings.atomic)
 }
 
-/// The line of a run in which blocks are written whole.
-fn write_whole_line<A: Allocator>(out: &mut String<A>, whole: bool) -> Result<(), AllocError>
-    ensures { OnOk result (string_bytes out.new
-        ≡ string_bytes out.old ++ (if whole then line (codes "whole blocks") else [])) }
+/// The lines of a run on a disk with generations, and of one in which blocks are written whole.
+fn write_blocks_lines<A: Allocator>(
+    out: &mut String<A>,
+    generations: bool,
+    whole: bool,
+) -> Result<(), AllocError>
+    ensures { OnOk result (string_bytes out.new ≡ string_bytes out.old ++ blocks_text generations whole) }
 {
+    if generations {
+        out.push_str("generations\n")?;
+    }
     if whole {
         out.push_str("whole blocks\n")?;
     }

@@ -7,8 +7,10 @@ use Rattle.crash_model.specs.Rules.{has_part, rules_of}
 use Rattle.crash_model.specs.Trace.{Emitted, applies}
 use Rattle.crash_model.specs.declared.plans.Role.TheVariants.{InodeInit, EntrySet, EntryClear, MapSet, MapClear}
 use Rattle.crash_model.specs.declared.plans.Role.TheVariants.{InitFile, InitDir, Ptr, LinkUp, LinkDown, InodeFree}
+use Rattle.crash_model.specs.declared.plans.Role.TheVariants.{PtrClear, NewData, Touch}
 use Rattle.crash_model.specs.declared.rules.Part.{Part}
 use Rattle.crash_model.specs.declared.rules.Part.TheVariants.{InPlace, FileData, Copy, Commit, Done}
+use Rattle.crash_model.specs.declared.rules.Part.TheVariants as part
 use Rattle.crash_model.specs.declared.rules.Rule.{Rule}
 use Rattle.crash_model.specs.declared.rules.Scope.{Scope}
 use Rattle.crash_model.specs.declared.rules.Scope.TheVariants.{Same, Previous, Before}
@@ -22,7 +24,8 @@ parts : List Part
 parts =
     InPlace InodeInit ∷ InPlace EntrySet ∷ InPlace EntryClear ∷ InPlace MapSet ∷ InPlace MapClear ∷ InPlace InitFile
     ∷ InPlace InitDir ∷ InPlace Ptr
-    ∷ InPlace LinkUp ∷ InPlace LinkDown ∷ InPlace InodeFree ∷ FileData ∷ Copy ∷ Commit ∷ Done ∷ []
+    ∷ InPlace LinkUp ∷ InPlace LinkDown ∷ InPlace InodeFree ∷ InPlace PtrClear ∷ InPlace NewData ∷ InPlace Touch
+    ∷ FileData ∷ part.NewData ∷ Copy ∷ Commit ∷ Done ∷ []
 
 at : (part : Part) → (k : ℕ) × (slice_get parts k ≡ Some part)
 unfolding parts
@@ -37,10 +40,14 @@ at (InPlace Ptr) = (7, refl)
 at (InPlace LinkUp) = (8, refl)
 at (InPlace LinkDown) = (9, refl)
 at (InPlace InodeFree) = (10, refl)
-at FileData = (11, refl)
-at Copy = (12, refl)
-at Commit = (13, refl)
-at Done = (14, refl)
+at (InPlace PtrClear) = (11, refl)
+at (InPlace NewData) = (12, refl)
+at (InPlace Touch) = (13, refl)
+at FileData = (14, refl)
+at part.NewData = (15, refl)
+at Copy = (16, refl)
+at Commit = (17, refl)
+at Done = (18, refl)
 
 and_left : (a b : Bool) → (a && b) ≡ true → a ≡ true
 and_left true b h = refl

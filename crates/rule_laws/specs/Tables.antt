@@ -3,6 +3,7 @@ use Rattle.std.specs.Prelude.{ℕ, Bool, false, Option, Some, None}
 use Rattle.crash_model.specs.Rules.{are_scoped}
 use Rattle.crash_model.specs.declared.plans.Role.TheVariants.{InodeInit, EntrySet, EntryClear, MapSet, MapClear}
 use Rattle.crash_model.specs.declared.plans.Role.TheVariants.{InitFile, InitDir, Ptr, LinkUp, LinkDown, InodeFree}
+use Rattle.crash_model.specs.declared.plans.Role.TheVariants.{PtrClear}
 use Rattle.crash_model.specs.declared.rules.Part.{Part}
 use Rattle.crash_model.specs.declared.rules.Part.TheVariants.{InPlace, FileData, Copy, Commit, Done}
 use Rattle.crash_model.specs.declared.rules.Scope.{Scope}
@@ -23,6 +24,7 @@ soft_row (InPlace LinkDown) (InPlace EntryClear) = Some Same
 soft_row (InPlace InodeFree) (InPlace EntryClear) = Some Same
 soft_row (InPlace MapClear) (InPlace InodeFree) = Some Same
 soft_row (InPlace EntryClear) (InPlace EntrySet) = Some Same
+soft_row (InPlace MapClear) (InPlace PtrClear) = Some Same
 soft_row _ _ = None
 
 abbrev pub journal_row : Part → Part → Option Scope

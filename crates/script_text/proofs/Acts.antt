@@ -1,14 +1,17 @@
 -- Verbs and acts by their words.
 use Rattle.std.proofs.Common.{◌≡◌, ◌≢◌, ℕ, inl, inr, Bool, true, cond, Option, Some, None, List, [], ◌∷◌, ◌++◌, map}
-use Rattle.std.proofs.Common.{codes, refl, sym, ap, ◌∙◌, subst, arith}
+use Rattle.std.proofs.Common.{flat_map, codes, refl, sym, ap, ◌∙◌, subst, arith}
 use Rattle.std.specs.List.{All, Contains, list_all}
 use Rattle.std.specs.Str.{bytes_eq}
 use Rattle.std.proofs.lemmas.Bool.{and_parts, false≢true}
 use Rattle.std.proofs.lemmas.Bool.Decides.{nat_tests}
 use Rattle.std.proofs.lemmas.List.Elements.{All-head, All-tail, All-nil, All-cons}
 use Rattle.crash_model.specs.Names.{IsName, IsGroupName, is_name_byte, is_group_byte}
-use Rattle.crash_model.specs.Script.{AreWords, IsPath, path_text, Operand, PathOperand, GroupOperand, said}
-use Rattle.crash_model.specs.Script.{operand_text, AreLawful, words_of, Fits, Reads}
+use Rattle.crash_model.specs.Script.{AreWords, IsPath, path_text, Operand, PathOperand, GroupOperand, SlotOperand}
+use Rattle.crash_model.specs.Script.{said, operand_words, AreLawful, words_of, Fits, HasBadSlot, Reads}
+use Rattle.crash_model.specs.Slots.{slot_text}
+use Rattle.crash_model.specs.declared.operations.Slot.{Slot}
+use Rattle.crash_model.specs.declared.operations.Slot.TheVariants as slot
 use Rattle.crash_model.specs.Script as script
 use Rattle.crash_model.specs.declared.names.Path.{Path}
 use Rattle.crash_model.specs.declared.operations.Op.TheVariants as op
@@ -17,8 +20,8 @@ use Rattle.crash_model.specs.declared.steps.Act.TheVariants as act
 use Rattle.crash_model.proofs.Cuts.{Lacks}
 use Rattle.crash_model.proofs.Paths.{slash_text, names_of, names_are}
 use Rattle.script_text.specs.declared.verb.Verb.{Verb}
-use Rattle.script_text.specs.declared.verb.Verb.TheVariants.{Create, Write, Link, Unlink, Rename, Mkdir, Rmdir, Group}
-use Rattle.script_text.specs.declared.verb.Verb.TheVariants.{End, Depend, Start}
+use Rattle.script_text.specs.declared.verb.Verb.TheVariants.{Create, Write, Link, Unlink, Rename, Mkdir, Rmdir}
+use Rattle.script_text.specs.declared.verb.Verb.TheVariants.{Overwrite, Truncate, Replace, Group, End, Depend, Start}
 use Rattle.script_text.specs.Words.{spelling, operands_of}
 use Rattle.script_text.proofs.Cuts.{lacks_none}
 use Rattle.script_text.proofs.Spaces.{words_once}
@@ -60,12 +63,21 @@ group_plain name is = lacks_none 32 name (plain_lacks is_group_byte group_no_spa
 abbrev pub IsPlain : List ℕ → Type 0
 IsPlain word = ¬ (Contains word 32)
 
-operands_plain : (operands : List Operand) → AreLawful operands → All IsPlain (map operand_text operands)
+slot_plain : (s : Slot) → IsPlain (slot_text s)
+slot_plain slot.Zero = lacks_none 32 (codes "0") ((λ e. omega (arith, e)), tt)
+slot_plain slot.One = lacks_none 32 (codes "1") ((λ e. omega (arith, e)), tt)
+slot_plain slot.Two = lacks_none 32 (codes "2") ((λ e. omega (arith, e)), tt)
+slot_plain slot.Three = lacks_none 32 (codes "3") ((λ e. omega (arith, e)), tt)
+
+operands_plain : (operands : List Operand) → AreLawful operands → All IsPlain (flat_map operand_words operands)
 operands_plain [] are = All-nil IsPlain
 operands_plain (PathOperand p ∷ os) are =
-    All-cons IsPlain (path_text p) (map operand_text os) (path_plain p are.0) (operands_plain os are.1)
+    All-cons IsPlain (path_text p) (flat_map operand_words os) (path_plain p are.0) (operands_plain os are.1)
 operands_plain (GroupOperand a ∷ os) are =
-    All-cons IsPlain a (map operand_text os) (group_plain a are.0) (operands_plain os are.1)
+    All-cons IsPlain a (flat_map operand_words os) (group_plain a are.0) (operands_plain os are.1)
+operands_plain (SlotOperand None ∷ os) are = operands_plain os are
+operands_plain (SlotOperand (Some s) ∷ os) are =
+    All-cons IsPlain (slot_text s) (flat_map operand_words os) (slot_plain s) (operands_plain os are)
 
 -- ---- verbs
 
@@ -76,7 +88,8 @@ spelt_so (verb ∷ verbs) word = cond (bytes_eq word (spelling verb)) (Some verb
 
 abbrev verb_of : List ℕ → Option Verb
 verb_of word =
-    spelt_so (Create ∷ Write ∷ Link ∷ Unlink ∷ Rename ∷ Mkdir ∷ Rmdir ∷ Group ∷ End ∷ Depend ∷ Start ∷ []) word
+    spelt_so (Create ∷ Write ∷ Link ∷ Unlink ∷ Rename ∷ Mkdir ∷ Rmdir ∷ Overwrite ∷ Truncate ∷ Replace ∷ Group ∷ End
+    ∷ Depend ∷ Start ∷ []) word
 
 -- its spelling leads back to a verb, and has small letters alone
 spelling_of : (verb : Verb) → (verb_of (spelling verb) ≡ Some verb) × (list_all is_name_byte (spelling verb) ≡ true)
@@ -87,6 +100,9 @@ spelling_of Unlink = (refl, refl)
 spelling_of Rename = (refl, refl)
 spelling_of Mkdir = (refl, refl)
 spelling_of Rmdir = (refl, refl)
+spelling_of Overwrite = (refl, refl)
+spelling_of Truncate = (refl, refl)
+spelling_of Replace = (refl, refl)
 spelling_of Group = (refl, refl)
 spelling_of End = (refl, refl)
 spelling_of Depend = (refl, refl)
@@ -104,19 +120,23 @@ verb_plain verb = lacks_none 32 (spelling verb) (plain_lacks is_name_byte name_n
 abbrev pub HasVerb : Act → Type 0
 HasVerb a =
     (verb : Verb) × ((said a).0 ≡ spelling verb)
-    × ((words : List (List ℕ)) → Fits (said a).1 words → Fits (operands_of verb) words) × (verb ≢ Start)
+    × ((words : List (List ℕ)) → Fits (said a).1 words → Fits (operands_of verb) words)
+    × ((words : List (List ℕ)) → HasBadSlot (operands_of verb) words → HasBadSlot (said a).1 words) × (verb ≢ Start)
 
 pub verb_of_act : (a : Act) → HasVerb a
-verb_of_act (act.Do (op.Create p)) = (Create, refl, (λ words fits. fits), (λ e. cc))
-verb_of_act (act.Do (op.Write p)) = (Write, refl, (λ words fits. fits), (λ e. cc))
-verb_of_act (act.Do (op.Link p q)) = (Link, refl, (λ words fits. fits), (λ e. cc))
-verb_of_act (act.Do (op.Unlink p)) = (Unlink, refl, (λ words fits. fits), (λ e. cc))
-verb_of_act (act.Do (op.Rename p q)) = (Rename, refl, (λ words fits. fits), (λ e. cc))
-verb_of_act (act.Do (op.Mkdir p)) = (Mkdir, refl, (λ words fits. fits), (λ e. cc))
-verb_of_act (act.Do (op.Rmdir p)) = (Rmdir, refl, (λ words fits. fits), (λ e. cc))
-verb_of_act (act.Group a) = (Group, refl, (λ words fits. fits), (λ e. cc))
-verb_of_act act.End = (End, refl, (λ words fits. fits), (λ e. cc))
-verb_of_act (act.Depend b a) = (Depend, refl, (λ words fits. fits), (λ e. cc))
+verb_of_act (act.Do (op.Create p)) = (Create, refl, (λ words fits. fits), (λ words bad. bad), (λ e. cc))
+verb_of_act (act.Do (op.Write p)) = (Write, refl, (λ words fits. fits), (λ words bad. bad), (λ e. cc))
+verb_of_act (act.Do (op.Link p q)) = (Link, refl, (λ words fits. fits), (λ words bad. bad), (λ e. cc))
+verb_of_act (act.Do (op.Unlink p)) = (Unlink, refl, (λ words fits. fits), (λ words bad. bad), (λ e. cc))
+verb_of_act (act.Do (op.Rename p q)) = (Rename, refl, (λ words fits. fits), (λ words bad. bad), (λ e. cc))
+verb_of_act (act.Do (op.Mkdir p)) = (Mkdir, refl, (λ words fits. fits), (λ words bad. bad), (λ e. cc))
+verb_of_act (act.Do (op.Rmdir p)) = (Rmdir, refl, (λ words fits. fits), (λ words bad. bad), (λ e. cc))
+verb_of_act (act.Do (op.Overwrite p s)) = (Overwrite, refl, (λ words fits. fits), (λ words bad. bad), (λ e. cc))
+verb_of_act (act.Do (op.Truncate p)) = (Truncate, refl, (λ words fits. fits), (λ words bad. bad), (λ e. cc))
+verb_of_act (act.Do (op.Replace p q)) = (Replace, refl, (λ words fits. fits), (λ words bad. bad), (λ e. cc))
+verb_of_act (act.Group a) = (Group, refl, (λ words fits. fits), (λ words bad. bad), (λ e. cc))
+verb_of_act act.End = (End, refl, (λ words fits. fits), (λ words bad. bad), (λ e. cc))
+verb_of_act (act.Depend b a) = (Depend, refl, (λ words fits. fits), (λ words bad. bad), (λ e. cc))
 
 -- ---- lines
 
@@ -125,7 +145,7 @@ act_words line a says =
     let verb = verb_of_act a in
     let first : IsPlain (said a).0 = subst IsPlain (sym verb.1) (verb_plain verb.0) in
     record {
-      plain = All-cons IsPlain (said a).0 (map operand_text (said a).1) first (operands_plain (said a).1 says.0);
+      plain = All-cons IsPlain (said a).0 (flat_map operand_words (said a).1) first (operands_plain (said a).1 says.0);
       some = (λ e. cc);
       whole = says.1;
     }
@@ -143,7 +163,7 @@ start_is_no_act a says =
     let verb = verb_of_act a in
     let same = words_once (codes "start") _ _ (act_words (codes "start") a says) start_words in
     let heads : (said a).0 ≡ codes "start" = cc in
-    verb.3 (verb_once verb.0 Start (sym verb.1 ∙ heads))
+    verb.4 (verb_once verb.0 Start (sym verb.1 ∙ heads))
 
 -- nor is it passed over
 pub start_is_not_skipped : ¬ (Reads (codes "start") script.Skipped)

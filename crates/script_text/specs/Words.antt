@@ -1,7 +1,7 @@
 -- What words and lines say, and why they are refused.
 use Rattle.std.specs.Prelude.{◌≡◌, ◌≢◌, ℕ, List, [], ◌∷◌, codes, Option, Some, None, IsUtf8}
-use Rattle.crash_model.specs.Script.{Operand, said, Fits, HasPaths, HasForm, IsAct, words_of, Reads, IsSkipped}
-use Rattle.crash_model.specs.Script.{IsBadPath}
+use Rattle.crash_model.specs.Script.{Operand, said, Fits, HasPaths, HasBadSlot, HasForm, IsAct, words_of, Reads}
+use Rattle.crash_model.specs.Script.{IsSkipped, IsBadPath}
 use Rattle.crash_model.specs.Script as script
 use Rattle.crash_model.specs.declared.names.Path.{Path}
 use Rattle.crash_model.specs.declared.operations.Op.TheVariants as operations
@@ -12,8 +12,8 @@ use Rattle.crash_model.specs.declared.steps.Act.TheVariants as acts
 use Rattle.script_text.specs.declared.line.Line.{Line}
 use Rattle.script_text.specs.declared.line.Line.TheVariants.{Skipped, Start, Says}
 use Rattle.script_text.specs.declared.verb.Verb.{Verb}
-use Rattle.script_text.specs.declared.verb.Verb.TheVariants.{Create, Write, Link, Unlink, Rename, Mkdir, Rmdir, Group}
-use Rattle.script_text.specs.declared.verb.Verb.TheVariants.{End, Depend}
+use Rattle.script_text.specs.declared.verb.Verb.TheVariants.{Create, Write, Link, Unlink, Rename, Mkdir, Rmdir}
+use Rattle.script_text.specs.declared.verb.Verb.TheVariants.{Overwrite, Truncate, Replace, Group, End, Depend}
 use Rattle.script_text.specs.declared.verb.Verb.TheVariants as verb
 use Rattle.script_text.specs.declared.line.LineFault.{LineFault}
 use Rattle.script_text.specs.declared.line.LineFault.TheVariants.{BadUtf8, BadLine, BadPath}
@@ -21,7 +21,7 @@ use Rattle.script_text.specs.declared.line.LineFault.TheVariants.{BadUtf8, BadLi
 -- the words for these operands are refused
 abbrev pub IsOperandFault : List Operand → List (List ℕ) → LineFault → Type 0
 IsOperandFault operands words BadUtf8 = ⊥
-IsOperandFault operands words BadLine = ¬ (Fits operands words)
+IsOperandFault operands words BadLine = Fits operands words → HasBadSlot operands words
 IsOperandFault operands words BadPath = Fits operands words × (¬ (HasPaths operands words))
 
 -- ---- words
@@ -44,6 +44,9 @@ some_act Unlink = Some (acts.Do (operations.Unlink anywhere))
 some_act Rename = Some (acts.Do (operations.Rename anywhere anywhere))
 some_act Mkdir = Some (acts.Do (operations.Mkdir anywhere))
 some_act Rmdir = Some (acts.Do (operations.Rmdir anywhere))
+some_act Overwrite = Some (acts.Do (operations.Overwrite anywhere None))
+some_act Truncate = Some (acts.Do (operations.Truncate anywhere))
+some_act Replace = Some (acts.Do (operations.Replace anywhere anywhere))
 some_act Group = Some (acts.Group [])
 some_act End = Some acts.End
 some_act Depend = Some (acts.Depend [] [])
@@ -75,7 +78,7 @@ abbrev pub IsLineFault : List ℕ → LineFault → Type 0
 IsLineFault line BadUtf8 = ¬ (IsUtf8 line)
 IsLineFault line BadLine =
     IsUtf8 line × (¬ (IsSkipped line)) × (line ≢ codes "start")
-    × ((like : Act) (words : List (List ℕ)) → ¬ (HasForm line like words))
+    × ((like : Act) (words : List (List ℕ)) → HasForm line like words → HasBadSlot (said like).1 words)
 IsLineFault line BadPath = IsBadPath line
 
 abbrev pub line_fault : ℕ → LineFault → ScriptFault

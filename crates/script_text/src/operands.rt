@@ -1,12 +1,13 @@
 //! Operands: the words of a line after the first.
 
-ghost use Rattle.std.specs.Prelude.{◌≡◌, [], ◌∷◌, map, MatchResult};
+ghost use Rattle.std.specs.Prelude.{◌≡◌, [], ◌∷◌, map, flat_map, None, MatchResult};
 ghost use Rattle.crash_model.specs.Names.{IsGroupName};
-ghost use Rattle.crash_model.specs.Script.{IsPath, path_text, PathOperand, GroupOperand};
+ghost use Rattle.crash_model.specs.Script.{IsPath, path_text, PathOperand, GroupOperand, SlotOperand, operand_words};
 ghost use Rattle.script_text.specs.Words.{anywhere, IsOperandFault};
 
 use crate::line::LineFault;
 use crash_model::names::{GroupName, Path};
+use crash_model::operations::Slot;
 
 /// No operands.
 pub(crate) fn none(operands: &[&str]) -> Result<(), LineFault>
@@ -48,6 +49,26 @@ pub(crate) fn two_paths(operands: &[&str]) -> Result<(Path, Path), LineFault>
     match (Path::read(old), Path::read(new)) {
         (Some(old), Some(new)) => Ok((old, new)),
         _ => Err(LineFault::BadPath),
+    }
+}
+
+/// A path, and perhaps a slot.
+pub(crate) fn path_and_slot(operands: &[&str]) -> Result<(Path, Option<Slot>), LineFault>
+    ensures { MatchResult result (λ both. IsPath both.0 × (map (λ word. word.now) operands.now
+        ≡ flat_map operand_words (PathOperand both.0 ∷ SlotOperand both.1 ∷ [])))
+        (IsOperandFault (PathOperand anywhere ∷ SlotOperand None ∷ []) (map (λ word. word.now) operands.now)) }
+{
+    match operands {
+        [path] if !path.is_empty() => {
+            let path = Path::read(path).ok_or(LineFault::BadPath)?;
+            Ok((path, None))
+        }
+        [path, slot] if !path.is_empty() && !slot.is_empty() => {
+            let path = Path::read(path).ok_or(LineFault::BadPath)?;
+            let slot = Slot::read(slot).ok_or(LineFault::BadLine)?;
+            Ok((path, Some(slot)))
+        }
+        _ => Err(LineFault::BadLine),
     }
 }
 

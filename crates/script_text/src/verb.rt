@@ -18,6 +18,9 @@ pub(crate) enum Verb {
     Rename,
     Mkdir,
     Rmdir,
+    Overwrite,
+    Truncate,
+    Replace,
     Group,
     End,
     Depend,
@@ -37,6 +40,9 @@ impl Verb {
             "rename" => Some(Verb::Rename),
             "mkdir" => Some(Verb::Mkdir),
             "rmdir" => Some(Verb::Rmdir),
+            "overwrite" => Some(Verb::Overwrite),
+            "truncate" => Some(Verb::Truncate),
+            "replace" => Some(Verb::Replace),
             "group" => Some(Verb::Group),
             "end" => Some(Verb::End),
             "depend" => Some(Verb::Depend),
@@ -64,6 +70,15 @@ impl Verb {
             }
             Verb::Mkdir => Line::does(Op::Mkdir(operands::path(operands)?)),
             Verb::Rmdir => Line::does(Op::Rmdir(operands::path(operands)?)),
+            Verb::Overwrite => {
+                let (path, slot) = operands::path_and_slot(operands)?;
+                Line::does(Op::Overwrite(path, slot))
+            }
+            Verb::Truncate => Line::does(Op::Truncate(operands::path(operands)?)),
+            Verb::Replace => {
+                let (old, new) = operands::two_paths(operands)?;
+                Line::does(Op::Replace(old, new))
+            }
             Verb::Group => Line::Says(Act::Group(operands::group(operands)?)),
             Verb::End => {
                 operands::none(operands)?;

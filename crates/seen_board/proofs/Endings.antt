@@ -1,6 +1,6 @@
 -- What the rule says at the end.
 use Rattle.std.proofs.Common.{◌≡◌, ◌≢◌, ℕ, zero, suc, ◌+◌, ◌*◌, ◌/◌, ◌%◌, ◌<◌, ◌≤◌, ◌⊎◌, List, [], ◌∷◌, length, get_or}
-use Rattle.std.proofs.Common.{cond, eqb, ne_eqb, sym, refl, ap, ◌∙◌, subst, inl, inr, ⊎_elim, arith}
+use Rattle.std.proofs.Common.{cond, eqb, ne_eqb, sym, refl, ap, ◌∙◌, subst, inl, inr, ⊎_elim, arith, ◌++◌, replicate}
 use Rattle.std.specs.Prelude.{Contains}
 use Rattle.std.specs.List.{All, concat}
 use mathlib.Core.Logic.{dite}
@@ -13,7 +13,8 @@ use Rattle.state_space.specs.Counts.{IsSome}
 use Rattle.state_space.proofs.Runs.{along}
 use Rattle.board_rule.specs.Layout.{half, low_word, high_word, life_word, length_word, place_of}
 use Rattle.board_rule.specs.Lists.{row_of, Has, first_values, total}
-use Rattle.board_rule.specs.Lives.{life_of, is_unsettled, is_settled, Passes}
+use Rattle.board_rule.specs.Changes.{with_given_up}
+use Rattle.board_rule.specs.Lives.{life_of, is_claimed, is_unsettled, is_settled, Passes}
 use Rattle.board_rule.specs.Readings.{entry_of, rows_of, lives_of}
 use Rattle.board_rule.specs.Views.{Told}
 use Rattle.board_rule.specs.Rule.{times, times_among, claims_on, IsBare, IsWhole, IsKept, Overfills}
@@ -27,13 +28,15 @@ use Rattle.board_rule.proofs.Bounds.{all_counts as all_lives, flat_entries, flat
 use Rattle.board_rule.proofs.LifeSteps.{claimed_life, given_up_life}
 use Rattle.board_rule.proofs.Pending.{lives_term, unsettled_low}
 use Rattle.board_rule.proofs.Added.{added_there}
+use Rattle.board_rule.proofs.Lives.{claim_none, claims_given_up}
 use Rattle.board_rule.proofs.Sums.{among_at}
 use Rattle.board_rule.proofs.Shares.{alone_total, bare_claims, bare_times}
 use Rattle.atomic_table.specs.Seated.{TableId}
 use Rattle.seen_board.specs.Known.{known_of}
 use Rattle.seen_board.specs.Ended.{Ended, end_of, life_of_entry, life_in, IsReadable, IsSettled, Entries, AreSettled}
-use Rattle.seen_board.specs.Ended.{Accounts, IsDone}
+use Rattle.seen_board.specs.Ended.{Accounts, IsDone, claims_made}
 use Rattle.seen_board.specs.Clauses.{SeesOn}
+use Rattle.seen_board.proofs.FewClaims.{all_lives as lives_once, claims_few, made_length}
 
 pub found : (l : List ℕ) (i x : ℕ) → get_elem? l i ≡ some x → get_or l i 0 ≡ x
 found [] i x e = absurd (some-ne-none x (sym e))
@@ -225,6 +228,30 @@ module _ (t : Told) (good : ℕ → Type 0) (S : Type 0) (id : ℕ) (v : View) (
     tally : total (total is_settled) o.lives ≡ v.pending.verdicts
     tally = omega (arith, o.pending.verdicts, only (λ u. u.pending.verdicts) (λ u h. h.verdicts))
 
+    -- the places that it has claimed and not settled
+    abbrev unsettled : List ℕ
+    unsettled = v.lives.given_up ++ replicate v.lives.claims v.lives.place
+
+    few_unsettled : length unsettled ≤ total (total is_claimed) o.lives
+    few_unsettled = claims_few unsettled o.lives o.life.all (λ q h k. omega (
+      arith,
+      o.life.claimed q k h,
+      only (claims_on (place_of q k)) (bare_claims (place_of q k)),
+      claims_given_up v (place_of q k),
+      claim_none (with_given_up v) (place_of q k) refl,
+    ))
+
+    few : claims_made (known_of b v) ≤ length v.rows.added + 1
+    few = omega (
+      arith,
+      few_unsettled,
+      made_length v.lives.given_up v.lives.claims v.lives.place,
+      lives_once o.lives,
+      tally,
+      even,
+      many,
+    )
+
     pub end_accounts : Accounts t.origin (known_of b v) (end_of t.places words)
     end_accounts = over (Accounts t.origin (known_of b v)) record {
       places = λ p. omega (arith, o.added.once p, only (times p) (bare_times p));
@@ -255,6 +282,16 @@ module _ (t : Told) (good : ℕ → Type 0) (S : Type 0) (id : ℕ) (v : View) (
         idle.announced,
         idle.owed,
         ap (λ (w : List ℕ). get_or w 0 0) e.2,
+      );
+      claims = few;
+      each = λ f. omega (
+        arith,
+        few,
+        (o.pending.done id v e.1.1 f).0,
+        all_lives o.lives,
+        tally,
+        even,
+        many,
       );
     }
 

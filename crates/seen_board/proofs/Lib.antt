@@ -5,6 +5,7 @@ pub mod AfterOpening
 pub mod AfterRights
 pub mod AfterScans
 pub mod Chains
+pub mod FewClaims
 pub mod Digits
 pub mod Endings
 pub mod Puts

@@ -73,6 +73,11 @@ pub record IsDone (next : ℕ → List ℕ) (origin : ℕ) (e : Ended) : Type 0 
   pub every : (x : ℕ) → IsReached next origin x → Has e.rows x
   pub list : IsListOf (IsReached next origin) (concat e.rows)
 
+-- how many claims the seat has made: of the entries that it has settled, those that it has given up, and the one that
+-- it has
+abbrev pub claims_made : Known → ℕ
+claims_made s = s.verdicts + length s.given_up + s.claims
+
 -- what one seat with the whole board knows is all that happened
 pub record Accounts (origin : ℕ) (s : Known) (e : Ended) : Type 0 where
   -- the places of its answers New and the start's are, each once, the places of the entries
@@ -85,6 +90,9 @@ pub record Accounts (origin : ℕ) (s : Known) (e : Ended) : Type 0 where
   -- as many are settled as it has settled, and pending is the number of the others
   pub settled : total (total is_settled) e.lives ≡ s.verdicts
   pub pending : e.pending + s.verdicts ≡ length s.added + 1
+  -- there are no more claims than entries, since none is claimed twice, and as many once all entries are settled
+  pub claims : claims_made s ≤ length s.added + 1
+  pub each : s.finished ≡ 1 → claims_made s ≡ length s.added + 1
 
 -- the start waits, and pending and the count are 1
 pub record IsOpening (start : ℕ) (e : Ended) : Type 0 where

@@ -10,7 +10,6 @@
 
 mod closed_sets;
 mod closing;
-mod combining;
 mod counting;
 mod family;
 mod narrowing;
@@ -20,6 +19,5 @@ mod searching;
 
 pub use closed_sets::ClosedSets;
 pub use closing::closures;
-pub use combining::{Both, Either, HasId, LacksId};
 pub use family::Family;
 pub use question::Question;

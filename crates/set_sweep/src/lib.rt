@@ -22,5 +22,5 @@ mod workers;
 pub use remainders::{count_by_remainder, largest};
 pub use together::Swept;
 pub use visitor::Visitor;
-pub use watching::{Unwatched, Watch};
+pub use watching::Watch;
 pub use workers::Workers;

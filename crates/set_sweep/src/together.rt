@@ -194,7 +194,7 @@ impl<'a, V: Visitor, A: Allocator + Copy> Job for Sweeping<'a, V, A> {
         × EachClosed j.sweeper.now.deps.now (V.is_lawful j.sweeper.now.visitor.now)
         × V.is_own j.sweeper.now.visitor.now scratch };
 
-    ghost is_left = { λ j left.
+    ghost is_left = { λ j began left.
         IfOk left (λ all.
         All (IsDone (V.tells j.sweeper.now.visitor.now) j.sweeper.now.deps.now j.low j.roots.now) all.items)
         × SaysTooMany j.sweeper.now.deps.now j.sweeper.now.limit left };

@@ -10,13 +10,6 @@ pub trait Watch {
     fn visited(&self, sets: usize, kept: usize);
 }
 
-/// Watches nothing.
-pub struct Unwatched;
-
-impl Watch for Unwatched {
-    fn visited(&self, _sets: usize, _kept: usize) {}
-}
-
 /// How many sets a worker visits between two progress reports.
 const TOLD_AT_ONCE: usize = 1024;
 

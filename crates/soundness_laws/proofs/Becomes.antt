@@ -1,7 +1,7 @@
 -- What is gained and lost, said of views with the same members.
 use Rattle.std.proofs.Common.{ℕ, ◌⊎◌, ◌↔◌, inl, inr}
 use Rattle.crash_model.specs.View.{View}
-use Rattle.crash_model.specs.Meaning.{Becomes, with_all_of}
+use Rattle.crash_model.specs.Meaning.{Becomes, with_blocks_of, with_all_of}
 use Rattle.soundness_laws.specs.Tables.{SameView}
 
 pub same-self : (v : View) → SameView v v
@@ -10,6 +10,16 @@ same-self v = record {
   inodes = λ i kind links. (λ h. h, λ h. h);
   pointers = λ i s b. (λ h. h, λ h. h);
   used_blocks = λ b. (λ h. h, λ h. h);
+}
+
+-- the same blocks of an inode
+pub same-blocks_of : (base v w : View) (i : ℕ) → SameView v w
+    → SameView (with_blocks_of base v i) (with_blocks_of base w i)
+same-blocks_of base v w i same = record {
+  names = λ dir name j. (λ h. h, λ h. h);
+  inodes = λ j kind links. (λ h. h, λ h. h);
+  pointers = λ j s b. (λ h. h, λ h. h);
+  used_blocks = λ b. (λ h. (h.0, (same.pointers i h.0 b).0 h.1), λ h. (h.0, (same.pointers i h.0 b).1 h.1));
 }
 
 -- the same inode with all that it has

@@ -2,7 +2,7 @@
 use Rattle.std.proofs.Common.{◌≡◌, ◌≢◌, ℕ, ◌+◌, ◌<◌, ◌≤◌, ◌⊎◌, inl, inr, Bool, true, false, arith, refl, sym, ◌∙◌, ap}
 use Rattle.std.proofs.Common.{subst}
 use Rattle.std.proofs.lemmas.Bool.{cases_eq, eq-eqb}
-use Rattle.soundness_laws.specs.Tables.{Tables, Mark, with_value, HasPointer, SoundBlocks}
+use Rattle.soundness_laws.specs.Tables.{Tables, Mark, with_value, HasPointer, SoundBlocks, KeepsMarks}
 use Rattle.soundness_laws.specs.Tables.Mark.{FileOf, DirectoryOf}
 use Rattle.soundness_laws.proofs.Sums.{with_value-same, with_value-other}
 use Rattle.soundness_laws.proofs.Inodes.{IsFresh, not-fresh}
@@ -54,11 +54,11 @@ pub record FreesBlocks (kind : ℕ → ℕ) (pointer : ℕ → ℕ → ℕ) (use
   pub cleared : (b : ℕ) → used' b ≡ true → (used b ≡ true) × ((s : ℕ) → ¬ (HasPointer kind pointer i s b))
   pub kept : (b : ℕ) → used b ≡ true → ((s : ℕ) → ¬ (HasPointer kind pointer i s b)) → used' b ≡ true
 
-pub blocks-freed : (t : Tables) (i : ℕ) (used' : ℕ → Bool)
+pub blocks-freed : (t : Tables) (i : ℕ) (used' : ℕ → Bool) (mark' : ℕ → Mark)
     → SoundBlocks t.blocks t.journal t.kind t.pointer t.mark t.used → i ≢ 0
-    → FreesBlocks t.kind t.pointer t.used used' i
-    → SoundBlocks t.blocks t.journal (with_value t.kind i 0) (with_value t.pointer i (λ _. 0)) t.mark used'
-blocks-freed t i used' sound not_root f =
+    → FreesBlocks t.kind t.pointer t.used used' i → KeepsMarks t.mark mark' i
+    → SoundBlocks t.blocks t.journal (with_value t.kind i 0) (with_value t.pointer i (λ _. 0)) mark' used'
+blocks-freed t i used' mark' sound not_root f keeps =
     let kind = with_value t.kind i 0 in
     let pointer = with_value t.pointer i (λ _. 0) in
     let apart : (j : ℕ) → kind j ≢ 0 → j ≢ i = λ j live e. live (ap kind e ∙ with_value-same t.kind i 0) in
@@ -73,8 +73,10 @@ blocks-freed t i used' sound not_root f =
         | inr n ↦ sound.slots j s (λ z. h (pointers j s n ∙ z))
       ];
       once = λ b j s h r p q. sound.once b j s h r (back j s b p) (back h r b q);
-      file_blocks = λ j s b h one. sound.file_blocks j s b (back j s b h) (sym (kinds j (apart j h.0)) ∙ one);
-      directory_blocks = λ j s b h two. sound.directory_blocks j s b (back j s b h) (sym (kinds j (apart j h.0)) ∙ two);
+      file_blocks = λ j s b h one. let n = apart j h.0 in
+          keeps.files b j n (sound.file_blocks j s b (back j s b h) (sym (kinds j n) ∙ one));
+      directory_blocks = λ j s b h two. let n = apart j h.0 in
+          keeps.directories b j n (sound.directory_blocks j s b (back j s b h) (sym (kinds j n) ∙ two));
       in_data_area = λ j s b h. sound.in_data_area j s b (back j s b h);
       root_block = pointers 0 0 (λ e. not_root (sym e)) ∙ sound.root_block;
       one_block = λ j h. let n = apart j (λ z. omega arith) in let o = sound.one_block j (sym (kinds j n) ∙ h) in
@@ -90,6 +92,50 @@ blocks-freed t i used' sound not_root f =
           let w = sound.used_named b low c.0 in
           let n : w.0 ≢ i = λ e. c.1 w.1 (subst (λ (x : ℕ). HasPointer t.kind t.pointer x w.1 b) e w.2) in
           (w.0, w.1, (λ z. w.2.0 (sym (kinds w.0 n) ∙ z), pointers w.0 w.1 n ∙ w.2.1, w.2.2));
+    }
+
+-- a file loses its blocks
+pub blocks-cut : (t : Tables) (i : ℕ) (used' : ℕ → Bool)
+    → SoundBlocks t.blocks t.journal t.kind t.pointer t.mark t.used → i ≢ 0 → t.kind i ≡ 1
+    → FreesBlocks t.kind t.pointer t.used used' i
+    → SoundBlocks t.blocks t.journal t.kind (with_value t.pointer i (λ _. 0)) t.mark used'
+blocks-cut t i used' sound not_root file f =
+    let pointer = with_value t.pointer i (λ _. 0) in
+    let none : (j s : ℕ) → j ≡ i → pointer j s ≡ 0 =
+    λ j s e. ap (λ (row : ℕ → ℕ). row s) (ap pointer e ∙ with_value-same t.pointer i (λ _. 0)) in
+    let apart : (j s b : ℕ) → HasPointer t.kind pointer j s b → j ≢ i = λ j s b h e. h.2 (sym h.1 ∙ none j s e) in
+    let pointers : (j s : ℕ) → j ≢ i → pointer j s ≡ t.pointer j s =
+    λ j s n. ap (λ (row : ℕ → ℕ). row s) (with_value-other t.pointer i (λ _. 0) j n) in
+    let back : (j s b : ℕ) → HasPointer t.kind pointer j s b → HasPointer t.kind t.pointer j s b =
+    λ j s b h. let n = apart j s b h in (h.0, sym (pointers j s n) ∙ h.1, h.2) in
+    record {
+      slots = λ j s h. elim (cases_eq j i) [
+        | inl e ↦ absurd (h (none j s e))
+        | inr n ↦ sound.slots j s (λ z. h (pointers j s n ∙ z))
+      ];
+      once = λ b j s h r p q. sound.once b j s h r (back j s b p) (back h r b q);
+      file_blocks = λ j s b h one. sound.file_blocks j s b (back j s b h) one;
+      directory_blocks = λ j s b h two. sound.directory_blocks j s b (back j s b h) two;
+      in_data_area = λ j s b h. sound.in_data_area j s b (back j s b h);
+      root_block = pointers 0 0 (λ e. not_root (sym e)) ∙ sound.root_block;
+      one_block = λ j two. elim (cases_eq j i) [
+        | inl e ↦ absurd (let both : t.kind j ≡ 1 = ap t.kind e ∙ file in omega arith)
+        | inr n ↦ let o = sound.one_block j two in
+            (λ z. o.0 (sym (pointers j 0 n) ∙ z), λ s m. pointers j s n ∙ o.1 s m)
+      ];
+      packed = λ j s one z. elim (cases_eq j i) [
+        | inl e ↦ none j (s + 1) e
+        | inr n ↦ pointers j (s + 1) n ∙ sound.packed j s one (sym (pointers j s n) ∙ z)
+      ];
+      low_used = λ b less. f.kept b (sound.low_used b less)
+          (λ s h. let w = sound.in_data_area i s b h in absurd (omega (arith, w.0)));
+      named_used = λ j s b h. f.kept b (sound.named_used j s b (back j s b h))
+          (λ r own. apart j s b h (sound.once b j s i r (back j s b h) own).0);
+      used_named = λ b low u.
+          let c = f.cleared b u in
+          let w = sound.used_named b low c.0 in
+          let n : w.0 ≢ i = λ e. c.1 w.1 (subst (λ (x : ℕ). HasPointer t.kind t.pointer x w.1 b) e w.2) in
+          (w.0, w.1, (w.2.0, pointers w.0 w.1 n ∙ w.2.1, w.2.2));
     }
 
 -- ---- an inode gains a block

@@ -6,9 +6,10 @@ use Rattle.std.proofs.lemmas.Bool.{cases_eq, cases_lt, eq-eqb, ne_eqb, lt-ltb, l
 use Rattle.std.proofs.lemmas.Bool.Decides.{nat_tests}
 use Rattle.crash_model.specs.Disk.{Disk, IsDisk, byte}
 use Rattle.crash_model.specs.Layout.{kind_of, pointer_of, is_data, is_live, target_of, counts, entry_of, spelling_of}
+use Rattle.crash_model.specs.Layout.{generation_of, mark_generation}
 use Rattle.crash_model.specs.Plan.{is_named, directory_named, walk_end}
 use Rattle.crash_model.proofs.Bytes.{length-overwrite}
-use Rattle.soundness_laws.specs.Tables.{tables_of, place_at, place_of, mark_at}
+use Rattle.soundness_laws.specs.Tables.{tables_of, place_at, place_of, mark_at, is_current}
 use Rattle.soundness_laws.specs.Tables.Place.{Free, Leads}
 use Rattle.soundness_laws.specs.Tables.Mark.{Plain, FileOf, DirectoryOf}
 use Rattle.soundness_laws.proofs.Puts.{with_bytes_at}
@@ -67,11 +68,11 @@ entry-bytes d dir k i spelling e = elim (cases_lt dir 16) [
         record { in_dir = less; in_place = small; counting = p; first = q ∙ ap suc same; spelt = cc }
 
 -- a directory of the tables counts
-pub mark_directory : (d : Disk) (b i : ℕ) → mark_at (is_data d b) (byte d b 0) (byte d b 1) ≡ DirectoryOf i
-    → (is_data d b ≡ true) × (byte d b 0 ≡ 0x44) × (byte d b 1 ≡ i)
-mark_directory d b i e = go (is_data d b) refl (byte d b 0) (byte d b 1) e
+pub mark_directory : (d : Disk) (b i : ℕ) → mark_at (is_current d b) (byte d b 0) (byte d b 1) ≡ DirectoryOf i
+    → (is_current d b ≡ true) × (byte d b 0 ≡ 0x44) × (byte d b 1 ≡ i)
+mark_directory d b i e = go (is_current d b) refl (byte d b 0) (byte d b 1) e
   where
-    go : (inside : Bool) → is_data d b ≡ inside → (x y : ℕ) → mark_at inside x y ≡ DirectoryOf i → (inside ≡ true)
+    go : (inside : Bool) → is_current d b ≡ inside → (x y : ℕ) → mark_at inside x y ≡ DirectoryOf i → (inside ≡ true)
         × (x ≡ 0x44) × (y ≡ i)
     go false p x y r = cc
     go true p x y r = elim (cases_eq x 0x46) [
@@ -84,17 +85,27 @@ mark_directory d b i e = go (is_data d b) refl (byte d b 0) (byte d b 1) e
       ]
     ]
 
+-- a mark with a generation is in the data area, and the generation is that of its inode
+pub current-parts : (d : Disk) (b i : ℕ) → is_current d b ≡ true → byte d b 1 ≡ i → (is_data d b ≡ true)
+    × (mark_generation d b ≡ generation_of d i)
+current-parts d b i e owner =
+    let inside : is_data d b ≡ true = grind (arith, nat_tests) in
+    let same : mark_generation d b ≡ generation_of d (byte d b 1) = grind (arith, nat_tests) in
+    (inside, same ∙ ap (generation_of d) owner)
+
 pub counts-by_tables : (d : Disk) (dir : ℕ) → dir < 16 → (tables_of d).kind dir ≡ 2
     → (tables_of d).mark ((tables_of d).pointer dir 0) ≡ DirectoryOf dir → counts d dir ≡ true
 unfolding tables_of
 counts-by_tables d dir below kind mark =
     let k : kind_of d dir ≡ 2 = rw (lt-ltb dir 16 below) at kind in
     let m = mark_directory d (pointer_of d dir 0) dir (rw (lt-ltb dir 16 below) at mark) in
+    let current = current-parts d (pointer_of d dir 0) dir m.0 m.2 in
     rw (
       eq-eqb (kind_of d dir) 2 k,
-      m.0,
+      current.0,
       eq-eqb (byte d (pointer_of d dir 0) 0) 0x44 m.1,
       eq-eqb (byte d (pointer_of d dir 0) 1) dir m.2,
+      eq-eqb (mark_generation d (pointer_of d dir 0)) (generation_of d dir) current.1,
     ) refl
 
 pub disk-with_bytes_at : (d : Disk) (at : ℕ) (new : List ℕ) → IsDisk d → at + length new ≤ length d.bytes

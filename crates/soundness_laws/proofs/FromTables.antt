@@ -10,7 +10,9 @@ use Rattle.crash_model.specs.Faults.{IsClean, is_tame, is_right_mark, names_bloc
 use Rattle.crash_model.specs.View.{HasPointer}
 use Rattle.crash_model.specs.Sound.{IsSound, ReachedIn}
 use Rattle.crash_model.proofs.Clean.{no_fault_clean}
-use Rattle.soundness_laws.specs.Tables.{tables_of, mark_at, HasPointer as PointerIn, ReachedIn as ReachedBy, count_to}
+use Rattle.crash_model.specs.Layout.{generation_of, mark_generation}
+use Rattle.soundness_laws.proofs.ByTables.{current-parts}
+use Rattle.soundness_laws.specs.Tables.{tables_of, mark_at, is_current, HasPointer as PointerIn, ReachedIn as ReachedBy, count_to}
 use Rattle.soundness_laws.specs.Tables.{SoundNames, Sound}
 use Rattle.soundness_laws.specs.Tables.Place.{Leads}
 use Rattle.soundness_laws.specs.Tables.Mark.{Plain, FileOf, DirectoryOf}
@@ -46,14 +48,16 @@ without : (a b : Bool) → (a ≡ true → b ≡ false) → (a && b) ≡ false
 without true b h = h refl
 without false b h = refl
 
-mark_file : (d : Disk) (b i : ℕ) → (tables_of d).mark b ≡ FileOf i → (byte d b 0 ≡ 0x46) × (byte d b 1 ≡ i)
+mark_file : (d : Disk) (b i : ℕ) → (tables_of d).mark b ≡ FileOf i → (is_current d b ≡ true) × (byte d b 0 ≡ 0x46)
+    × (byte d b 1 ≡ i)
 unfolding tables_of
-mark_file d b i e = go (is_data d b) (byte d b 0) (byte d b 1) e
+mark_file d b i e = go (is_current d b) refl (byte d b 0) (byte d b 1) e
   where
-    go : (inside : Bool) (x y : ℕ) → mark_at inside x y ≡ FileOf i → (x ≡ 0x46) × (y ≡ i)
-    go false x y r = cc
-    go true x y r = elim (cases_eq x 0x46) [
-      | inl file ↦ let same : FileOf y ≡ FileOf i = rw (eq-eqb x 0x46 file) at r in (file, cc)
+    go : (inside : Bool) → is_current d b ≡ inside → (x y : ℕ) → mark_at inside x y ≡ FileOf i → (inside ≡ true)
+        × (x ≡ 0x46) × (y ≡ i)
+    go false p x y r = cc
+    go true p x y r = elim (cases_eq x 0x46) [
+      | inl file ↦ let same : FileOf y ≡ FileOf i = rw (eq-eqb x 0x46 file) at r in (refl, file, cc)
       | inr other ↦ elim (cases_eq x 0x44) [
         | inl dir ↦ absurd (let no_file : DirectoryOf y ≡ FileOf i = rw (ne_eqb x 0x46 other, eq-eqb x 0x44 dir) at r in
             cc)
@@ -62,7 +66,7 @@ mark_file d b i e = go (is_data d b) (byte d b 0) (byte d b 1) e
       ]
     ]
 
-mark_dir : (d : Disk) (b i : ℕ) → (tables_of d).mark b ≡ DirectoryOf i → (is_data d b ≡ true) × (byte d b 0 ≡ 0x44)
+mark_dir : (d : Disk) (b i : ℕ) → (tables_of d).mark b ≡ DirectoryOf i → (is_current d b ≡ true) × (byte d b 0 ≡ 0x44)
     × (byte d b 1 ≡ i)
 unfolding tables_of
 mark_dir d b i e = mark_directory d b i e
@@ -101,13 +105,15 @@ clean-tables d disk sound =
           elim (cases_eq (t.kind i) 1) [
             | inl one ↦
                 let m = mark_file d (pointer_of d i s) i (sound.blocks.file_blocks i s (pointer_of d i s) p one) in
-                right (kind_of d i) (byte d (pointer_of d i s) 0) (byte d (pointer_of d i s) 1) i
-                (inl (sym kind ∙ one, m.0)) m.1
+                right (kind_of d i) (byte d (pointer_of d i s) 0) (byte d (pointer_of d i s) 1)
+                (mark_generation d (pointer_of d i s)) (generation_of d i) i (inl (sym kind ∙ one, m.1)) m.2
+                (current-parts d (pointer_of d i s) i m.0 m.2).1
             | inr other ↦
                 let two : t.kind i ≡ 2 = pick (t.kind i) live other small in
                 let m = mark_dir d (pointer_of d i s) i (sound.blocks.directory_blocks i s (pointer_of d i s) p two) in
-                right (kind_of d i) (byte d (pointer_of d i s) 0) (byte d (pointer_of d i s) 1) i
-                (inr (sym kind ∙ two, m.1)) m.2
+                right (kind_of d i) (byte d (pointer_of d i s) 0) (byte d (pointer_of d i s) 1)
+                (mark_generation d (pointer_of d i s)) (generation_of d i) i (inr (sym kind ∙ two, m.1)) m.2
+                (current-parts d (pointer_of d i s) i m.0 m.2).1
           ]);
       no_low_links = λ i in_i. without (is_live d i) (ltb (links_of d i) (length (entries_to d i))) (λ e.
           let live = live-in d i e in
@@ -147,10 +153,12 @@ clean-tables d disk sound =
         subst (λ (x : ℕ). PointerIn (tables_of d).kind (tables_of d).pointer i s x)
         (eqb-true (pointer_of d i s) b both.1) p
 
-    right : (kind first second i : ℕ) → ((kind ≡ 1) × (first ≡ 0x46)) ⊎ ((kind ≡ 2) × (first ≡ 0x44)) → second ≡ i
-        → not (is_right_mark kind first && eqb second i) ≡ false
-    right kind first second i (inl h) e = rw (eq-eqb kind 1 h.0, eq-eqb first 0x46 h.1, eq-eqb second i e) refl
-    right kind first second i (inr h) e = grind (arith, nat_tests, h.0, h.1)
+    right : (kind first second mark generation i : ℕ) → ((kind ≡ 1) × (first ≡ 0x46)) ⊎ ((kind ≡ 2) × (first ≡ 0x44))
+        → second ≡ i → mark ≡ generation
+        → not (is_right_mark kind first && (eqb second i && eqb mark generation)) ≡ false
+    right kind first second mark generation i (inl h) e g =
+        rw (eq-eqb kind 1 h.0, eq-eqb first 0x46 h.1, eq-eqb second i e, eq-eqb mark generation g) refl
+    right kind first second mark generation i (inr h) e g = grind (arith, nat_tests, h.0, h.1)
 
     pick : (k : ℕ) → k ≢ 0 → k ≢ 1 → k < 3 → k ≡ 2
     pick k a b c = omega arith

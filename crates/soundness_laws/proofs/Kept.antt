@@ -5,14 +5,16 @@ use Rattle.crash_model.specs.Names.{IsName}
 use Rattle.crash_model.specs.Plan.{name_spelling}
 use Rattle.soundness_laws.specs.Tables.{Tables, with_value, with_place, tables_after_create, tables_after_write}
 use Rattle.soundness_laws.specs.Tables.{tables_after_link, tables_after_unlink, tables_after_removal}
-use Rattle.soundness_laws.specs.Tables.{tables_after_mkdir, count_to, SoundNames, SoundCounts, Sound}
+use Rattle.soundness_laws.specs.Tables.{tables_after_mkdir, tables_after_truncate, KeepsMarks, Mark, count_to, SoundNames}
+use Rattle.soundness_laws.specs.Tables.{SoundCounts, Sound}
 use Rattle.soundness_laws.specs.Tables.Place.{Free, Leads}
 use Rattle.soundness_laws.specs.Tables.Mark.{FileOf, DirectoryOf}
 use Rattle.soundness_laws.proofs.Sums.{with_value-same, with_value-other, changed_twice-same, changed_twice-row}
 use Rattle.soundness_laws.proofs.Names.{names-gained, names-lost}
 use Rattle.soundness_laws.proofs.Counts.{count_to-none, only_entry, other_entry, counts-gained, counts-lost}
 use Rattle.soundness_laws.proofs.Inodes.{IsFresh, not-fresh, inodes-new, inodes-freed, inodes-tables_after_link}
-use Rattle.soundness_laws.proofs.Blocks.{blocks-new_file, FreesBlocks, blocks-freed, GainsBlock, blocks-gained}
+use Rattle.soundness_laws.proofs.Blocks.{blocks-new_file, FreesBlocks, blocks-freed, blocks-cut, GainsBlock}
+use Rattle.soundness_laws.proofs.Blocks.{blocks-gained}
 
 -- ---- what a new name asks
 
@@ -270,15 +272,16 @@ tables_after_unlink-sound t dir k i spelling left sound can =
 
 -- ---- the last name of an inode that nothing is below: a file, or an empty directory
 
-pub record CanRemove (t : Tables) (dir k i : ℕ) (spelling : List ℕ) (used : ℕ → Bool) : Type 0 where
+pub record CanRemove (t : Tables) (dir k i : ℕ) (spelling : List ℕ) (used : ℕ → Bool) (mark : ℕ → Mark) : Type 0 where
   pub there : t.entry dir k ≡ Leads i spelling
   pub leaf : (m j : ℕ) (sp : List ℕ) → t.entry i m ≢ Leads j sp
   pub last : t.links i ≡ 1
   pub frees : FreesBlocks t.kind t.pointer t.used used i
+  pub marks : KeepsMarks t.mark mark i
 
-pub tables_after_removal-sound : (t : Tables) (dir k i : ℕ) (spelling : List ℕ) (used : ℕ → Bool) → Sound t
-    → CanRemove t dir k i spelling used → Sound (tables_after_removal t dir k i used)
-tables_after_removal-sound t dir k i spelling used sound can =
+pub tables_after_removal-sound : (t : Tables) (dir k i : ℕ) (spelling : List ℕ) (used : ℕ → Bool) (mark : ℕ → Mark)
+    → Sound t → CanRemove t dir k i spelling used mark → Sound (tables_after_removal t dir k i used mark)
+tables_after_removal-sound t dir k i spelling used mark sound can =
     let place = sound.names.places dir k i spelling can.there in
     let live : t.kind i ≢ 0 = sound.names.no_dangling dir k i spelling can.there in
     let root : i ≢ 0 = sound.names.no_way_up dir k i spelling can.there in
@@ -287,7 +290,7 @@ tables_after_removal-sound t dir k i spelling used sound can =
     let gone : kind i ≡ 0 = with_value-same t.kind i 0 in
     let kinds : (j : ℕ) → j ≢ i → kind j ≡ t.kind j = λ j n. with_value-other t.kind i 0 j n in
     record {
-      blocks = blocks-freed t i used sound.blocks root can.frees;
+      blocks = blocks-freed t i used mark sound.blocks root can.frees can.marks;
       inodes = inodes-freed t i sound.inodes root;
       names = names-lost t.kind kind t.entry dir k i spelling sound.names (record {
         there = can.there;
@@ -305,3 +308,18 @@ tables_after_removal-sound t dir k i spelling used sound can =
         own = λ stays. absurd (stays gone);
       });
     }
+
+-- ---- truncate
+
+pub record CanCut (t : Tables) (i : ℕ) (used : ℕ → Bool) : Type 0 where
+  pub file : t.kind i ≡ 1
+  pub frees : FreesBlocks t.kind t.pointer t.used used i
+
+pub tables_after_truncate-sound : (t : Tables) (i : ℕ) (used : ℕ → Bool) → Sound t → CanCut t i used
+    → Sound (tables_after_truncate t i used)
+tables_after_truncate-sound t i used sound can = record {
+  blocks = blocks-cut t i used sound.blocks (not_root t i sound can.file) can.file can.frees;
+  inodes = sound.inodes;
+  names = sound.names;
+  counts = sound.counts;
+}

@@ -5,10 +5,13 @@ use mathlib.Core.Path.{fun_ext}
 use Rattle.std.proofs.lemmas.Bool.{cases_eq, eq-eqb, ne_eqb}
 use Rattle.std.proofs.lemmas.Grind.{elements}
 use Rattle.crash_model.specs.Plan.{name_spelling}
-use Rattle.crash_model.specs.Meaning.{nothing, with_name, with_inode, with_block, with_all_of, Becomes}
+use Rattle.crash_model.specs.View.{View}
+use Rattle.crash_model.specs.Meaning.{nothing, with_name, with_inode, with_block, with_blocks_of, with_all_of, Becomes}
+use Rattle.crash_model.specs.Meaning.{names_replaced}
 use Rattle.soundness_laws.specs.Tables.{Tables, Place, Mark, with_value, with_place, tables_after_create}
 use Rattle.soundness_laws.specs.Tables.{tables_after_write, tables_after_link, tables_after_unlink}
-use Rattle.soundness_laws.specs.Tables.{tables_after_removal, tables_after_mkdir, NameIn, InodeIn, HasPointer, UsedIn}
+use Rattle.soundness_laws.specs.Tables.{tables_after_removal, tables_after_mkdir, tables_after_truncate}
+use Rattle.soundness_laws.specs.Tables.{NameIn, InodeIn, HasPointer, UsedIn}
 use Rattle.soundness_laws.specs.Tables.{view, Sound}
 use Rattle.soundness_laws.specs.Tables.Place.{Free, Leads}
 use Rattle.soundness_laws.specs.Tables.Mark.{FileOf, DirectoryOf}
@@ -17,7 +20,7 @@ use Rattle.soundness_laws.proofs.Names.{entry_back, entry_kept, left_back}
 use Rattle.soundness_laws.proofs.Inodes.{IsFresh, not-fresh}
 use Rattle.soundness_laws.proofs.Blocks.{FreesBlocks, GainsBlock, pointer-back, pointer-kept, pointer-gained}
 use Rattle.soundness_laws.proofs.Kept.{CanCreate, CanMake, tables_after_mkdir-gains, CanGrow, tables_after_write-gains}
-use Rattle.soundness_laws.proofs.Kept.{CanLink, CanUnlink, CanRemove}
+use Rattle.soundness_laws.proofs.Kept.{CanLink, CanUnlink, CanRemove, CanCut}
 
 pub name_spelling-injective : (a b : List ℕ) → name_spelling a ≡ name_spelling b → a ≡ b
 name_spelling-injective a b e =
@@ -299,13 +302,13 @@ tables_after_unlink-becomes t dir k i name left sound can = record {
   used_blocks = λ b. unchanged (UsedIn t b);
 }
 
-pub tables_after_removal-becomes : (t : Tables) (dir k i : ℕ) (name : List ℕ) (used : ℕ → Bool) → Sound t
-    → CanRemove t dir k i (name_spelling name) used
-    → Becomes (view t) (view (tables_after_removal t dir k i used)) nothing
+pub tables_after_removal-becomes : (t : Tables) (dir k i : ℕ) (name : List ℕ) (used : ℕ → Bool) (mark : ℕ → Mark)
+    → Sound t → CanRemove t dir k i (name_spelling name) used mark
+    → Becomes (view t) (view (tables_after_removal t dir k i used mark)) nothing
     (with_all_of (with_name nothing dir name i) (view t) i)
-tables_after_removal-becomes t dir k i name used sound can = record {
-  names = names-lost t dir k i name (tables_after_removal t dir k i used) sound can.there refl;
-  inodes = inodes-lost t i (tables_after_removal t dir k i used) refl refl;
+tables_after_removal-becomes t dir k i name used mark sound can = record {
+  names = names-lost t dir k i name (tables_after_removal t dir k i used mark) sound can.there refl;
+  inodes = inodes-lost t i (tables_after_removal t dir k i used mark) refl refl;
   pointers = pointers-lost t i;
   used_blocks = used-lost t i used can.frees;
 }
@@ -320,9 +323,87 @@ tables_after_mkdir-becomes t dir k i b name sound can = record {
   used_blocks = used-gained t b can.low;
 }
 
+-- the view stays
+pub tables-same_view : (t : Tables) → Becomes (view t) (view t) nothing nothing
+tables-same_view t = record {
+  names = λ d n j. unchanged (NameIn t d n j);
+  inodes = λ j k l. unchanged (InodeIn t j k l);
+  pointers = λ j s b. unchanged (HasPointer t.kind t.pointer j s b);
+  used_blocks = λ b. unchanged (UsedIn t b);
+}
+
+pub tables_after_truncate-becomes : (t : Tables) (i : ℕ) (used : ℕ → Bool) → CanCut t i used
+    → Becomes (view t) (view (tables_after_truncate t i used)) nothing (with_blocks_of nothing (view t) i)
+tables_after_truncate-becomes t i used can = record {
+  names = λ d n j. unchanged (NameIn t d n j);
+  inodes = λ j k l. unchanged (InodeIn t j k l);
+  pointers = λ j s b.
+      let row : (n : j ≢ i) → with_value t.pointer i (λ _. 0) j s ≡ t.pointer j s =
+      λ n. ap (λ (f : ℕ → ℕ). f s) (with_value-other t.pointer i (λ _. 0) j n) in
+      let none : j ≡ i → with_value t.pointer i (λ _. 0) j s ≡ 0 =
+      λ e. ap (λ (f : ℕ → ℕ). f s) (ap (with_value t.pointer i (λ _. 0)) e ∙ with_value-same t.pointer i (λ _. 0)) in (
+        λ w. let n : j ≢ i = λ e. w.2 (sym w.1 ∙ none e) in inl ((w.0, sym (row n) ∙ w.1, w.2), n),
+        λ w. elim w [ inl old ↦ (old.0.0, row old.1 ∙ old.0.1, old.0.2) | inr g ↦ absurd g ],
+      );
+  used_blocks = used-lost t i used can.frees;
+}
+
+-- ---- two steps in a row
+
+-- what is lost first and then what is lost and gained
+lost-then : {A B C L M G : Type 0} → (B ↔ ((A × (¬ L)) ⊎ ⊥)) → (C ↔ ((B × (¬ M)) ⊎ G)) → (C ↔ ((A × (¬ (M ⊎ L))) ⊎ G))
+lost-then first second = (
+  λ c. elim (second.0 c) [
+    | inl h ↦ elim (first.0 h.0) [
+      | inl old ↦ inl (old.0, λ l. elim l [ inl m ↦ h.1 m | inr n ↦ old.1 n ])
+      | inr none ↦ absurd none
+    ]
+    | inr g ↦ inr g
+  ],
+  λ h. elim h [
+    | inl old ↦ second.1 (inl (first.1 (inl (old.0, λ l. old.1 (inr l))), λ m. old.1 (inl m)))
+    | inr g ↦ second.1 (inr g)
+  ],
+)
+
+-- what is lost and gained, and then nothing more
+then-same : {A B C L G : Type 0} → (B ↔ ((A × (¬ L)) ⊎ G)) → Unchanged B C → (C ↔ ((A × (¬ L)) ⊎ G))
+then-same first second = (
+  λ c. elim (second.0 c) [ inl h ↦ first.0 h.0 | inr none ↦ absurd none ],
+  λ h. second.1 (inl (first.1 h, λ z. z)),
+)
+
+-- the other file loses a name, and then a file with an old name gets that name
+pub replaced-one : (old middle new : View) (old_dir : ℕ) (old_name : List ℕ) (target dir : ℕ) (name : List ℕ)
+    (other left : ℕ)
+    → Becomes old middle (with_inode nothing other 1 left) (with_inode (with_name nothing dir name other) other 1
+    (left + 1))
+    → Becomes middle new (with_name nothing dir name target) (with_name nothing old_dir old_name target)
+    → Becomes old new (with_inode (with_name nothing dir name target) other 1 left)
+    (with_inode (names_replaced old_dir old_name target dir name other) other 1 (left + 1))
+replaced-one old middle new old_dir old_name target dir name other left first second = record {
+  names = λ d n j. lost-then (first.names d n j) (second.names d n j);
+  inodes = λ j k l. then-same (first.inodes j k l) (second.inodes j k l);
+  pointers = λ j s b. then-same (first.pointers j s b) (second.pointers j s b);
+  used_blocks = λ b. then-same (first.used_blocks b) (second.used_blocks b);
+}
+
+pub replaced-last : (base old middle new : View) (old_dir : ℕ) (old_name : List ℕ) (target dir : ℕ) (name : List ℕ)
+    (other : ℕ)
+    → Becomes old middle nothing (with_all_of (with_name nothing dir name other) base other)
+    → Becomes middle new (with_name nothing dir name target) (with_name nothing old_dir old_name target)
+    → Becomes old new (with_name nothing dir name target)
+    (with_all_of (names_replaced old_dir old_name target dir name other) base other)
+replaced-last base old middle new old_dir old_name target dir name other first second = record {
+  names = λ d n j. lost-then (first.names d n j) (second.names d n j);
+  inodes = λ j k l. then-same (first.inodes j k l) (second.inodes j k l);
+  pointers = λ j s b. then-same (first.pointers j s b) (second.pointers j s b);
+  used_blocks = λ b. then-same (first.used_blocks b) (second.used_blocks b);
+}
+
 -- ---- a file with another name: one more, then one less
 
-with_value-back : (f : ℕ → ℕ) (i v : ℕ) → with_value (with_value f i v) i (f i) ≡ f
+pub with_value-back : (f : ℕ → ℕ) (i v : ℕ) → with_value (with_value f i v) i (f i) ≡ f
 with_value-back f i v = fun_ext (λ j. elim (cases_eq j i) [
   | inl e ↦ rw (eq-eqb j i e) (ap f (sym e))
   | inr n ↦ rw (ne_eqb j i n) refl

@@ -1,9 +1,11 @@
 -- The tables of a sound disk are sound.
-use Rattle.std.proofs.Common.{◌≡◌, ◌≢◌, ℕ, zero, suc, ◌+◌, ◌-◌, ◌<◌, ◌≤◌, inl, inr, List, Bool, true, false, ◌&&◌, not}
+use Rattle.std.proofs.Common.{◌≡◌, ◌≢◌, ℕ, zero, suc, ◌+◌, ◌-◌, ◌<◌, ◌≤◌, inl, inr, List, Bool, true, false, ◌&&◌, not, nat_lt}
 use Rattle.std.proofs.Common.{eqb, length, arith, refl, sym, ◌∙◌, ap, subst}
-use Rattle.std.proofs.lemmas.Bool.{cases_eq, cases_order, eq-eqb, ne_eqb}
+use Rattle.std.proofs.lemmas.Bool.{lt-ltb, cases_eq, cases_order, eq-eqb, ne_eqb}
 use Rattle.std.proofs.lemmas.Bool.Decides.{nat_tests}
 use Rattle.crash_model.specs.Disk.{Disk, IsDisk, byte}
+use Rattle.crash_model.specs.Layout.{generation_of, mark_generation}
+use Rattle.soundness_laws.specs.Tables.{is_current}
 use Rattle.crash_model.specs.Layout.{kind_of, links_of, pointer_of, map_of, is_data, is_live, is_entry, is_pointer}
 use Rattle.crash_model.specs.Layout.{target_of, counts, entry_of, spelling_of}
 use Rattle.crash_model.specs.Faults.{is_tame, is_wild, is_right_mark, names_block, each_slot, namers, leads_to}
@@ -51,25 +53,49 @@ tame d i s pointer wild = go (is_pointer d i s) (is_data d (pointer_of d i s)) p
     go true false p q = cc
     go false b p q = cc
 
-marked : (tame : Bool) (kind first second i : ℕ) → (tame && not (is_right_mark kind first && eqb second i)) ≡ false
-    → tame ≡ true
-    → ((kind ≡ 1) → (first ≡ 0x46) × (second ≡ i)) × ((kind ≡ 2) → (first ≡ 0x44) × (second ≡ i))
-marked tame kind first second i e t = (
-  λ one. (grind (arith, nat_tests), grind (arith, nat_tests)),
-  λ two. (grind (arith, nat_tests), grind (arith, nat_tests)),
+-- what the tests of a block's first three bytes say
+pub record Marked (d : Disk) (b i mark : ℕ) : Type 0 where
+  pub first : byte d b 0 ≡ mark
+  pub owner : byte d b 1 ≡ i
+  pub generation : mark_generation d b ≡ generation_of d i
+
+marked : (tame : Bool) (kind first second mark generation i : ℕ)
+    → (tame && not (is_right_mark kind first && (eqb second i && eqb mark generation))) ≡ false → tame ≡ true
+    → ((kind ≡ 1) → (first ≡ 0x46) × (second ≡ i) × (mark ≡ generation))
+    × ((kind ≡ 2) → (first ≡ 0x44) × (second ≡ i) × (mark ≡ generation))
+marked tame kind first second mark generation i e t = (
+  λ one. (grind (arith, nat_tests), grind (arith, nat_tests), grind (arith, nat_tests)),
+  λ two. (grind (arith, nat_tests), grind (arith, nat_tests), grind (arith, nat_tests)),
 )
 
-pub mark-file : (d : Disk) (b i : ℕ) → is_data d b ≡ true → byte d b 0 ≡ 0x46 → byte d b 1 ≡ i
+marked_at : (d : Disk) (b c i first : ℕ) → b ≡ c → (byte d b 0 ≡ first) × (byte d b 1 ≡ i)
+    × (mark_generation d b ≡ generation_of d i) → Marked d c i first
+marked_at d b c i first same m = record {
+  first = ap (λ (x : ℕ). byte d x 0) (sym same) ∙ m.0;
+  owner = ap (λ (x : ℕ). byte d x 1) (sym same) ∙ m.1;
+  generation = ap (mark_generation d) (sym same) ∙ m.2;
+}
+
+current : (d : Disk) (b i first : ℕ) → i < 16 → is_data d b ≡ true → Marked d b i first → is_current d b ≡ true
+current d b i first below inside m =
+    let owner : nat_lt (byte d b 1) 16 ≡ true = ap (λ (x : ℕ). nat_lt x 16) m.owner ∙ lt-ltb i 16 below in
+    let same : mark_generation d b ≡ generation_of d (byte d b 1) = m.generation ∙ ap (generation_of d) (sym m.owner) in
+    rw (inside, owner, eq-eqb (mark_generation d b) (generation_of d (byte d b 1)) same) refl
+
+pub mark-file : (d : Disk) (b i : ℕ) → i < 16 → is_data d b ≡ true → Marked d b i 0x46
     → (tables_of d).mark b ≡ FileOf i
 unfolding tables_of
-mark-file d b i inside first second = rw (inside, eq-eqb (byte d b 0) 0x46 first) (ap FileOf second)
+mark-file d b i below inside m =
+    rw (current d b i 0x46 below inside m, eq-eqb (byte d b 0) 0x46 m.first) (ap FileOf m.owner)
 
-pub mark-directory : (d : Disk) (b i : ℕ) → is_data d b ≡ true → byte d b 0 ≡ 0x44 → byte d b 1 ≡ i
+pub mark-directory : (d : Disk) (b i : ℕ) → i < 16 → is_data d b ≡ true → Marked d b i 0x44
     → (tables_of d).mark b ≡ DirectoryOf i
 unfolding tables_of
-mark-directory d b i inside first second =
+mark-directory d b i below inside m =
+    let first = m.first in
+    let second = m.owner in
     rw (
-      inside,
+      current d b i 0x44 below inside m,
       eq-eqb (byte d b 0) 0x44 first,
       ne_eqb (byte d b 0) 0x46
           (λ z. let no : 0x44 ≡ 0x46 = sym first ∙ z in omega arith),
@@ -133,7 +159,8 @@ blocks-sound d disk sound =
     let naming : (i s b : ℕ) → PointerBytes d i s b → names_block d i s b ≡ true =
     λ i s b p. rw (tamed i s b p, eq-eqb (pointer_of d i s) b p.is) refl in
     let marks : (i s b : ℕ) (p : PointerBytes d i s b) → _ = λ i s b p. marked (is_tame d i s) (kind_of d i)
-    (byte d (pointer_of d i s) 0) (byte d (pointer_of d i s) 1) i (clean.no_unwritten i p.in_inodes s p.in_slots)
+    (byte d (pointer_of d i s) 0) (byte d (pointer_of d i s) 1) (mark_generation d (pointer_of d i s))
+    (generation_of d i) i (clean.no_unwritten i p.in_inodes s p.in_slots)
     (tamed i s b p) in
     record {
       slots = λ i s some. (pointer-below d i s some).1;
@@ -149,13 +176,11 @@ blocks-sound d disk sound =
       file_blocks = λ i s b h one.
           let p = bytes i s b h in
           let m = (marks i s b p).0 (sym (kind-at d i p.in_inodes) ∙ one) in
-          mark-file d b i (inside i s b p) (ap (λ (x : ℕ). byte d x 0) (sym p.is) ∙ m.0)
-          (ap (λ (x : ℕ). byte d x 1) (sym p.is) ∙ m.1);
+          mark-file d b i p.in_inodes (inside i s b p) (marked_at d (pointer_of d i s) b i 0x46 p.is m);
       directory_blocks = λ i s b h two.
           let p = bytes i s b h in
           let m = (marks i s b p).1 (sym (kind-at d i p.in_inodes) ∙ two) in
-          mark-directory d b i (inside i s b p) (ap (λ (x : ℕ). byte d x 0) (sym p.is) ∙ m.0)
-          (ap (λ (x : ℕ). byte d x 1) (sym p.is) ∙ m.1);
+          mark-directory d b i p.in_inodes (inside i s b p) (marked_at d (pointer_of d i s) b i 0x44 p.is m);
       in_data_area = λ i s b h. data-block d b (inside i s b (bytes i s b h));
       root_block = pointer-at d 0 0 (omega arith) (omega arith) ∙ sound.root.1.block_is;
       one_block = λ i two.

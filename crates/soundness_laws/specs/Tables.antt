@@ -6,6 +6,7 @@ use Rattle.crash_model.specs.declared.disk_bytes.TheConstants.{FILE_KIND, DIRECT
 use Rattle.crash_model.specs.Disk.{Disk, byte}
 use Rattle.crash_model.specs.Names.{IsName}
 use Rattle.crash_model.specs.Layout.{kind_of, links_of, pointer_of, map_of, is_data, counts, entry_of, spelling_of}
+use Rattle.crash_model.specs.Layout.{generation_of, mark_generation}
 use Rattle.crash_model.specs.Plan.{name_spelling}
 use Rattle.crash_model.specs.View.{View}
 
@@ -14,7 +15,7 @@ pub data Place : Type 0 where
   Free : Place
   Leads : ℕ → List ℕ → Place
 
--- what a block is marked as
+-- what a block is marked as: nothing, or a block of an inode, of the generation that the inode has
 pub data Mark : Type 0 where
   Plain : Mark
   FileOf : ℕ → Mark
@@ -42,6 +43,11 @@ mark_at test first second =
     if test && first == FILE_MARK then FileOf second else if test
     && first == DIRECTORY_MARK then DirectoryOf second else Plain
 
+-- a block of the data area whose mark has the generation of the inode that it names
+abbrev pub is_current : Disk → ℕ → Bool
+is_current d b =
+    is_data d b && (nat_lt (byte d b 1) INODES && mark_generation d b == generation_of d (byte d b 1))
+
 -- f below n, and above it nothing
 abbrev pub within : {X : Type 0} → X → ℕ → (ℕ → X) → ℕ → X
 within none n f j = if nat_lt j n then f j else none
@@ -57,7 +63,7 @@ tables_of d = record {
   links = within 0 16 (links_of d);
   pointer = within (λ _. 0) 16 (λ i. within 0 4 (pointer_of d i));
   used = within false d.blocks (λ b. not (map_of d b == 0));
-  mark = λ b. mark_at (is_data d b) (byte d b 0) (byte d b 1);
+  mark = λ b. mark_at (is_current d b) (byte d b 0) (byte d b 1);
   entry = within (λ _. Free) 16 (λ dir. within Free 10 (place_of d dir));
 }
 
@@ -134,15 +140,25 @@ tables_after_link t dir k i name = with_entry (with_links t i (t.links i + 1)) d
 abbrev pub tables_after_unlink : Tables → ℕ → ℕ → ℕ → ℕ → Tables
 tables_after_unlink t dir k i links = with_links (with_entry t dir k Free) i links
 
--- an inode is gone with its name, and these blocks are in use
-abbrev pub tables_after_removal : Tables → ℕ → ℕ → ℕ → (ℕ → Bool) → Tables
-tables_after_removal t dir k i used = record t {
+-- an inode is gone with its name; these blocks are in use, and marked so
+abbrev pub tables_after_removal : Tables → ℕ → ℕ → ℕ → (ℕ → Bool) → (ℕ → Mark) → Tables
+tables_after_removal t dir k i used mark = record t {
   kind = with_value t.kind i FREE_KIND;
   links = with_value t.links i 0;
   pointer = with_value t.pointer i (λ _. 0);
   used = used;
+  mark = mark;
   entry = with_place t.entry dir k Free;
 }
+
+-- the second marks are the first ones for blocks of all inodes but one
+pub record KeepsMarks (old new : ℕ → Mark) (i : ℕ) : Type 0 where
+  pub files : (b j : ℕ) → j ≢ i → old b ≡ FileOf j → new b ≡ FileOf j
+  pub directories : (b j : ℕ) → j ≢ i → old b ≡ DirectoryOf j → new b ≡ DirectoryOf j
+
+-- a file has no blocks, and these are in use
+abbrev pub tables_after_truncate : Tables → ℕ → (ℕ → Bool) → Tables
+tables_after_truncate t i used = record t { pointer = with_value t.pointer i (λ _. 0); used = used }
 
 -- a new directory with its block
 abbrev pub tables_after_mkdir : Tables → ℕ → ℕ → ℕ → ℕ → List ℕ → Tables

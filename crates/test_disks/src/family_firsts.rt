@@ -1,7 +1,8 @@
 //! The first closed set that a question holds of.
 
 use crate::family_graphs::{chains, is_graph};
-use set_families::{Both, ClosedSets, Either, HasId, LacksId};
+use crate::questions::{Both, Either, HasId, LacksId};
+use set_families::ClosedSets;
 use std::test::Fail;
 
 #[test]

@@ -21,6 +21,8 @@ mod hit_groups;
 #[cfg(test)]
 mod moves;
 #[cfg(test)]
+mod questions;
+#[cfg(test)]
 mod rules_of_groups;
 #[cfg(test)]
 mod sets;

@@ -4,6 +4,7 @@ ghost use Rattle.std.specs.Prelude.{◌≤◌};
 
 use crash_model::refusals::RunFault;
 use crash_text::host::Host;
+use crash_text::notes::Notes;
 use crash_text::run::{Outcome, run};
 use explorers::OpenGate;
 use question_model::{Question, Request};
@@ -14,6 +15,7 @@ use std::test::Fail;
 use std::thread::Threads;
 use test_support::asked::Asked;
 use test_support::refusing::Refusing;
+use test_support::settings::plain_visit;
 
 /// What is run, in text or in JSON, with a limit that is high enough for its sets, or one that is too low for 24.
 #[derive(Drop)]
@@ -46,16 +48,15 @@ where
     let heap = rt.alloc();
     let script = trial.asked.whole_script(heap)?;
     let request = Request {
-        question: Question::Visit,
-        settings: trial.asked.settings(trial.limit(), trial.json),
+        question: Question::Visit(plain_visit(trial.limit())),
+        settings: trial.asked.settings(trial.json),
         workers,
     };
-    let gives_hints = false;
     let host = Host {
         rt,
         heap,
         alloc,
-        gives_hints,
+        notes: Notes::new(false),
     };
     Ok(run(&host, &script, &request, &OpenGate))
 }

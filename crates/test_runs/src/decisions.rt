@@ -23,10 +23,9 @@ const NOT_ENOUGH: &str = "module async\npatches 2\nclosed 4\nenough 0\n\
       fault 1 dangling entry: directory 0 entry 0 inode 1\nset 1\nwrite block 4: 1\n";
 
 #[test]
-fn rules_are_enough_whatever_the_limit(rt: HostRuntime) -> Result<(), Fail> {
+fn rules_are_enough_without_a_visit(rt: HostRuntime) -> Result<(), Fail> {
     for (module, text, number) in [(Module::Soft, ENOUGH, 0), (Module::Async, NOT_ENOUGH, 1)] {
-        let mut settings = plain_settings(module);
-        settings.limit = 1;
+        let settings = plain_settings(module);
         let request = Request {
             question: Question::Enough,
             settings,
@@ -40,10 +39,9 @@ fn rules_are_enough_whatever_the_limit(rt: HostRuntime) -> Result<(), Fail> {
 }
 
 #[test]
-fn more_sets_than_the_limit_are_decided(rt: HostRuntime) -> Result<(), Fail> {
+fn faults_are_decided_without_a_visit(rt: HostRuntime) -> Result<(), Fail> {
     for workers in [1usize, 2, 16] {
-        let mut settings = plain_settings(Module::Async);
-        settings.limit = 1;
+        let settings = plain_settings(Module::Async);
         let request = Request {
             question: Question::Decide,
             settings,

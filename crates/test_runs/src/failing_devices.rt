@@ -15,7 +15,7 @@ use std::alloc::{Allocator, Global};
 use std::process::Abort;
 use std::sync::Wait;
 use std::thread::Threads;
-use test_support::settings::plain_settings;
+use test_support::settings::{plain_settings, plain_visit};
 
 /// A file is created.
 const CREATE: &[u8] = b"start\ncreate /a\n";
@@ -118,7 +118,7 @@ fn served<R: AllocGlobal + Threads + Wait + Sync, S: Source, K: Sink>(
     requires sink { K.failures sink.old < 2 ^ 64 - 1 }
 {
     let request = Request {
-        question: Question::Visit,
+        question: Question::Visit(plain_visit(4096)),
         settings: plain_settings(Module::Async),
         workers: 1,
     };

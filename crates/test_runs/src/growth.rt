@@ -5,14 +5,16 @@
 //! both scripts, so both are cut into as many parts. A third script has 100 closed sets. It is cut into fewer parts, so
 //! with one worker many sets may ask for a little more than that.
 
-ghost use Rattle.std.specs.Prelude.{◌≡◌, ◌≤◌};
+ghost use Rattle.std.specs.Prelude.{◌≤◌};
 
 use crash_model::modules::Module;
 use crash_model::plans::Role;
 use crash_model::rule_lists::RuleList;
 use crash_model::rules::{Rule, RulePart, Scope};
-use crash_model::settings::{Explorer, ReportBy, Settings};
+use crash_model::settings::Settings;
+use crash_model::visit::{Explorer, ReportBy, Visit};
 use crash_text::host::Host;
+use crash_text::notes::Notes;
 use crash_text::run::run;
 use explorers::OpenGate;
 use question_model::{Question, Request};
@@ -98,18 +100,12 @@ const TAKEN_OUT: Rule = Rule {
     scope: Scope::Same,
 };
 
-/// A sweep under soft updates without one rule.
-fn settings(by: ReportBy, limit: usize) -> Settings
-    ensures limit { result.limit ≡ limit }
-    ensures explorer { result.explorer ≡ Explorer.Sweep }
-{
+/// Soft updates without one rule.
+fn settings() -> Settings {
     let mut without = RuleList::new();
     without.push(TAKEN_OUT);
     let mut settings = plain_settings(Module::Soft);
     settings.without = without;
-    settings.limit = limit;
-    settings.explorer = Explorer::Sweep;
-    settings.by = by;
     settings
 }
 
@@ -118,21 +114,25 @@ fn run_counted<R: Abort + AllocGlobal + Threads + Wait + Sync>(
     rt: &R,
     memory: &Refusing<Global>,
     sets: Sets,
-    by: ReportBy,
+    report: ReportBy,
     workers: usize,
 ) -> Result<(), Fail>
     requires { (1 ≤ workers) × (workers ≤ 16) }
 {
     let request = Request {
-        question: Question::Visit,
-        settings: settings(by, sets.limit()),
+        question: Question::Visit(Visit {
+            report,
+            limit: sets.limit(),
+            explorer: Explorer::Sweep,
+        }),
+        settings: settings(),
         workers,
     };
     let host = Host {
         rt,
         heap: rt.alloc(),
         alloc: memory,
-        gives_hints: false,
+        notes: Notes::new(false),
     };
     let outcome = run(&host, sets.script(), &request, &OpenGate)?;
     assert!(rt; outcome.text.as_str().starts_with(sets.head()));
@@ -143,26 +143,26 @@ fn run_counted<R: Abort + AllocGlobal + Threads + Wait + Sync>(
 fn asked_for<R: Abort + AllocGlobal + Threads + Wait + Sync>(
     rt: &R,
     sets: Sets,
-    by: ReportBy,
+    report: ReportBy,
     workers: usize,
 ) -> Result<(u64, u64), Fail>
     requires { (1 ≤ workers) × (workers ≤ 16) }
 {
     let memory = Refusing::new(rt.alloc());
-    run_counted(rt, &memory, sets, by, workers)?;
+    run_counted(rt, &memory, sets, report, workers)?;
     Ok((memory.gauge().asked(), memory.gauge().bytes()))
 }
 
 /// A run on many sets makes as many requests as one on few, for as many bytes.
 fn asks_alike<R: Abort + AllocGlobal + Threads + Wait + Sync>(
     rt: &R,
-    by: ReportBy,
+    report: ReportBy,
     workers: usize,
 ) -> Result<(), Fail>
     requires { (1 ≤ workers) × (workers ≤ 16) }
 {
-    let (few_requests, few_bytes) = asked_for(rt, Sets::Few, by, workers)?;
-    let (requests, bytes) = asked_for(rt, Sets::Many, by, workers)?;
+    let (few_requests, few_bytes) = asked_for(rt, Sets::Few, report, workers)?;
+    let (requests, bytes) = asked_for(rt, Sets::Many, report, workers)?;
     assert!(rt;
         requests == few_requests,
         "{workers} workers: {few_requests} requests, {requests} requests"
@@ -183,10 +183,10 @@ const MORE_BYTES: u64 = 131_072;
 /// One worker asks for little more on 100,000 sets than on 100.
 fn asks_for_little_more<R: Abort + AllocGlobal + Threads + Wait + Sync>(
     rt: &R,
-    by: ReportBy,
+    report: ReportBy,
 ) -> Result<(), Fail> {
-    let (few_requests, few_bytes) = asked_for(rt, Sets::Fewest, by, 1)?;
-    let (requests, bytes) = asked_for(rt, Sets::Many, by, 1)?;
+    let (few_requests, few_bytes) = asked_for(rt, Sets::Fewest, report, 1)?;
+    let (requests, bytes) = asked_for(rt, Sets::Many, report, 1)?;
     assert!(rt;
         requests <= few_requests.saturating_add(MORE_REQUESTS),
         "{few_requests} requests, {requests} requests"

@@ -12,6 +12,8 @@ mod answers;
 #[cfg(test)]
 mod boards;
 #[cfg(test)]
+mod decision_growth;
+#[cfg(test)]
 mod decisions;
 #[cfg(test)]
 mod failing_devices;

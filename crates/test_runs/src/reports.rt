@@ -12,6 +12,7 @@ use std::sync::Wait;
 use std::test::Fail;
 use std::thread::Threads;
 use test_support::asked::Asked;
+use test_support::settings::plain_visit;
 
 /// The report of a lone worker that nothing holds. It has as many failing sets as the reference program says.
 pub fn plain_report<R: Abort + AllocGlobal + Threads + Wait + Sync>(
@@ -36,8 +37,8 @@ pub fn report<R: AllocGlobal + Threads + Wait + Sync, G: Gate + Sync>(
 {
     let script = asked.whole_script(rt.alloc())?;
     let request = Request {
-        question: Question::Visit,
-        settings: asked.settings(4096, json),
+        question: Question::Visit(plain_visit(4096)),
+        settings: asked.settings(json),
         workers,
     };
     Ok(run(&Host::new(rt), &script, &request, gate)?)

@@ -1,28 +1,42 @@
 //! Words of the command line: which explorer, how many workers, and which question.
 
 use command_line::settings_of;
-use crash_model::settings::Explorer;
-use question_model::{Most, Question};
+use crash_model::visit::{Explorer, ReportBy, Visit};
+use question_model::{Question, WorkloadLength};
 use std::test::Fail;
+
+/// The visit that no word asks for.
+const PLAIN: Visit = Visit {
+    report: ReportBy::BySet,
+    limit: 4096,
+    explorer: Explorer::Auto,
+};
 
 /// Words, and the question that they ask.
 const ASKED: [(&[&str], Question); 8] = [
-    (&[], Question::Visit),
-    (&["--summary", "--limit=1"], Question::Visit),
+    (&[], Question::Visit(PLAIN)),
+    (
+        &["--summary", "--limit=1"],
+        Question::Visit(Visit {
+            report: ReportBy::ByFault,
+            limit: 1,
+            explorer: Explorer::Auto,
+        }),
+    ),
     (&["--decide", "--workers=2", "--strict"], Question::Decide),
     (&["--enough", "--workers=2", "--strict"], Question::Enough),
-    (&["--search=1"], Question::Search(Most::One)),
+    (&["--search=1"], Question::Search(WorkloadLength::One)),
     (
         &["--strict", "--search", "8"],
-        Question::Search(Most::Eight),
+        Question::Search(WorkloadLength::Eight),
     ),
     (
         &["--search=3", "--enough"],
-        Question::SearchRules(Most::Three),
+        Question::SearchRules(WorkloadLength::Three),
     ),
     (
         &["--enough", "--strict", "--search", "7"],
-        Question::SearchRules(Most::Seven),
+        Question::SearchRules(WorkloadLength::Seven),
     ),
 ];
 
@@ -42,10 +56,12 @@ const EXPLORED: [(&[&str], Explorer, usize); 4] = [
 fn explorers_and_workers_are_read(rt: HostRuntime) -> Result<(), Fail> {
     for (words, explorer, workers) in EXPLORED {
         let call = settings_of(rt.alloc(), words)?;
+        let visit = Visit { explorer, ..PLAIN };
         assert!(rt;
-            call.request.settings.explorer == explorer && call.request.workers == workers,
+            call.request.question == Question::Visit(visit),
             "{workers}"
         );
+        assert!(rt; call.request.workers == workers);
     }
     Ok(())
 }

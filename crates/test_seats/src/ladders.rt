@@ -2,7 +2,7 @@
 
 ghost use Rattle.std.specs.Prelude.{◌<◌, ◌≤◌};
 
-use explorers::{ExploreFault, Gate, OpenGate, Room, explore};
+use explorers::{ExploreFault, Gate, OpenGate, Room, explore, explore_in_room};
 use state_space::MAX_BOARD;
 use std::alloc::{AllocError, Global};
 use std::process::Abort;
@@ -38,7 +38,8 @@ fn in_canonical_order(alloc: Global, first: u128, last: u128) -> Result<Vec<u128
     Ok(words)
 }
 
-/// Whether this many workers find a space with exactly as many words as the limit, and these broken words.
+/// Whether this many workers find a space with exactly as many words as the limit, and these broken words, and claim
+/// each word once.
 fn is_found<K: Shape + Sync, R: Threads + Wait + AllocGlobal + Sync>(
     rt: &R,
     space: &Small<K>,
@@ -49,18 +50,12 @@ fn is_found<K: Shape + Sync, R: Threads + Wait + AllocGlobal + Sync>(
     requires total { (1 ≤ total) × (total ≤ MAX_BOARD) }
     requires workers { (1 ≤ workers) × (workers ≤ 16) }
 {
-    let found = explore(
-        rt,
-        rt.alloc(),
-        space,
-        Room::for_any(total),
-        workers,
-        &OpenGate,
-    )?;
-    Ok(found.total == total && found.broken.as_slice() == broken)
+    let exploring = explore(rt, rt.alloc(), space, total, workers, &OpenGate);
+    let found = exploring.found?;
+    Ok(exploring.claims == total && found.total == total && found.broken.as_slice() == broken)
 }
 
-/// Whether a space is refused that has more words than this limit.
+/// Whether a space is refused that has one more word than this limit, with no more claims than words.
 fn is_refused<K: Shape + Sync, R: Threads + Wait + AllocGlobal + Sync>(
     rt: &R,
     space: &Small<K>,
@@ -70,15 +65,8 @@ fn is_refused<K: Shape + Sync, R: Threads + Wait + AllocGlobal + Sync>(
     requires limit { (1 ≤ limit) × (limit ≤ MAX_BOARD) }
     requires workers { (1 ≤ workers) × (workers ≤ 16) }
 {
-    let refused = explore(
-        rt,
-        rt.alloc(),
-        space,
-        Room::for_any(limit),
-        workers,
-        &OpenGate,
-    );
-    matches!(&refused, Err(ExploreFault::TooMany))
+    let refused = explore(rt, rt.alloc(), space, limit, workers, &OpenGate);
+    refused.claims <= limit + 1 && matches!(&refused.found, Err(ExploreFault::TooMany))
 }
 
 #[test]
@@ -143,8 +131,9 @@ fn claims_each_once<K: Shape + Sync, R: Threads + Wait + Abort + AllocGlobal + S
     let counter = Counter {
         claims: AtomicU64::new(0),
     };
-    let total = explore(rt, rt.alloc(), space, room, workers, &counter)?.total;
-    assert!(rt; total == words && counter.claims.load(Ordering::SeqCst) == words as u64);
+    let exploring = explore_in_room(rt, rt.alloc(), space, room, workers, &counter);
+    assert!(rt; exploring.found?.total == words && exploring.claims == words);
+    assert!(rt; counter.claims.load(Ordering::SeqCst) == words as u64);
     Ok(())
 }
 
@@ -178,7 +167,9 @@ fn two_workers_meet(rt: HostRuntime) -> Result<(), Fail> {
         good_to: 3,
     });
     let meeting = Meeting::new(2, 1 << 2);
-    let total = explore(&rt, rt.alloc(), &ladder, Room::for_any(4), 2, &meeting)?.total;
+    let total = explore(&rt, rt.alloc(), &ladder, 4, 2, &meeting)
+        .found?
+        .total;
     assert!(rt; total == 4 && meeting.was_held());
     Ok(())
 }

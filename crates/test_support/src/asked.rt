@@ -1,10 +1,8 @@
 //! Scripts with what an independent reference program counts in their reports. The reports are files of `cases/`.
 
-ghost use Rattle.std.specs.Prelude.{◌≡◌};
-
 use crate::settings::plain_settings;
 use crash_model::modules::Module;
-use crash_model::settings::{Explorer, Settings};
+use crash_model::settings::Settings;
 use std::alloc::{AllocError, Global};
 
 /// A script with its settings, and what the reference program counts.
@@ -40,16 +38,12 @@ impl Asked {
         Ok(script)
     }
 
-    /// The settings, with the most closed sets that there may be.
-    pub fn settings(&self, limit: usize, json: bool) -> Settings
-        ensures limit { result.limit ≡ limit }
-        ensures explorer { result.explorer ≡ Explorer.Auto }
-    {
+    /// The settings, for a report in text or in JSON.
+    pub fn settings(&self, json: bool) -> Settings {
         let mut settings = plain_settings(self.module);
         settings.blocks = self.blocks;
         settings.journal = self.journal;
         settings.strict = self.strict;
-        settings.limit = limit;
         settings.json = json;
         settings
     }

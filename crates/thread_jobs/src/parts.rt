@@ -92,7 +92,7 @@ impl<'a, J: PartJob, A: Allocator + Copy> Job for Drawing<'a, J, A> {
     ghost is_ready = { λ j list. ((n : ℕ) → n < j.parts → J.may_do j.job.now n)
         × All (IsDrawn (J.is_part j.job.now) j.parts) list.items };
 
-    ghost is_left = { λ j left. IfOk left (λ list. All (IsDrawn (J.is_part j.job.now) j.parts) list.items) };
+    ghost is_left = { λ j began left. IfOk left (λ list. All (IsDrawn (J.is_part j.job.now) j.parts) list.items) };
 
     fn work(&self, list: Vec<Drawn<J::Part>, A>) -> Result<Vec<Drawn<J::Part>, A>, AllocError> {
         self.draw_parts(list)

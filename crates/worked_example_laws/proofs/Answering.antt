@@ -6,8 +6,8 @@ use Rattle.std.proofs.lemmas.Bool.{and_parts, leb-true, le-leb, ltb-true}
 use Rattle.patch_sets.proofs.Ids.{eq_from_true}
 use Rattle.report_model.specs.Report.{Detail}
 use Rattle.report_model.specs.Answer as answers
-use Rattle.report_model.specs.Answer.{Refused, Reported, HasBase, HasGraph, IsAnswer, detail_of, ordering_rules}
-use Rattle.crash_model.specs.Disk.{Disk, empty_disk, IsGeometry}
+use Rattle.report_model.specs.Answer.{Refused, Reported, HasBase, HasGraph, detail_of, ordering_rules}
+use Rattle.crash_model.specs.Disk.{Disk, new_disk, IsGeometry}
 use Rattle.crash_model.specs.Patches.{deps_of}
 use Rattle.crash_model.specs.Refusals.{run_of_trace}
 use Rattle.crash_model.specs.Reasons.{explanation}
@@ -17,7 +17,6 @@ use Rattle.crash_model.specs.Trace.{trace_start, trace_from, base_from}
 use Rattle.crash_model.specs.declared.refusals.TraceFault.{TraceFault}
 use Rattle.crash_model.specs.declared.refusals.RunFault.TheVariants.{BadGeometry, TooMany}
 use Rattle.crash_model.specs.declared.settings.Settings.{Settings}
-use Rattle.crash_model.specs.declared.settings.ReportBy.TheVariants.{BySet}
 use Rattle.crash_model.specs.declared.steps.Act.{Act}
 use Rattle.report_model.proofs.Leading.{failing_closed, closed_are_left, sections_lead}
 use Rattle.worked_example_laws.specs.Computed.{closed_sets, failing_under, demands_of, are_in_order}
@@ -25,7 +24,7 @@ use Rattle.worked_example_laws.specs.Computed.{trace_of, is_accepted}
 use Rattle.worked_example_laws.specs.Computed.{section_of, have_runs}
 use Rattle.worked_example_laws.specs.Examples.{numbered_steps}
 use Rattle.worked_example_laws.specs.Spelled.{are_acts, script, base_or, base_of, has_base, trace_steps, graph}
-use Rattle.worked_example_laws.specs.Spelled.{is_geometry, is_told}
+use Rattle.worked_example_laws.specs.Spelled.{is_geometry, is_told, IsListed}
 use Rattle.worked_example_laws.proofs.FailingSets.{accepted_is, counts_closed, all_under, failing_quickly_under}
 use Rattle.worked_example_laws.proofs.FailingSets.{failing_under_are}
 use Rattle.worked_example_laws.proofs.Graphs.{earlier, graph_is}
@@ -51,17 +50,17 @@ based_is d (Ok base) e = refl
 -- the disk at the start line, and the graph of the steps after it
 module _ (settings : Settings) (before after : List Act) (read : are_acts before ≡ true)
     (read_too : are_acts after ≡ true) (geometry : is_geometry settings ≡ true) where
-  pub start : has_base (base_from (empty_disk settings.blocks settings.journal) (numbered_steps 1 before)) ≡ true
+  pub start : has_base (base_from (new_disk settings.blocks settings.journal settings.generations) (numbered_steps 1 before)) ≡ true
       → HasBase (script before after) settings (base_of settings before) (trace_steps before after)
   start whole = record {
     before = numbered_steps 1 before;
     read = script_is before after read read_too;
     geometry = geometry_if settings geometry;
-    built = based_is (empty_disk settings.blocks settings.journal)
-        (base_from (empty_disk settings.blocks settings.journal) (numbered_steps 1 before)) whole;
+    built = based_is (new_disk settings.blocks settings.journal settings.generations)
+        (base_from (new_disk settings.blocks settings.journal settings.generations) (numbered_steps 1 before)) whole;
   }
 
-  pub has_graph : has_base (base_from (empty_disk settings.blocks settings.journal) (numbered_steps 1 before)) ≡ true
+  pub has_graph : has_base (base_from (new_disk settings.blocks settings.journal settings.generations) (numbered_steps 1 before)) ≡ true
       → is_accepted (trace_from settings.module (trace_start settings.whole_blocks (base_of settings before))
       (trace_steps before after))
       ≡ true
@@ -79,24 +78,24 @@ module _ (settings : Settings) (before after : List Act) (read : are_acts before
       }
 
 -- an act before the start line is refused
-pub refused_base : (settings : Settings) (before after : List Act) (fault : TraceFault)
+pub refused_base : (settings : Settings) (limit : ℕ) (before after : List Act) (fault : TraceFault)
     → are_acts before ≡ true → are_acts after ≡ true → is_geometry settings ≡ true
-    → base_from (empty_disk settings.blocks settings.journal) (numbered_steps 1 before) ≡ Err fault
-    → IsAnswer (script before after) settings (Refused (run_of_trace fault))
-refused_base settings before after fault read read_too geometry is =
-    answers.bad_base (numbered_steps 1 before) (trace_steps before after) fault (script_is before after read read_too)
-    (geometry_if settings geometry) is
+    → base_from (new_disk settings.blocks settings.journal settings.generations) (numbered_steps 1 before) ≡ Err fault
+    → IsListed (script before after) settings limit (Refused (run_of_trace fault))
+refused_base settings limit before after fault read read_too geometry is =
+    answers.untraced _ (answers.bad_base (numbered_steps 1 before) (trace_steps before after) fault
+    (script_is before after read read_too) (geometry_if settings geometry) is)
 
 -- an act after it is refused
-pub refused_trace : (settings : Settings) (before after : List Act) (fault : TraceFault)
+pub refused_trace : (settings : Settings) (limit : ℕ) (before after : List Act) (fault : TraceFault)
     → are_acts before ≡ true → are_acts after ≡ true → is_geometry settings ≡ true
-    → has_base (base_from (empty_disk settings.blocks settings.journal) (numbered_steps 1 before)) ≡ true
+    → has_base (base_from (new_disk settings.blocks settings.journal settings.generations) (numbered_steps 1 before)) ≡ true
     → trace_from settings.module (trace_start settings.whole_blocks (base_of settings before))
     (trace_steps before after) ≡ Err fault
-    → IsAnswer (script before after) settings (Refused (run_of_trace fault))
-refused_trace settings before after fault read read_too geometry whole is =
-    answers.bad_trace (base_of settings before) (trace_steps before after) fault
-    (start settings before after read read_too geometry whole) is
+    → IsListed (script before after) settings limit (Refused (run_of_trace fault))
+refused_trace settings limit before after fault read read_too geometry whole is =
+    answers.untraced _ (answers.bad_trace (base_of settings before) (trace_steps before after) fault
+    (start settings before after read read_too geometry whole) is)
 
 -- how much is reported of a set
 abbrev pub told_detail : Settings → List Act → List Act → Detail
@@ -104,29 +103,28 @@ told_detail settings before after = detail_of settings
     (demands_of settings.strict settings.atomic (base_of settings before) (trace_steps before after))
 
 -- the same test as `is_told`, in fewer steps
-abbrev pub is_told_quickly : Settings → List Act → List Act → ℕ → List ℕ → Bool
-is_told_quickly settings before after closed failing =
+abbrev pub is_told_quickly : Settings → ℕ → List Act → List Act → ℕ → List ℕ → Bool
+is_told_quickly settings limit before after closed failing =
     let base = base_of settings before in
     let patches = graph settings before after in
     are_acts before && (are_acts after && (is_geometry settings
-    && (has_base (base_from (empty_disk settings.blocks settings.journal) (numbered_steps 1 before))
+    && (has_base (base_from (new_disk settings.blocks settings.journal settings.generations) (numbered_steps 1 before))
     && (is_accepted (trace_from settings.module (trace_start settings.whole_blocks base) (trace_steps before after))
     && ((length (closed_sets (deps_of patches)) == closed)
     && (are_in_order (length (deps_of patches)) failing
     (failing_quickly_under (demands_of settings.strict settings.atomic base (trace_steps before after)) base patches)
-    && (nat_le closed settings.limit && have_runs patches failing)))))))
+    && (nat_le closed limit && have_runs patches failing)))))))
 
-quickly_is : (settings : Settings) (before after : List Act) (closed : ℕ) (failing : List ℕ)
-    → is_told_quickly settings before after closed failing ≡ is_told settings before after closed failing
-quickly_is settings before after closed failing =
+quickly_is : (settings : Settings) (limit : ℕ) (before after : List Act) (closed : ℕ) (failing : List ℕ)
+    → is_told_quickly settings limit before after closed failing ≡ is_told settings limit before after closed failing
+quickly_is settings limit before after closed failing =
     let base = base_of settings before in
     rw (failing_under_are (demands_of settings.strict settings.atomic base (trace_steps before after)) base
     (graph settings before after)) refl
 
 -- the report, of each failing set
-pub reported : (settings : Settings) (before after : List Act) (closed : ℕ) (failing : List ℕ) (text : List ℕ)
-    → is_told_quickly settings before after closed failing ≡ true
-    → settings.by ≡ BySet
+pub reported : (settings : Settings) (limit : ℕ) (before after : List Act) (closed : ℕ) (failing : List ℕ) (text : List ℕ)
+    → is_told_quickly settings limit before after closed failing ≡ true
     → text ≡ report settings (record {
       patches = length (graph settings before after);
       closed = closed;
@@ -137,11 +135,11 @@ pub reported : (settings : Settings) (before after : List Act) (closed : ℕ) (f
       body = Sets (map (section_of (told_detail settings before after) (base_of settings before)
           (graph settings before after)) failing);
     })
-    → IsAnswer (script before after) settings (Reported text (length failing))
+    → IsListed (script before after) settings limit (Reported text (length failing))
 unfolding has_graph
-reported settings before after closed failing text told_quickly by_set is =
-    let told : is_told settings before after closed failing ≡ true =
-    sym (quickly_is settings before after closed failing) ∙ told_quickly in
+reported settings limit before after closed failing text told_quickly is =
+    let told : is_told settings limit before after closed failing ≡ true =
+    sym (quickly_is settings limit before after closed failing) ∙ told_quickly in
     let base = base_of settings before in
     let steps = trace_steps before after in
     let last = trace_of settings.module settings.whole_blocks base steps in
@@ -151,36 +149,42 @@ reported settings before after closed failing text told_quickly by_set is =
     let one = and_parts (are_acts before) _ told in
     let two = and_parts (are_acts after) _ one.1 in
     let three = and_parts (is_geometry settings) _ two.1 in
-    let four = and_parts (has_base (base_from (empty_disk settings.blocks settings.journal) (numbered_steps 1 before)))
+    let four = and_parts (has_base (base_from (new_disk settings.blocks settings.journal settings.generations) (numbered_steps 1 before)))
     _ three.1 in
     let five = and_parts (is_accepted (trace_from settings.module (trace_start settings.whole_blocks base) steps)) _
     four.1 in
     let six = and_parts (length (closed_sets (deps_of patches)) == closed) _ five.1 in
     let seven = and_parts (are_in_order (length (deps_of patches)) failing (failing_under demands base patches))
-    (nat_le closed settings.limit && have_runs patches failing) six.1 in
-    let eight = and_parts (nat_le closed settings.limit) (have_runs patches failing) seven.1 in
+    (nat_le closed limit && have_runs patches failing) six.1 in
+    let eight = and_parts (nat_le closed limit) (have_runs patches failing) seven.1 in
     let first = earlier (ordering_rules settings) base last in
     let exactly = all_under demands base patches failing first seven.0 in
     let are_closed = failing_closed demands base patches failing exactly in
     let sections = sections_if detail base patches failing eight.1 in
-    answers.reported demands base last patches text (length failing)
-    (has_graph settings before after one.0 two.0 three.0 four.0 five.0)
-    (are_demands settings.strict settings.atomic base steps) (record {
-      total = closed;
-      counted = counts_closed patches closed first (eq_from_true _ _ six.0);
-      within = leb-true closed settings.limit eight.0;
-      sets = failing;
-      exactly = exactly;
-      left = closed_are_left base patches first failing are_closed;
-      number = refl;
-      body = Sets (map (section_of detail base patches) failing);
-      told = (
-        by_set,
-        sections,
-        sections_lead base patches first detail failing
-            (map (section_of detail base patches) failing) are_closed sections,
-      );
-      whole = is;
+    answers.reported text (length failing) (record {
+      demands = demands;
+      base = base;
+      last = last;
+      patches = patches;
+      graph = has_graph settings before after one.0 two.0 three.0 four.0 five.0;
+      demanded = are_demands settings.strict settings.atomic base steps;
+      report = record {
+        total = closed;
+        counted = counts_closed patches closed first (eq_from_true _ _ six.0);
+        within = leb-true closed limit eight.0;
+        sets = failing;
+        exactly = exactly;
+        left = closed_are_left base patches first failing are_closed;
+        number = refl;
+        body = Sets (map (section_of detail base patches) failing);
+        told = (
+          refl,
+          sections,
+          sections_lead base patches first detail failing
+              (map (section_of detail base patches) failing) are_closed sections,
+        );
+        whole = is;
+      };
     })
 
 -- a disk that can't be
@@ -196,23 +200,23 @@ no_geometry settings none g =
     (le-leb settings.blocks 128 g.most) (le-leb (settings.journal + 6) settings.blocks g.room)) in
     cc
 
-pub refused_geometry : (settings : Settings) (before after : List Act) → are_acts before ≡ true
+pub refused_geometry : (settings : Settings) (limit : ℕ) (before after : List Act) → are_acts before ≡ true
     → are_acts after ≡ true
-    → is_geometry settings ≡ false → IsAnswer (script before after) settings (Refused BadGeometry)
-refused_geometry settings before after read read_too none =
-    answers.bad_geometry (numbered_steps 1 before) (trace_steps before after) (script_is before after read read_too)
-    (no_geometry settings none)
+    → is_geometry settings ≡ false → IsListed (script before after) settings limit (Refused BadGeometry)
+refused_geometry settings limit before after read read_too none =
+    answers.untraced _ (answers.bad_geometry (numbered_steps 1 before) (trace_steps before after)
+    (script_is before after read read_too) (no_geometry settings none))
 
 -- more closed sets than the limit
-pub refused_limit : (settings : Settings) (before after : List Act)
+pub refused_limit : (settings : Settings) (limit : ℕ) (before after : List Act)
     → are_acts before ≡ true → are_acts after ≡ true → is_geometry settings ≡ true
-    → has_base (base_from (empty_disk settings.blocks settings.journal) (numbered_steps 1 before)) ≡ true
+    → has_base (base_from (new_disk settings.blocks settings.journal settings.generations) (numbered_steps 1 before)) ≡ true
     → is_accepted (trace_from settings.module (trace_start settings.whole_blocks (base_of settings before))
     (trace_steps before after))
     ≡ true
-    → nat_lt settings.limit (length (closed_sets (deps_of (graph settings before after)))) ≡ true
-    → IsAnswer (script before after) settings (Refused TooMany)
-refused_limit settings before after read read_too geometry whole run more =
+    → nat_lt limit (length (closed_sets (deps_of (graph settings before after)))) ≡ true
+    → IsListed (script before after) settings limit (Refused TooMany)
+refused_limit settings limit before after read read_too geometry whole run more =
     let base = base_of settings before in
     let patches = graph settings before after in
     let last = trace_of settings.module settings.whole_blocks base (trace_steps before after) in
@@ -221,6 +225,6 @@ refused_limit settings before after read read_too geometry whole run more =
     answers.too_many base last patches (has_graph settings before after read read_too geometry whole run) (
       all.0,
       record { distinct = all.1.distinct; each = all.1.each },
-      subst (λ (n : ℕ). settings.limit < n) (sym all.2) (ltb-true settings.limit
+      subst (λ (n : ℕ). limit < n) (sym all.2) (ltb-true limit
           (length (closed_sets (deps_of patches))) more),
     )

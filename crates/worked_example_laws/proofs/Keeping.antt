@@ -40,24 +40,10 @@ module _ (base : Disk) (steps : List Step) where
         | inr gone ↦ gone
       ]
 
-  kept_one : (kept other : ℕ) → IsKept base steps kept → IsKept base steps other → kept ≡ other
-  kept_one kept other is also = same_set kept other (within kept other is also) (within other kept also is)
-    where
-      within : (a b : ℕ) → IsKept base steps a → IsKept base steps b → (id : ℕ) → Has a id → Has b id
-      within a b is_a is_b id there = eqb-true (bit_at b id) 1
-          (is_b id ∙ (sym (is_a id) ∙ eq-eqb (bit_at a id) 1 there))
-
 pub is_told_kept : (strict : Bool) (base : Disk) (steps : List Step)
     → IsToldKept strict base steps (kept_of strict base steps)
 is_told_kept false base steps = refl
 is_told_kept true base steps = (refl, kept_is base steps)
-
-pub one_kept : (strict : Bool) (base : Disk) (steps : List Step) (kept other : Option ℕ)
-    → IsToldKept strict base steps kept → IsToldKept strict base steps other → kept ≡ other
-one_kept strict base steps None None is also = refl
-one_kept strict base steps None (Some other) is also = absurd (false≢true (sym is ∙ also.0))
-one_kept strict base steps (Some kept) None is also = absurd (false≢true (sym also ∙ is.0))
-one_kept strict base steps (Some kept) (Some other) is also = ap Some (kept_one base steps kept other is.1 also.1)
 
 are_shown : (atomic : Bool) (base : Disk) (steps : List Step)
     → shown_of atomic base steps ≡ when atomic (disks_of base steps)
@@ -70,11 +56,3 @@ are_demands strict atomic base steps = record {
   kept = is_told_kept strict base steps;
   disks = are_shown atomic base steps;
 }
-
-pub one_demands : (strict atomic : Bool) (base : Disk) (steps : List Step) (demands other : Demands)
-    → AreDemands strict atomic base steps demands → AreDemands strict atomic base steps other → demands ≡ other
-one_demands strict atomic base steps demands other is also =
-    let demanding : Option ℕ → Option (List Disk) → Demands = λ kept disks. record { kept = kept; disks = disks } in
-    ap (λ (kept : Option ℕ). demanding kept demands.disks)
-    (one_kept strict base steps demands.kept other.kept is.kept also.kept)
-    ∙ ap (λ (disks : Option (List Disk)). demanding other.kept disks) (is.disks ∙ sym also.disks)

@@ -7,11 +7,6 @@ pub mod Runs
 pub mod Spelling
 pub mod Keeping
 pub mod Answering
-pub mod Pieces
-pub mod Acts
-pub mod Readings
-pub mod Scripts
-pub mod OneGraph
 pub mod OneBody
 pub mod OneAnswer
 pub mod Refused

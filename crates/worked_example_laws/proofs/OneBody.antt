@@ -33,9 +33,9 @@ use Rattle.crash_model.specs.declared.fault.FaultRow.{FaultRow}
 use Rattle.crash_model.specs.declared.patches.Patch.{Patch}
 use Rattle.crash_model.specs.declared.rules.Rule.{Rule}
 use Rattle.crash_model.specs.declared.settings.Settings.{Settings}
-use Rattle.crash_model.specs.declared.settings.ReportBy.{ReportBy}
-use Rattle.crash_model.specs.declared.settings.ReportBy.TheVariants.{BySet, ByFault, ByRule}
-use Rattle.worked_example_laws.proofs.OneGraph.{graph_one, heads, tails}
+use Rattle.crash_model.specs.declared.visit.ReportBy.{ReportBy}
+use Rattle.crash_model.specs.declared.visit.ReportBy.TheVariants.{BySet, ByFault, ByRule}
+use Rattle.uniqueness_laws.proofs.OneGraph.{graph_one, heads, tails}
 use Rattle.worked_example_laws.proofs.Sets.{order}
 
 -- ---- sections
@@ -276,20 +276,20 @@ set_or_rule by p q = cc
 fault_or_rule : (by : ReportBy) → by ≡ ByFault → by ≡ ByRule → ⊥
 fault_or_rule by p q = cc
 
-module _ (settings : Settings) (demands : Demands) (base : Disk) (last : Tracing) (patches : List Patch)
-    (sets : List ℕ) where
-  pub body_one : (x y : Body) → IsBody settings demands base last patches sets x
-      → IsBody settings demands base last patches sets y → x ≡ y
+module _ (settings : Settings) (by : ReportBy) (limit : ℕ) (demands : Demands) (base : Disk) (last : Tracing)
+    (patches : List Patch) (sets : List ℕ) where
+  pub body_one : (x y : Body) → IsBody settings by limit demands base last patches sets x
+      → IsBody settings by limit demands base last patches sets y → x ≡ y
   body_one (Sets xs) (Sets ys) is also = ap Sets (sections_one (detail_of settings demands) base patches sets xs ys is.1
       also.1)
-  body_one (Sets xs) (Faults ys) is also = absurd (set_or_fault settings.by is.0 also.0)
-  body_one (Sets xs) (Rules ys) is also = absurd (set_or_rule settings.by is.0 also.0)
-  body_one (Faults xs) (Sets ys) is also = absurd (set_or_fault settings.by also.0 is.0)
+  body_one (Sets xs) (Faults ys) is also = absurd (set_or_fault by is.0 also.0)
+  body_one (Sets xs) (Rules ys) is also = absurd (set_or_rule by is.0 also.0)
+  body_one (Faults xs) (Sets ys) is also = absurd (set_or_fault by also.0 is.0)
   body_one (Faults xs) (Faults ys) is also = ap Faults (told_faults_one (detail_of settings demands) base patches xs ys
       is.1 also.1)
-  body_one (Faults xs) (Rules ys) is also = absurd (fault_or_rule settings.by is.0 also.0)
-  body_one (Rules xs) (Sets ys) is also = absurd (set_or_rule settings.by also.0 is.0)
-  body_one (Rules xs) (Faults ys) is also = absurd (fault_or_rule settings.by also.0 is.0)
+  body_one (Faults xs) (Rules ys) is also = absurd (fault_or_rule by is.0 also.0)
+  body_one (Rules xs) (Sets ys) is also = absurd (set_or_rule by also.0 is.0)
+  body_one (Rules xs) (Faults ys) is also = absurd (fault_or_rule by also.0 is.0)
   body_one (Rules xs) (Rules ys) is also =
-      ap Rules (told_rules_one (detail_of settings demands) settings.limit (ordering_rules settings) base last patches
+      ap Rules (told_rules_one (detail_of settings demands) limit (ordering_rules settings) base last patches
       (ordering_rules settings) xs ys is.1 also.1)

@@ -10,7 +10,7 @@ use Rattle.crash_model.specs.Disk.{Disk, byte, block_of}
 use Rattle.crash_model.specs.Faults.{each_slot, each_entry, namers, entries_to, faults, is_twice, has_low_links}
 use Rattle.crash_model.specs.Faults.{is_dangling, is_unwritten, is_marked_free, is_wild, is_right_mark, names_block}
 use Rattle.crash_model.specs.Faults.{leads_to}
-use Rattle.crash_model.specs.Layout.{kind_of, links_of, map_of, pointer_of, is_live, is_data, is_pointer, counts}
+use Rattle.crash_model.specs.Layout.{is_owned, kind_of, links_of, map_of, pointer_of, is_live, is_data, is_pointer, counts}
 use Rattle.crash_model.specs.Layout.{is_entry, entry_offset, target_of}
 use Rattle.crash_model.specs.Lists.{each_below, some_below, when}
 use Rattle.crash_model.specs.Replay.{headers, copy_after, image_after_replay}
@@ -68,7 +68,7 @@ names d block p = when (is_data d p.2 && p.2 == block) (p.0, p.1)
 
 abbrev unwritten : Disk → Pointer → Option Fault
 unwritten d p =
-    when (is_data d p.2 && not (is_right_mark (kind_of d p.0) (byte d p.2 0) && byte d p.2 1 == p.0))
+    when (is_data d p.2 && not (is_right_mark (kind_of d p.0) (byte d p.2 0) && is_owned d p.2 p.0))
     (Unwritten p.0 p.1 p.2)
 
 abbrev marked_free : Disk → Pointer → Option Fault
@@ -204,7 +204,7 @@ module _ (d : Disk) where
   unwritten_are = of_pointers (unwritten d) (λ inode slot. when (is_unwritten d inode slot)
       (Unwritten inode slot (pointer_of d inode slot)))
       (λ i k. if_both (unwritten d) (is_pointer d i k) (is_data d (pointer_of d i k))
-      (not (is_right_mark (kind_of d i) (byte d (pointer_of d i k) 0) && byte d (pointer_of d i k) 1 == i))
+      (not (is_right_mark (kind_of d i) (byte d (pointer_of d i k) 0) && is_owned d (pointer_of d i k) i))
       (i, k, pointer_of d i k) (Unwritten i k (pointer_of d i k)) refl)
 
   marked_free_are : filter_map (marked_free d) (pointers d)

@@ -9,17 +9,18 @@ use Rattle.std.proofs.lemmas.List.Elements.{All-nil, All-cons}
 use Rattle.std.proofs.lemmas.Str.{IsUtf8-from_is_utf8, is_utf8-from_IsUtf8}
 use Rattle.patch_sets.proofs.Ids.{ne_from_false}
 use Rattle.crash_model.specs.Names.{is_group_byte}
-use Rattle.crash_model.specs.Script.{ArePlain, AreLines, Operand, PathOperand, GroupOperand, said, Fits, HasPaths, Line}
-use Rattle.crash_model.specs.Script.{Skipped, Start, Reads, IsSkipped, AreAccepted, IsFirstRefused, IsBadLine}
-use Rattle.crash_model.specs.Script.{IsBadPath, IsScriptRefusal, text_of_lines}
+use Rattle.crash_model.specs.Script.{ArePlain, AreLines, Operand, PathOperand, GroupOperand, SlotOperand, said, Fits}
+use Rattle.crash_model.specs.Script.{HasPaths, HasSlots, Line, Skipped, Start, Reads, IsSkipped, AreAccepted}
+use Rattle.crash_model.specs.Script.{IsFirstRefused, IsBadLine, IsBadPath, IsScriptRefusal, text_of_lines}
 use Rattle.crash_model.specs.declared.refusals.ScriptFault.TheVariants.{BadUtf8, BadLine, BadPath, NoStart}
 use Rattle.crash_model.specs.declared.steps.Act.{Act}
 use Rattle.worked_example_laws.specs.Examples.{numbered_steps}
-use Rattle.worked_example_laws.specs.Spelled.{is_word, is_plain, line_of, lines_of, are_acts}
-use Rattle.worked_example_laws.proofs.Pieces.{pieces}
-use Rattle.worked_example_laws.proofs.Readings.{begins_comment, says, reads_says, fit, are_formed, form_at, no_form}
-use Rattle.worked_example_laws.proofs.Readings.{read_as}
-use Rattle.worked_example_laws.proofs.Scripts.{each_reads, no_start, get_contains, steps_accepted}
+use Rattle.uniqueness_laws.specs.Words.{is_word}
+use Rattle.worked_example_laws.specs.Spelled.{is_plain, line_of, lines_of, are_acts}
+use Rattle.uniqueness_laws.proofs.Pieces.{pieces}
+use Rattle.uniqueness_laws.proofs.Readings.{begins_comment, says, reads_says, fit, are_formed, form_at, no_form}
+use Rattle.uniqueness_laws.proofs.Readings.{read_as}
+use Rattle.uniqueness_laws.proofs.Scripts.{each_reads, no_start, get_contains, steps_accepted}
 use Rattle.worked_example_laws.proofs.Spelling.{word_if, not_false, lacks_if, plain_lines, steps_are}
 
 -- ---- lines
@@ -88,7 +89,12 @@ pub bad_line_if : (before : List (List ℕ)) (line : List ℕ) → is_telling li
     → are_formed (pieces 32 line) ≡ false
     → IsBadLine before line
 bad_line_if before line e none = let told = telling line e in
-    inl (told.utf8, told.other Skipped, told.other Start, no_form line none)
+    inl (
+      told.utf8,
+      told.other Skipped,
+      told.other Start,
+      (λ like words form. absurd (no_form line none like words form)),
+    )
 
 -- ---- text of a form, in which a word is no path
 
@@ -98,6 +104,13 @@ fits_if [] (word ∷ words) e = cc
 fits_if (PathOperand p ∷ operands) [] e = cc
 fits_if (PathOperand p ∷ operands) ([] ∷ words) e = cc
 fits_if (PathOperand p ∷ operands) ((c ∷ cs) ∷ words) e = ((λ empty. cc), fits_if operands words e)
+fits_if (SlotOperand slot ∷ []) [] e = tt
+fits_if (SlotOperand slot ∷ []) ([] ∷ words) e = cc
+fits_if (SlotOperand slot ∷ []) ((c ∷ cs) ∷ words) e = ((λ empty. cc), fits_if [] words e)
+fits_if (SlotOperand slot ∷ operand ∷ operands) [] e = cc
+fits_if (SlotOperand slot ∷ operand ∷ operands) ([] ∷ words) e = cc
+fits_if (SlotOperand slot ∷ operand ∷ operands) ((c ∷ cs) ∷ words) e =
+    ((λ empty. cc), fits_if (operand ∷ operands) words e)
 fits_if (GroupOperand a ∷ operands) [] e = cc
 fits_if (GroupOperand a ∷ operands) (word ∷ words) e =
     let parts = and_parts (is_word is_group_byte word) (fit operands words) e in
@@ -105,12 +118,13 @@ fits_if (GroupOperand a ∷ operands) (word ∷ words) e =
 
 -- text that says nothing, though it has a form
 pub bad_path_if : (line : List ℕ) (like : Act) (words : List (List ℕ)) → is_telling line ≡ true
-    → pieces 32 line ≡ (said like).0 ∷ words → fit (said like).1 words ≡ true → IsBadPath line
-bad_path_if line like words e cut fits =
+    → pieces 32 line ≡ (said like).0 ∷ words → fit (said like).1 words ≡ true → HasSlots (said like).1 words
+    → IsBadPath line
+bad_path_if line like words e cut fits slots =
     let told = telling line e in
     let form = form_at line like words cut (fits_if (said like).1 words fits) in
     let no_paths : ¬ (HasPaths (said like).1 words) =
-    (λ paths. let read = read_as line like words form paths in told.other read.0 read.1) in
+    (λ paths. let read = read_as line like words form paths slots in told.other read.0 read.1) in
     (told.utf8, told.other Skipped, (like, words, form, no_paths))
 
 -- ---- the first refused line

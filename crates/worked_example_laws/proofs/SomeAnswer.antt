@@ -3,10 +3,10 @@ use Rattle.std.proofs.Common.{◌≡◌, ℕ, ◌<◌, List, length, Bool, true,
 use Rattle.std.specs.Prelude.{◌⊎◌, Result, Ok, Err}
 use Rattle.std.proofs.lemmas.Bool.{ltb-true}
 use Rattle.patch_sets.specs.Closed.{AreEarlier}
-use Rattle.report_model.specs.Answer.{Answer, Refused, Reported, HasBase, HasGraph, IsAnswer, ordering_rules}
-use Rattle.report_model.specs.Answer.{bad_script}
+use Rattle.report_model.specs.Answer.{Answer, Refused, Reported, HasBase, HasGraph, IsVisited, ordering_rules}
+use Rattle.report_model.specs.Answer.{bad_script, untraced}
 use Rattle.report_model.specs.Answer.{bad_geometry, bad_base, bad_trace, too_many, reported}
-use Rattle.crash_model.specs.Disk.{Disk, empty_disk, IsGeometry}
+use Rattle.crash_model.specs.Disk.{Disk, new_disk, IsGeometry}
 use Rattle.crash_model.specs.Reasons.{explanation}
 use Rattle.crash_model.specs.Lists.{when}
 use Rattle.crash_model.specs.Patches.{deps_of}
@@ -17,6 +17,7 @@ use Rattle.crash_model.specs.declared.patches.Patch.{Patch}
 use Rattle.crash_model.specs.declared.refusals.TraceFault.{TraceFault}
 use Rattle.crash_model.specs.declared.refusals.RunFault.TheVariants.{BadGeometry, TooMany}
 use Rattle.crash_model.specs.declared.settings.Settings.{Settings}
+use Rattle.crash_model.specs.declared.visit.ReportBy.{ReportBy}
 use Rattle.crash_model.specs.Script.{IsScript, IsScriptRefusal}
 use Rattle.crash_model.specs.declared.refusals.ScriptFault.{ScriptFault}
 use Rattle.crash_model.specs.declared.steps.Step.{Step}
@@ -32,31 +33,31 @@ use Rattle.worked_example_laws.proofs.SomeReading.{some_reading}
 
 -- ---- answers
 
-module _ (settings : Settings) (bytes : List ℕ) where
+module _ (settings : Settings) (by : ReportBy) (limit : ℕ) (bytes : List ℕ) where
   from_graph : (base : Disk) (last : Tracing) (patches : List Patch) → HasGraph bytes settings base last patches
-      → (answer : Answer) × IsAnswer bytes settings answer
-  from_graph base last patches has = by_limit (nat_lt settings.limit (length (closed_sets (deps_of patches)))) refl
+      → (answer : Answer) × IsVisited bytes settings by limit answer
+  from_graph base last patches has = by_limit (nat_lt limit (length (closed_sets (deps_of patches)))) refl
     where
       before : AreEarlier (deps_of patches)
       before = has.graph.earlier
 
-      by_limit : (b : Bool) → nat_lt settings.limit (length (closed_sets (deps_of patches))) ≡ b → (answer : Answer)
-          × IsAnswer bytes settings answer
+      by_limit : (b : Bool) → nat_lt limit (length (closed_sets (deps_of patches))) ≡ b → (answer : Answer)
+          × IsVisited bytes settings by limit answer
       by_limit true e =
           let all = counts_closed patches (length (closed_sets (deps_of patches))) before refl in (
             Refused TooMany,
             too_many base last patches has (
               all.0,
               record { distinct = all.1.distinct; each = all.1.each },
-              subst (λ (n : ℕ). settings.limit < n) (sym all.2)
-                  (ltb-true settings.limit (length (closed_sets (deps_of patches))) e),
+              subst (λ (n : ℕ). limit < n) (sym all.2)
+                  (ltb-true limit (length (closed_sets (deps_of patches))) e),
             ),
           )
       by_limit false e =
           let demands = demands_of settings.strict settings.atomic base has.steps in
           let failing = some_failing demands base patches before in
           let closed = failing_closed demands base patches failing.0 failing.1 in
-          let body = some_body settings demands base last patches before failing.0 failing.1 failing.2 in
+          let body = some_body settings by limit demands base last patches before failing.0 failing.1 failing.2 in
           let told : Report = record {
             patches = length patches;
             closed = length (closed_sets (deps_of patches));
@@ -65,53 +66,60 @@ module _ (settings : Settings) (bytes : List ℕ) where
             body = body.0;
           } in (
             Reported (report settings told) (length failing.0),
-            reported demands base last patches (report settings told) (length failing.0) has
-                (are_demands settings.strict settings.atomic base has.steps) (record {
-                  total = length (closed_sets (deps_of patches));
-                  counted = counts_closed patches (length (closed_sets (deps_of patches))) before refl;
-                  within = not_above settings.limit (length (closed_sets (deps_of patches))) e;
-                  sets = failing.0;
-                  exactly = failing.1;
-                  left = closed_are_left base patches before failing.0 closed;
-                  number = refl;
-                  body = body.0;
-                  told = body.1;
-                  whole = refl;
-                }),
+            reported (report settings told) (length failing.0) (record {
+              demands = demands;
+              base = base;
+              last = last;
+              patches = patches;
+              graph = has;
+              demanded = are_demands settings.strict settings.atomic base has.steps;
+              report = record {
+                total = length (closed_sets (deps_of patches));
+                counted = counts_closed patches (length (closed_sets (deps_of patches))) before refl;
+                within = not_above limit (length (closed_sets (deps_of patches))) e;
+                sets = failing.0;
+                exactly = failing.1;
+                left = closed_are_left base patches before failing.0 closed;
+                number = refl;
+                body = body.0;
+                told = body.1;
+                whole = refl;
+              };
+            }),
           )
 
   from_base : (base : Disk) (steps : List Step) → HasBase bytes settings base steps → (answer : Answer)
-      × IsAnswer bytes settings answer
+      × IsVisited bytes settings by limit answer
   from_base base steps start = by_trace (trace_from settings.module (trace_start settings.whole_blocks base) steps) refl
     where
       by_trace : (r : Result Tracing TraceFault) → trace_from settings.module (trace_start settings.whole_blocks base)
           steps ≡ r
-          → (answer : Answer) × IsAnswer bytes settings answer
-      by_trace (Err fault) is = (Refused (run_of_trace fault), bad_trace base steps fault start is)
+          → (answer : Answer) × IsVisited bytes settings by limit answer
+      by_trace (Err fault) is = (Refused (run_of_trace fault), untraced _ (bad_trace base steps fault start is))
       by_trace (Ok last) is = from_graph base last (graph_of (ordering_rules settings) base last)
           (record { steps = steps; start = start; run = is; graph = graph_is (ordering_rules settings) base last })
 
   from_steps : (before steps : List Step) → IsScript bytes before steps → (answer : Answer)
-      × IsAnswer bytes settings answer
+      × IsVisited bytes settings by limit answer
   from_steps before steps read = by_geometry (is_geometry settings) refl
     where
       by_base : IsGeometry settings.blocks settings.journal → (r : Result Disk TraceFault)
-          → base_from (empty_disk settings.blocks settings.journal) before ≡ r
-          → (answer : Answer) × IsAnswer bytes settings answer
-      by_base geometry (Err fault) is = (Refused (run_of_trace fault), bad_base before steps fault read geometry is)
+          → base_from (new_disk settings.blocks settings.journal settings.generations) before ≡ r
+          → (answer : Answer) × IsVisited bytes settings by limit answer
+      by_base geometry (Err fault) is = (Refused (run_of_trace fault), untraced _ (bad_base before steps fault read geometry is))
       by_base geometry (Ok base) is = from_base base steps
           (record { before = before; read = read; geometry = geometry; built = is })
 
-      by_geometry : (b : Bool) → is_geometry settings ≡ b → (answer : Answer) × IsAnswer bytes settings answer
+      by_geometry : (b : Bool) → is_geometry settings ≡ b → (answer : Answer) × IsVisited bytes settings by limit answer
       by_geometry true e = by_base (geometry_if settings e)
-          (base_from (empty_disk settings.blocks settings.journal) before) refl
-      by_geometry false e = (Refused BadGeometry, bad_geometry before steps read (no_geometry settings e))
+          (base_from (new_disk settings.blocks settings.journal settings.generations) before) refl
+      by_geometry false e = (Refused BadGeometry, untraced _ (bad_geometry before steps read (no_geometry settings e)))
 
   -- there is an answer
-  pub some_answer : (answer : Answer) × IsAnswer bytes settings answer
+  pub some_answer : (answer : Answer) × IsVisited bytes settings by limit answer
   some_answer = by_reading (some_reading bytes)
     where
       by_reading : ((base : List Step) × (steps : List Step) × IsScript bytes base steps)
-          ⊎ ((fault : ScriptFault) × IsScriptRefusal bytes fault) → (answer : Answer) × IsAnswer bytes settings answer
+          ⊎ ((fault : ScriptFault) × IsScriptRefusal bytes fault) → (answer : Answer) × IsVisited bytes settings by limit answer
       by_reading (inl script) = from_steps script.0 script.1 script.2
-      by_reading (inr refused) = (Refused (run_of_script refused.0), bad_script refused.0 refused.1)
+      by_reading (inr refused) = (Refused (run_of_script refused.0), untraced _ (bad_script refused.0 refused.1))

@@ -31,8 +31,8 @@ use Rattle.crash_model.specs.declared.fault.FaultRow.{FaultRow}
 use Rattle.crash_model.specs.declared.patches.Patch.{Patch}
 use Rattle.crash_model.specs.declared.rules.Rule.{Rule}
 use Rattle.crash_model.specs.declared.settings.Settings.{Settings}
-use Rattle.crash_model.specs.declared.settings.ReportBy.{ReportBy}
-use Rattle.crash_model.specs.declared.settings.ReportBy.TheVariants.{BySet, ByFault, ByRule}
+use Rattle.crash_model.specs.declared.visit.ReportBy.{ReportBy}
+use Rattle.crash_model.specs.declared.visit.ReportBy.TheVariants.{BySet, ByFault, ByRule}
 use Rattle.report_model.proofs.Leading.{failing_closed, sections_lead}
 use Rattle.worked_example_laws.specs.Computed.{closed_sets, failing_under, fails_under, graph_of}
 use Rattle.worked_example_laws.proofs.ClosedSets.{closed_are_all, apart_filter, from_filter, to_filter}
@@ -334,15 +334,15 @@ module _ (detail : Detail) (base : Disk) (patches : List Patch) (before : AreEar
 
 -- ---- the body
 
-module _ (settings : Settings) (demands : Demands) (base : Disk) (last : Tracing) (patches : List Patch)
-    (before : AreEarlier (deps_of patches)) where
+module _ (settings : Settings) (by : ReportBy) (limit : ℕ) (demands : Demands) (base : Disk) (last : Tracing)
+    (patches : List Patch) (before : AreEarlier (deps_of patches)) where
   pub some_body : (sets : List ℕ) → AreAllInOrder (IsFailingUnder demands base patches) sets → Ascends sets
       → (body : Body)
-      × IsBody settings demands base last patches sets body
-  some_body sets exactly up = by_kind settings.by refl
+      × IsBody settings by limit demands base last patches sets body
+  some_body sets exactly up = by_kind by refl
     where
-      by_kind : (kind : ReportBy) → settings.by ≡ kind → (body : Body)
-          × IsBody settings demands base last patches sets body
+      by_kind : (kind : ReportBy) → by ≡ kind → (body : Body)
+          × IsBody settings by limit demands base last patches sets body
       by_kind BySet e =
           let sections = some_sections (detail_of settings demands) base patches sets in (
             Sets sections.0,
@@ -357,6 +357,6 @@ module _ (settings : Settings) (demands : Demands) (base : Disk) (last : Tracing
           let told = told_faults (detail_of settings demands) base patches before sets exactly up in
           (Faults told.0, (e, told.1, told.2))
       by_kind ByRule e =
-          let told = told_rules (detail_of settings demands) base patches before settings.limit (ordering_rules settings)
+          let told = told_rules (detail_of settings demands) base patches before limit (ordering_rules settings)
           last (ordering_rules settings) in
           (Rules told.0, (e, told.1))

@@ -13,21 +13,24 @@ use Rattle.crash_model.proofs.Cuts.{Lacks}
 use Rattle.crash_model.specs.Lists.{join_of}
 use Rattle.crash_model.specs.Names.{IsName, is_name_byte}
 use Rattle.crash_model.specs.Script.{AreLines, text_of_lines, path_text, IsPath, IsPathWord, Operand, PathOperand}
-use Rattle.crash_model.specs.Script.{GroupOperand, said, HasPaths, HasForm, Line, Skipped, Start, Says, IsSkipped}
+use Rattle.crash_model.specs.Script.{GroupOperand, SlotOperand, said, HasPaths, HasSlots, HasForm, Line, Skipped}
+use Rattle.crash_model.specs.Script.{Start, Says, IsSkipped}
+use Rattle.crash_model.specs.Slots.{slot_text, IsSlotWord}
+use Rattle.crash_model.specs.declared.operations.Slot.TheVariants.{Zero, One, Two, Three}
 use Rattle.crash_model.specs.Script.{Reads, AreSteps, IsScript, AreAccepted, IsScriptRefusal}
 use Rattle.crash_model.specs.declared.names.Path.{Path}
 use Rattle.crash_model.specs.declared.refusals.ScriptFault.{ScriptFault}
 use Rattle.crash_model.specs.declared.refusals.ScriptFault.TheVariants.{BadUtf8, BadLine, BadPath, NoStart}
 use Rattle.crash_model.specs.declared.steps.Act.{Act}
 use Rattle.crash_model.specs.declared.steps.Step.{Step}
-use Rattle.worked_example_laws.specs.Spelled.{is_word}
-use Rattle.worked_example_laws.proofs.Pieces.{AreLacking, pieces, some_pieces, joined_pieces}
-use Rattle.worked_example_laws.proofs.Acts.{path_from, path_of_pieces, path_of, no_path, samples, begun_by, like_of}
-use Rattle.worked_example_laws.proofs.Readings.{Read, read_as, fit, fits_some, are_formed, form_at, no_form}
-use Rattle.worked_example_laws.proofs.Readings.{plain_from}
+use Rattle.uniqueness_laws.specs.Words.{is_word}
+use Rattle.uniqueness_laws.proofs.Pieces.{AreLacking, pieces, some_pieces, joined_pieces}
+use Rattle.uniqueness_laws.proofs.Acts.{path_from, path_of_pieces, path_of, no_path, samples, begun_by, like_of}
+use Rattle.uniqueness_laws.proofs.Readings.{Read, read_as, fit, fits_some, are_formed, form_at, no_form}
+use Rattle.uniqueness_laws.proofs.Readings.{plain_from, bad_slot}
 use Rattle.worked_example_laws.proofs.Refused.{fits_if, not_skipped, not_text}
 use Rattle.std.proofs.lemmas.Option.{slice_get-get_or}
-use Rattle.worked_example_laws.proofs.Scripts.{IsRefusedLine, get_contains, get_front, get_middle}
+use Rattle.uniqueness_laws.proofs.Scripts.{IsRefusedLine, get_contains, get_front, get_middle}
 use Rattle.worked_example_laws.proofs.Spelling.{names_if}
 
 same_bytes : (xs ys : List ℕ) → (xs ≡ ys) ⊎ (xs ≢ ys)
@@ -196,8 +199,57 @@ paths_or_not (PathOperand p ∷ operands) (word ∷ words) = by_parts (path_or_n
     by_parts (inl here) (inl more) = inl (here, more)
     by_parts (inl here) (inr none) = inr (λ paths. none paths.1)
     by_parts (inr none) more = inr (λ paths. none paths.0)
+paths_or_not (SlotOperand slot ∷ operands) [] = inl tt
+paths_or_not (SlotOperand slot ∷ operands) (word ∷ words) = paths_or_not operands words
 paths_or_not (GroupOperand a ∷ operands) [] = inl tt
 paths_or_not (GroupOperand a ∷ operands) (word ∷ words) = paths_or_not operands words
+
+-- ---- slots
+
+slot_or_not : (word : List ℕ) → IsSlotWord word ⊎ (¬ (IsSlotWord word))
+slot_or_not word = zero_or (same_bytes word (codes "0"))
+  where
+    none : word ≢ codes "0" → word ≢ codes "1" → word ≢ codes "2" → word ≢ codes "3" → ¬ (IsSlotWord word)
+    none a b c d (Zero, is) = a is
+    none a b c d (One, is) = b is
+    none a b c d (Two, is) = c is
+    none a b c d (Three, is) = d is
+
+    three_or : word ≢ codes "0" → word ≢ codes "1" → word ≢ codes "2" → (word ≡ codes "3") ⊎ (word ≢ codes "3")
+        → IsSlotWord word ⊎ (¬ (IsSlotWord word))
+    three_or a b c (inl is) = inl (Three, is)
+    three_or a b c (inr d) = inr (none a b c d)
+
+    two_or : word ≢ codes "0" → word ≢ codes "1" → (word ≡ codes "2") ⊎ (word ≢ codes "2") → IsSlotWord word
+        ⊎ (¬ (IsSlotWord word))
+    two_or a b (inl is) = inl (Two, is)
+    two_or a b (inr c) = three_or a b c (same_bytes word (codes "3"))
+
+    one_or : word ≢ codes "0" → (word ≡ codes "1") ⊎ (word ≢ codes "1") → IsSlotWord word ⊎ (¬ (IsSlotWord word))
+    one_or a (inl is) = inl (One, is)
+    one_or a (inr b) = two_or a b (same_bytes word (codes "2"))
+
+    zero_or : (word ≡ codes "0") ⊎ (word ≢ codes "0") → IsSlotWord word ⊎ (¬ (IsSlotWord word))
+    zero_or (inl is) = inl (Zero, is)
+    zero_or (inr a) = one_or a (same_bytes word (codes "1"))
+
+slots_or_not : (operands : List Operand) (words : List (List ℕ)) → HasSlots operands words
+    ⊎ (¬ (HasSlots operands words))
+slots_or_not [] [] = inl tt
+slots_or_not [] (word ∷ words) = inl tt
+slots_or_not (PathOperand p ∷ operands) [] = inl tt
+slots_or_not (PathOperand p ∷ operands) (word ∷ words) = slots_or_not operands words
+slots_or_not (GroupOperand a ∷ operands) [] = inl tt
+slots_or_not (GroupOperand a ∷ operands) (word ∷ words) = slots_or_not operands words
+slots_or_not (SlotOperand slot ∷ operands) [] = inl tt
+slots_or_not (SlotOperand slot ∷ operands) (word ∷ words) = by_parts (slot_or_not word) (slots_or_not operands words)
+  where
+    by_parts : IsSlotWord word ⊎ (¬ (IsSlotWord word)) → HasSlots operands words ⊎ (¬ (HasSlots operands words))
+        → HasSlots (SlotOperand slot ∷ operands) (word ∷ words)
+        ⊎ (¬ (HasSlots (SlotOperand slot ∷ operands) (word ∷ words)))
+    by_parts (inl here) (inl more) = inl (here, more)
+    by_parts (inl here) (inr none) = inr (λ slots. none slots.1)
+    by_parts (inr none) more = inr (λ slots. none slots.0)
 
 -- ---- forms
 
@@ -222,12 +274,22 @@ module _ (line : List ℕ) where
   module _ (text : IsUtf8 line) (told : ¬ (IsSkipped line)) (other : line ≢ codes "start") (first : List ℕ)
       (words : List (List ℕ)) (is : pieces 32 line ≡ first ∷ words) where
     no_form_here : are_formed (first ∷ words) ≡ false → Judged
-    no_form_here none = inr (λ before. inr (inl (inl (text, told, other, no_form line (ap are_formed is ∙ none)))))
+    no_form_here none = inr (λ before. inr (inl (inl (
+      text,
+      told,
+      other,
+      (λ like ws form. absurd (no_form line (ap are_formed is ∙ none) like ws form)),
+    ))))
 
     by_paths : (like : Act) → HasForm line like words → HasPaths (said like).1 words
         ⊎ (¬ (HasPaths (said like).1 words))
         → Judged
-    by_paths like form (inl paths) = inl (read_as line like words form paths)
+    by_paths like form (inl paths) = by_slots (slots_or_not (said like).1 words)
+      where
+        by_slots : HasSlots (said like).1 words ⊎ (¬ (HasSlots (said like).1 words)) → Judged
+        by_slots (inl slots) = inl (read_as line like words form paths slots)
+        by_slots (inr none) =
+            inr (λ before. inr (inl (inl (text, told, other, bad_slot line like words form (paths, none)))))
     by_paths like form (inr none) = inr (λ before. inr (inr (text, told, (like, words, form, none))))
 
     by_fit : (like : Act) → like_of first ≡ Some like → (b : Bool) → fit (said like).1 words ≡ b → Judged

@@ -6,12 +6,13 @@ use Rattle.std.specs.List.{All, Contains, list_all, list_any}
 use Rattle.std.proofs.lemmas.Bool.{and_parts, ltb-true, leb-true}
 use Rattle.std.proofs.lemmas.List.Elements.{All-nil, All-cons, All-append}
 use Rattle.crash_model.specs.Names.{IsWord, IsName, is_name_byte, is_group_byte}
-use Rattle.crash_model.specs.Script.{ArePlain, IsPath, Operand, PathOperand, GroupOperand, said, AreLawful, AreSteps}
+use Rattle.crash_model.specs.Script.{ArePlain, IsPath, Operand, PathOperand, GroupOperand, SlotOperand, said, AreLawful, AreSteps}
 use Rattle.crash_model.specs.Script.{IsScript}
 use Rattle.crash_model.specs.declared.names.Path.{Path}
 use Rattle.crash_model.specs.declared.steps.Act.{Act}
 use Rattle.worked_example_laws.specs.Examples.{numbered_steps}
-use Rattle.worked_example_laws.specs.Spelled.{is_word, is_path, are_lawful, is_act, line_of, is_plain, are_acts, script}
+use Rattle.uniqueness_laws.specs.Words.{is_word}
+use Rattle.worked_example_laws.specs.Spelled.{is_path, are_lawful, is_act, line_of, is_plain, are_acts, script}
 use Rattle.patch_sets.proofs.Ids.{true_from_eq}
 
 pub word_if : (passes : ℕ → Bool) (word : List ℕ) → is_word passes word ≡ true → IsWord passes word
@@ -46,6 +47,7 @@ lawful_if (PathOperand path ∷ operands) e =
 lawful_if (GroupOperand name ∷ operands) e =
     let parts = and_parts (is_word is_group_byte name) (are_lawful operands) e in
     (word_if is_group_byte name parts.0, lawful_if operands parts.1)
+lawful_if (SlotOperand slot ∷ operands) e = lawful_if operands e
 
 -- ---- lines
 

@@ -1,27 +1,30 @@
 -- An answer as what comes of the script, its base, its trace and its graph, one after another.
 use Rattle.std.proofs.Common.{◌≡◌, ℕ, List, refl, sym, subst, inl, inr}
 use Rattle.std.specs.Prelude.{◌⊎◌, Result, Ok, Err}
-use Rattle.report_model.specs.Answer.{Answer, Refused, Reported, HasBase, HasGraph, IsReport, IsAnswer, ordering_rules}
-use Rattle.report_model.specs.Answer.{bad_script, bad_geometry, bad_base, bad_trace, too_many, reported}
-use Rattle.crash_model.specs.Disk.{Disk, empty_disk, IsGeometry}
+use Rattle.report_model.specs.Answer.{Answer, Refused, Reported, HasBase, HasGraph, IsReport, IsUntraced, IsVisited}
+use Rattle.report_model.specs.Answer.{bad_script, bad_geometry, bad_base, bad_trace, untraced, too_many, reported}
+use Rattle.report_model.specs.Answer.{ordering_rules}
+use Rattle.crash_model.specs.Disk.{Disk, new_disk, IsGeometry}
 use Rattle.crash_model.specs.Patches.{ExceedsLimit}
 use Rattle.crash_model.specs.Refusals.{run_of_script, run_of_trace}
 use Rattle.crash_model.specs.Script.{IsScript, IsScriptRefusal}
 use Rattle.crash_model.specs.Checker.{Demands, AreDemands}
 use Rattle.crash_model.specs.Trace.{Tracing, trace_start, trace_from, base_from, IsGraphOf}
 use Rattle.crash_model.specs.declared.patches.Patch.{Patch}
+use Rattle.crash_model.specs.declared.refusals.RunFault.{RunFault}
 use Rattle.crash_model.specs.declared.refusals.RunFault.TheVariants.{BadGeometry, TooMany}
 use Rattle.crash_model.specs.declared.refusals.ScriptFault.{ScriptFault}
 use Rattle.crash_model.specs.declared.refusals.TraceFault.{TraceFault}
 use Rattle.crash_model.specs.declared.settings.Settings.{Settings}
 use Rattle.crash_model.specs.declared.steps.Step.{Step}
+use Rattle.crash_model.specs.declared.visit.ReportBy.{ReportBy}
 
-module _ (settings : Settings) where
+module _ (settings : Settings) (by : ReportBy) (limit : ℕ) where
   abbrev pub ComesOfGraph : Disk → List Step → Tracing → List Patch → Answer → Type 0
-  ComesOfGraph base steps last patches (Refused fault) = ExceedsLimit patches settings.limit × (fault ≡ TooMany)
+  ComesOfGraph base steps last patches (Refused fault) = ExceedsLimit patches limit × (fault ≡ TooMany)
   ComesOfGraph base steps last patches (Reported text failing) =
       (demands : Demands) × AreDemands settings.strict settings.atomic base steps demands
-      × IsReport settings demands base last patches text failing
+      × IsReport settings by limit demands base last patches text failing
 
   abbrev pub ComesOfTrace : Disk → List Step → Result Tracing TraceFault → Answer → Type 0
   ComesOfTrace base steps (Err fault) answer = answer ≡ Refused (run_of_trace fault)
@@ -39,7 +42,7 @@ module _ (settings : Settings) where
   ComesOfSteps before steps answer =
       ((¬ (IsGeometry settings.blocks settings.journal)) × (answer ≡ Refused BadGeometry))
       ⊎ (IsGeometry settings.blocks settings.journal × ComesOfBase
-      (base_from (empty_disk settings.blocks settings.journal) before) steps answer)
+      (base_from (new_disk settings.blocks settings.journal settings.generations) before) steps answer)
 
   abbrev pub ComesOfScript : List ℕ → Answer → Type 0
   ComesOfScript bytes answer =
@@ -67,10 +70,11 @@ module _ (settings : Settings) where
       from_base bytes base has.steps answer has.start (subst (λ r. ComesOfTrace base has.steps r answer) (sym has.run)
       (patches, has.graph, comes))
 
-  pub stages : {bytes : List ℕ} {answer : Answer} → IsAnswer bytes settings answer → ComesOfScript bytes answer
-  stages (bad_script fault refused) = inl (fault, refused, refl)
-  stages (bad_geometry before steps read none) = inr (before, steps, read, inl (none, refl))
-  stages (bad_base before steps fault read geometry is) =
+  untraced_stages : {bytes : List ℕ} {fault : RunFault} → IsUntraced bytes settings fault
+      → ComesOfScript bytes (Refused fault)
+  untraced_stages (bad_script fault refused) = inl (fault, refused, refl)
+  untraced_stages (bad_geometry before steps read none) = inr (before, steps, read, inl (none, refl))
+  untraced_stages (bad_base before steps fault read geometry is) =
       inr (
         before,
         steps,
@@ -81,9 +85,13 @@ module _ (settings : Settings) where
               refl,
         ),
       )
-  stages (bad_trace base steps fault start is) =
+  untraced_stages (bad_trace base steps fault start is) =
       from_base _ base steps _ start (subst (λ r. ComesOfTrace base steps r (Refused (run_of_trace fault))) (sym is)
       refl)
+
+  pub stages : {bytes : List ℕ} {answer : Answer} → IsVisited bytes settings by limit answer
+      → ComesOfScript bytes answer
+  stages (untraced fault is) = untraced_stages is
   stages (too_many base last patches has more) = from_graph _ base last patches _ has (more, refl)
-  stages (reported demands base last patches text failing has are_demanded report) =
-      from_graph _ base last patches _ has (demands, are_demanded, report)
+  stages (reported text failing is) =
+      from_graph _ is.base is.last is.patches _ is.graph (is.demands, is.demanded, is.report)

@@ -2,29 +2,25 @@
 use Rattle.std.specs.Prelude.{ℕ, ◌+◌, List, [], ◌∷◌, ◌++◌, length, map, codes, Bool, true, false, not, ◌&&◌, ◌==◌}
 use Rattle.std.specs.Prelude.{nat_lt, nat_le, Result, Ok, Err}
 use Rattle.std.specs.List.{list_all, list_any}
-use Rattle.report_model.specs.Answer.{ordering_rules}
-use Rattle.crash_model.specs.Disk.{Disk, empty_disk}
+use Rattle.report_model.specs.Answer.{Answer, IsVisited, ordering_rules}
+use Rattle.uniqueness_laws.specs.Words.{is_word}
+use Rattle.crash_model.specs.Disk.{Disk, new_disk}
 use Rattle.crash_model.specs.Lists.{join_of}
 use Rattle.crash_model.specs.Patches.{deps_of}
 use Rattle.crash_model.specs.Trace.{trace_start, trace_from, base_from}
 use Rattle.crash_model.specs.declared.patches.Patch.{Patch}
 use Rattle.crash_model.specs.declared.refusals.TraceFault.{TraceFault}
 use Rattle.crash_model.specs.declared.settings.Settings.{Settings}
-use Rattle.crash_model.specs.declared.settings.Explorer.TheVariants.{Auto}
-use Rattle.crash_model.specs.declared.settings.ReportBy.TheVariants.{BySet}
+use Rattle.crash_model.specs.declared.visit.ReportBy.TheVariants.{BySet}
 use Rattle.crash_model.specs.declared.modules.Module.{Module}
 use Rattle.crash_model.specs.declared.steps.Step.{Step}
 use Rattle.worked_example_laws.specs.Computed.{closed_sets, failing_under, demands_of, are_in_order, graph_of, trace_of}
 use Rattle.worked_example_laws.specs.Computed.{is_accepted, have_runs}
 use Rattle.worked_example_laws.specs.Examples.{numbered_steps}
 use Rattle.crash_model.specs.Names.{is_name_byte, is_group_byte}
-use Rattle.crash_model.specs.Script.{text_of_lines, Operand, PathOperand, GroupOperand, said, words_of}
+use Rattle.crash_model.specs.Script.{text_of_lines, Operand, PathOperand, GroupOperand, SlotOperand, said, words_of}
 use Rattle.crash_model.specs.declared.names.Path.{Path}
 use Rattle.crash_model.specs.declared.steps.Act.{Act}
-
--- 1 to 10 bytes that pass
-abbrev pub is_word : (ℕ → Bool) → List ℕ → Bool
-is_word passes word = nat_lt 0 (length word) && (nat_le (length word) 10 && list_all passes word)
 
 abbrev pub is_path : Path → Bool
 is_path path =
@@ -35,6 +31,7 @@ abbrev pub are_lawful : List Operand → Bool
 are_lawful [] = true
 are_lawful (PathOperand path ∷ operands) = is_path path && are_lawful operands
 are_lawful (GroupOperand name ∷ operands) = is_word is_group_byte name && are_lawful operands
+are_lawful (SlotOperand slot ∷ operands) = are_lawful operands
 
 abbrev pub is_act : Act → Bool
 is_act act = are_lawful (said act).1
@@ -66,8 +63,8 @@ base_or d (Ok base) = base
 
 abbrev pub base_of : Settings → List Act → Disk
 base_of settings before =
-    base_or (empty_disk settings.blocks settings.journal)
-    (base_from (empty_disk settings.blocks settings.journal) (numbered_steps 1 before))
+    base_or (new_disk settings.blocks settings.journal settings.generations)
+    (base_from (new_disk settings.blocks settings.journal settings.generations) (numbered_steps 1 before))
 
 abbrev pub has_base : Result Disk TraceFault → Bool
 has_base (Err fault) = false
@@ -87,50 +84,50 @@ is_geometry settings =
     nat_le 16 settings.blocks && (nat_le settings.blocks 128 && nat_le (settings.journal + 6) settings.blocks)
 
 -- the script is read, its acts are accepted, these sets fail, and this many sets are closed
-abbrev pub is_told : Settings → List Act → List Act → ℕ → List ℕ → Bool
-is_told settings before after closed failing =
+abbrev pub is_told : Settings → ℕ → List Act → List Act → ℕ → List ℕ → Bool
+is_told settings limit before after closed failing =
     let base = base_of settings before in
     let patches = graph settings before after in
     are_acts before && (are_acts after && (is_geometry settings
-    && (has_base (base_from (empty_disk settings.blocks settings.journal) (numbered_steps 1 before))
+    && (has_base (base_from (new_disk settings.blocks settings.journal settings.generations) (numbered_steps 1 before))
     && (is_accepted (trace_from settings.module (trace_start settings.whole_blocks base) (trace_steps before after))
     && ((length (closed_sets (deps_of patches)) == closed)
     && (are_in_order (length (deps_of patches)) failing
     (failing_under (demands_of settings.strict settings.atomic base (trace_steps before after)) base patches)
-    && (nat_le closed settings.limit && have_runs patches failing)))))))
+    && (nat_le closed limit && have_runs patches failing)))))))
 
--- the settings of a module's own ordering, whose report lists each failing set
-abbrev pub settings_of : Module → ℕ → ℕ → ℕ → Bool → Settings
-settings_of kind blocks journal limit json = record {
+-- the answer of a visit within this limit, whose report lists each failing set
+abbrev pub IsListed : List ℕ → Settings → ℕ → Answer → Type 0
+IsListed bytes settings limit answer = IsVisited bytes settings BySet limit answer
+
+-- the settings of a module's own ordering
+abbrev pub settings_of : Module → ℕ → ℕ → Bool → Settings
+settings_of kind blocks journal json = record {
   «module» = kind;
   without = record { items = [] };
   with = record { items = [] };
   blocks = blocks;
   journal = journal;
-  limit = limit;
-  explorer = Auto;
   json = json;
   explain = false;
   whole_blocks = false;
+  generations = false;
   strict = false;
   atomic = false;
-  by = BySet;
 }
 
 -- the same with the strict checker
-abbrev pub strict_settings_of : Module → ℕ → ℕ → ℕ → Bool → Settings
-strict_settings_of kind blocks journal limit json = record {
+abbrev pub strict_settings_of : Module → ℕ → ℕ → Bool → Settings
+strict_settings_of kind blocks journal json = record {
   «module» = kind;
   without = record { items = [] };
   with = record { items = [] };
   blocks = blocks;
   journal = journal;
-  limit = limit;
-  explorer = Auto;
   json = json;
   explain = false;
   whole_blocks = false;
+  generations = false;
   strict = true;
   atomic = false;
-  by = BySet;
 }

@@ -2,7 +2,7 @@
 
 ghost use Rattle.std.specs.Prelude.{◌≡◌, ◌⊎◌, ℕ, List, Option, Bool};
 ghost use Rattle.patch_sets.specs.Sets.{AreAllInOrder};
-ghost use Rattle.report_model.specs.Answer.{Answer, IsAnswer};
+ghost use Rattle.report_model.specs.Answer.{Answer, IsVisited};
 ghost use Rattle.crash_model.specs.Disk.{Disk};
 ghost use Rattle.crash_model.specs.Failing.{IsFailing};
 ghost use Rattle.crash_model.specs.Patches.{CountsClosed};
@@ -15,12 +15,14 @@ ghost use Rattle.crash_model.specs.declared.refusals.ScriptFault.{ScriptFault};
 ghost use Rattle.crash_model.specs.declared.settings.Settings.{Settings};
 ghost use Rattle.crash_model.specs.declared.rules.Rule.{Rule};
 ghost use Rattle.crash_model.specs.declared.steps.Step.{Step};
+ghost use Rattle.crash_model.specs.declared.visit.ReportBy.{ReportBy};
 
-/// For every script and settings there is one answer.
+/// For every script, settings and visit there is one answer.
 pub fn there_is_one_answer()
-    ensures some { (bytes : List ℕ) (settings : Settings) → (answer : Answer) × IsAnswer bytes settings answer }
-    ensures one { (bytes : List ℕ) (settings : Settings) (answer other : Answer) → IsAnswer bytes settings answer
-        → IsAnswer bytes settings other → answer ≡ other }
+    ensures some { (bytes : List ℕ) (settings : Settings) (by : ReportBy) (limit : ℕ)
+        → (answer : Answer) × IsVisited bytes settings by limit answer }
+    ensures one { (bytes : List ℕ) (settings : Settings) (by : ReportBy) (limit : ℕ) (answer other : Answer)
+        → IsVisited bytes settings by limit answer → IsVisited bytes settings by limit other → answer ≡ other }
 {}
 
 /// A script is read in one way, or refused in one way, and not both.

@@ -8,8 +8,8 @@ use Rattle.crash_model.specs.declared.patches.Patch.{Patch}
 use Rattle.crash_model.specs.declared.refusals.TraceFault.{TraceFault}
 use Rattle.crash_model.specs.declared.rules.Rule.{Rule}
 use Rattle.rule_laws.proofs.Closed.{failing_under_more}
-use Rattle.worked_example_laws.proofs.Keeping.{one_demands}
-use Rattle.worked_example_laws.proofs.OneGraph.{graph_one}
+use Rattle.uniqueness_laws.proofs.Demands.{one_demands}
+use Rattle.uniqueness_laws.proofs.OneGraph.{graph_one}
 use Rattle.question_model.specs.Enough.{AreEnough, rules_in}
 use Rattle.enough_rules.specs.Asked.{IsFound}
 use Rattle.chosen_rules.specs.Sublists.{EnoughOf}

@@ -53,7 +53,7 @@ fn write_decision<A: Allocator + Copy>(
     write!(out, "\"closed\":\"{closed}\",\"faults\":[")?;
     write_faults(out, heap, decision)?;
     out.push_str("]")?;
-    write_module(out, decision.settings.module, decision.traced.graph().len())?;
+    write_module(out, decision.settings, decision.traced.graph().len())?;
     write_from_strict(out, heap, decision.settings, decision.traced)?;
     out.push_str("}\n")?;
     Ok(())

@@ -12,7 +12,7 @@ use crate::enough::findings::{EnoughFindings, FirstFault, NeededGroup};
 use chosen_rules::rules_in;
 use crash_model::orderings::Ordering;
 use json_values::{KnownTexts, push_replay, write_comma};
-use report_json::{write_first_keys, write_from_strict, write_module_key, write_rule_texts};
+use report_json::{write_disk_and_module, write_first_keys, write_from_strict, write_rule_texts};
 use std::alloc::{AllocError, Allocator, Global};
 
 /// A report of the rules that a script needs as JSON: one compact object, its keys in ascending order, and a line feed.
@@ -55,7 +55,7 @@ fn write_findings<A: Allocator + Copy>(
     write_sets(out, ordering, found.enough)?;
     out.push_str("]")?;
     write_first(out, known, found.first)?;
-    write_module_key(out, found.settings.module)?;
+    write_disk_and_module(out, found.settings)?;
     out.push_str(",\"needs\":[")?;
     write_groups(out, known, ordering, found.needs)?;
     write!(out, "],\"patches\":{patches}")?;

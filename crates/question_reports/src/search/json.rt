@@ -7,7 +7,7 @@ ghost use Rattle.crash_model.specs.Texts.{op_text};
 ghost use Rattle.report_model.specs.Report.{json_string};
 ghost use Rattle.question_model.specs.SearchReport.{json_search, kind_json, refused_json, step_text};
 ghost use Rattle.question_model.specs.Workloads.{IsOperation, steps_at};
-ghost use Rattle.question_reports.specs.SearchFindings.{kind_head, kind_items, last_keys, ordering_keys, told_kind};
+ghost use Rattle.question_reports.specs.SearchFindings.{failing_keys, kind_head, kind_items, last_keys, ordering_keys, told_kind};
 ghost use Rattle.question_reports.specs.SearchFindings.{told_kinds};
 
 use crate::search::findings::{KindCrash, SearchFindings};
@@ -19,7 +19,8 @@ use crash_model::steps::Step;
 use json_values::{KnownTexts, push_replay, push_set, write_comma};
 use question_model::{Found, RefusedCount};
 use report_json::{
-    write_atomic_key, write_module_key, write_rule_key, write_strict_key, write_whole_key,
+    write_atomic_key, write_generations_key, write_module_key, write_rule_key, write_strict_key,
+    write_whole_key,
 };
 use std::alloc::{AllocError, Allocator, Global};
 
@@ -56,11 +57,25 @@ fn write_findings<A: Allocator + Copy>(
     let (pool, failing) = (findings.pool.len(), findings.found.failing);
     out.push_str("{")?;
     write_atomic_key(out, findings.settings.atomic)?;
-    write!(out, "\"failing\":{failing},\"kinds\":[")?;
+    write_failing(out, failing, findings.settings.generations)?;
     write_kinds(out, heap, findings.pool, findings.kinds)?;
     out.push_str("]")?;
     write_module_key(out, findings.settings.module)?;
     write_last_keys(out, findings.settings, findings.most, pool, findings.found)?;
+    Ok(())
+}
+
+/// How many workloads fail, that inodes have generations, if they have, and the key of the kinds up to its array.
+fn write_failing<B: Allocator>(
+    out: &mut String<B>,
+    failing: u128,
+    generations: bool,
+) -> Result<(), AllocError>
+    ensures { OnOk result (string_bytes out.new ≡ string_bytes out.old ++ failing_keys failing generations) }
+{
+    write!(out, "\"failing\":{failing}")?;
+    write_generations_key(out, generations)?;
+    out.push_str(",\"kinds\":[")?;
     Ok(())
 }
 

@@ -13,7 +13,7 @@ use crate::search_rules::findings::{NeededWorkload, SearchRulesFindings};
 use crash_model::orderings::Ordering;
 use crash_model::steps::Step;
 use json_values::{KnownTexts, push_set, write_comma};
-use report_json::{write_atomic_key, write_module_key};
+use report_json::{write_atomic_key, write_disk_and_module};
 use std::alloc::{AllocError, Allocator, Global};
 
 /// A report of the rules that the workloads of a search need as JSON: one compact object, its keys in ascending order,
@@ -55,7 +55,7 @@ fn write_findings<A: Allocator + Copy>(
     out.push_str("\"enough\":[")?;
     write_sets(out, ordering, findings.enough)?;
     write!(out, "],\"failing\":{failing}")?;
-    write_module_key(out, findings.settings.module)?;
+    write_disk_and_module(out, findings.settings)?;
     out.push_str(",\"needs\":[")?;
     write_needs(out, heap, ordering, findings.pool, findings.needs)?;
     out.push_str("]")?;

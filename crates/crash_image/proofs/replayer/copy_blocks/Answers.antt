@@ -9,6 +9,7 @@ loop-block-init g c = record {
   disk = c.blocks-disk.ensures.disk;
   blocks = c.requires.blocks;
   journal = c.requires.journal;
+  generations = c.requires.generations;
   others = c.requires.others;
 }
 

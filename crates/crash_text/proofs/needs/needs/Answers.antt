@@ -10,7 +10,7 @@ use Rattle.crash_text.proofs.needs.needs.Goals as goal
 pub loop-rule-preserved : goal.loop-rule-preserved
 loop-rule-preserved g c = λ last emitted links whole.
     let f = c.args.findings.now in
-    rule_more (detail_of f.settings.now f.demands.now) f.settings.now.limit f.traced.now.rules f.base.now last
+    rule_more (detail_of f.settings.now f.demands.now) f.visit.limit f.traced.now.rules f.base.now last
     f.traced.now.patches c.rules-rule-items.result.now c.loop-rule.rule-index _ c.loop-rule.rules.items
     c.push.new.self.items
     c.in_ok-usage.usage
@@ -25,8 +25,8 @@ returns g c = λ last is.
     let items = c.rules-rule-items.result.now in
     let all : take c.loop-rule.rule-index items ≡ f.traced.now.rules =
     take_all c.loop-rule.rule-index items c.loop-rule-test.false ∙ c.rules-rule-items.ensures in
-    subst (λ (rules : List Rule). AreToldRules (detail_of f.settings.now f.demands.now) f.settings.now.limit rules
+    subst (λ (rules : List Rule). AreToldRules (detail_of f.settings.now f.demands.now) f.visit.limit rules
     f.base.now last f.traced.now.patches rules told) is.rules
-    (subst (λ (rules : List Rule). AreToldRules (detail_of f.settings.now f.demands.now) f.settings.now.limit
+    (subst (λ (rules : List Rule). AreToldRules (detail_of f.settings.now f.demands.now) f.visit.limit
     f.traced.now.rules f.base.now last f.traced.now.patches rules told) all
     (c.loop-rule.invariant last (sym is.emitted) (sym is.links) (sym is.whole)))

@@ -8,6 +8,6 @@ use Rattle.crash_text.proofs.needs.needs.Given as goal
 abbrev pub invariant-loop-rule : goal.invariant-loop-rule
 invariant-loop-rule g l = (last : Tracing) → last.emitted ≡ l.findings.traced.now.emitted
     → last.links ≡ l.findings.traced.now.links → last.whole ≡ l.findings.traced.now.whole
-    → AreToldRules (detail_of l.findings.settings.now l.findings.demands.now) l.findings.settings.now.limit
+    → AreToldRules (detail_of l.findings.settings.now l.findings.demands.now) l.findings.visit.limit
     l.findings.traced.now.rules l.findings.base.now last l.findings.traced.now.patches (take l.rule-index l.rule-items)
     (map told_rule l.rules.items)

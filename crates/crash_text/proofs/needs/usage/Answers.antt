@@ -33,7 +33,7 @@ returns g c =
     let some : 1 ≤ c.pairs-pairs.result = omega (arith, c.if-pairs-eq0.false) in
     IfOk-weaker c.usage_without.result _ _
     (λ usage is. λ (last : Tracing) emitted links whole.
-    usage_of_pairs (detail_of f.settings.now f.demands.now) f.settings.now.limit f.traced.now.rules f.base.now last
+    usage_of_pairs (detail_of f.settings.now f.demands.now) f.visit.limit f.traced.now.rules f.base.now last
     f.traced.now.patches c.in_ok-changed.changed c.args.rule c.pairs-pairs.result (usage_of usage)
     (c.pairs-pairs.ensures ∙ ap (λ (es : List Emitted). pairs_of c.args.rule es) (sym emitted)) some
     (c.in_ok-changed.ensures.graph last emitted links whole) is)

@@ -1,18 +1,21 @@
 use Rattle.std.proofs.Common.{rules, ◌≡◌, ◌≢◌, List, Err, IfOk, IfErr, ap, subst, sym}
 use Rattle.std.specs.Prelude.{All, string_bytes}
 use Rattle.std.proofs.lemmas.Result.{IfErr-weaker, IfOk-weaker}
-use Rattle.report_model.specs.Answer.{Refused, Reported}
+use Rattle.report_model.specs.Answer.{Refused, Reported, untraced}
 use Rattle.crash_model.specs.Refusals.{run_of_script}
 use Rattle.crash_model.specs.Script.{IsAct}
 use Rattle.crash_model.specs.declared.refusals.RunFault.TheVariants.{OutOfMemory}
 use Rattle.crash_model.specs.declared.steps.Step.{Step}
 use Rattle.question_model.specs.Answers.{IsAnswerTo}
+use Rattle.question_model.specs.Asked.{CanBeAsked}
+use Rattle.question_model.specs.Decision.{IsDecision}
+use Rattle.question_model.specs.EnoughReport.{IsEnoughReport}
 use Rattle.crash_text.specs.BaseRefusal.{IsBaseRefusal}
 use Rattle.crash_text.specs.Searching.{IsNoPool, IsSearchOf}
 use Rattle.crash_text.specs.SearchingRules.{IsRuleSearchOf}
-use Rattle.crash_text.specs.Telling.{AreReported, AreRefused, IsOfSteps}
-use Rattle.crash_text.proofs.Answering.{has_base, refused_script, refused_base, refused_steps, reported_steps}
-use Rattle.crash_text.proofs.Answering.{refused_pool, reported_pool, reported_rules}
+use Rattle.crash_text.specs.Traced.{IsTraced, IsTraceRefusal}
+use Rattle.crash_text.proofs.Answering.{has_base, refused_script, refused_base, refused_steps, reported_on}
+use Rattle.crash_text.proofs.Answering.{reported_visit, refused_visit, refused_pool, reported_pool, reported_rules}
 use Rattle.crash_text.proofs.Pools.{are_acts}
 use Rattle.crash_text.proofs.run.run.Goals as goal
 
@@ -26,18 +29,144 @@ returns-in_err-read-clause-refused g c =
     (λ memory. refused_script c.args.script.now asked.settings asked.question fault
     (c.in_err-read.ensures.refused (λ e. memory (ap run_of_script e))))
 
-pub returns-in_err-base-clause-refused : goal.returns-in_err-base-clause-refused
-returns-in_err-base-clause-refused g c =
+pub returns-in_err-built-clause-refused : goal.returns-in_err-built-clause-refused
+returns-in_err-built-clause-refused g c =
     let asked = c.args.request.now in
     let read = c.in_ok-read.read in
-    let fault = c.in_err-base.field-0.0 in
-    let same : c.from_residual-in_err-base.result ≡ Err fault = search rules in
+    let fault = c.in_err-built.field-0.0 in
+    let same : c.from_residual-in_err-built.result ≡ Err fault = search rules in
     subst (λ r. IfErr r (λ f. f ≢ OutOfMemory
     → IsAnswerTo asked.question c.args.script.now asked.settings (Refused f))) (sym same)
     (λ memory. refused_base c.args.script.now asked.settings asked.question read.base.items read.traced.items fault
     c.in_ok-read.ensures.ok
     (subst (λ s. IsBaseRefusal asked.settings s fault) c.deref.ensures.value
-    (c.in_err-base.ensures.refused memory)))
+    (c.in_err-built.ensures.refused memory)))
+
+-- ---- a visit
+
+pub visited-answer-requires-clause-limit : goal.visited-answer-requires-clause-limit
+visited-answer-requires-clause-limit g c κs within = subst CanBeAsked c.in-Visit.is c.requires.asked
+
+pub returns-in_err-script-in-Visit-clause-refused : goal.returns-in_err-script-in-Visit-clause-refused
+returns-in_err-script-in-Visit-clause-refused g c =
+    let asked = c.args.request.now in
+    let read = c.in_ok-read.read in
+    let base = c.in_ok-built.built in
+    let fault = c.in_err-script-in-Visit.field-0.0 in
+    let start = has_base c.args.script.now asked.settings read.base.items _ read.traced.items base
+    c.in_ok-read.ensures.ok c.in_ok-built.ensures.lawful c.deref.ensures.value c.in_ok-built.ensures.built in
+    let same : c.from_residual-in_err-script-in-Visit.result ≡ Err fault = search rules in
+    subst (λ r. IfErr r (λ f. f ≢ OutOfMemory
+    → IsAnswerTo asked.question c.args.script.now asked.settings (Refused f))) (sym same)
+    (λ memory. subst (λ q. IsAnswerTo q c.args.script.now asked.settings (Refused fault)) (sym c.in-Visit.is)
+    (untraced fault (refused_steps c.args.script.now asked.settings base read.traced.items fault start
+    (subst (λ s. IsTraceRefusal asked.settings base s fault) c.deref-in-Visit.ensures.value
+    (c.in_err-script-in-Visit.ensures.refused memory)))))
+
+pub returns-in-Visit-clause-reported : goal.returns-in-Visit-clause-reported
+returns-in-Visit-clause-reported g c =
+    let asked = c.args.request.now in
+    let read = c.in_ok-read.read in
+    let base = c.in_ok-built.built in
+    let start = has_base c.args.script.now asked.settings read.base.items _ read.traced.items base
+    c.in_ok-read.ensures.ok c.in_ok-built.ensures.lawful c.deref.ensures.value c.in_ok-built.ensures.built in
+    let script = c.in_ok-script-in-Visit.script in
+    let traced = subst (λ s. IsTraced asked.settings base s script) c.deref-in-Visit.ensures.value
+    c.in_ok-script-in-Visit.ensures.traced in
+    subst (λ q. IfOk c.visited-answer.result (λ outcome. IsAnswerTo q c.args.script.now asked.settings
+    (Reported (string_bytes outcome.text) outcome.number))) (sym c.in-Visit.is)
+    (IfOk-weaker c.visited-answer.result _ _
+    (λ outcome is. reported_visit c.args.script.now asked.settings c.in-Visit.visit base read.traced.items script
+    (string_bytes outcome.text) outcome.number start traced is)
+    c.visited-answer.ensures.reported)
+
+pub returns-in-Visit-clause-refused : goal.returns-in-Visit-clause-refused
+returns-in-Visit-clause-refused g c =
+    let asked = c.args.request.now in
+    let read = c.in_ok-read.read in
+    let base = c.in_ok-built.built in
+    let start = has_base c.args.script.now asked.settings read.base.items _ read.traced.items base
+    c.in_ok-read.ensures.ok c.in_ok-built.ensures.lawful c.deref.ensures.value c.in_ok-built.ensures.built in
+    let script = c.in_ok-script-in-Visit.script in
+    let traced = subst (λ s. IsTraced asked.settings base s script) c.deref-in-Visit.ensures.value
+    c.in_ok-script-in-Visit.ensures.traced in
+    subst (λ q. IfErr c.visited-answer.result (λ f. f ≢ OutOfMemory
+    → IsAnswerTo q c.args.script.now asked.settings (Refused f))) (sym c.in-Visit.is)
+    (IfErr-weaker c.visited-answer.result _ _
+    (λ fault says memory. let many = says memory in
+    refused_visit c.args.script.now asked.settings c.in-Visit.visit base read.traced.items script fault start traced
+    many.0 many.1)
+    c.visited-answer.ensures.too_many)
+
+-- ---- a decision
+
+pub returns-in_err-script-in-Decide-clause-refused : goal.returns-in_err-script-in-Decide-clause-refused
+returns-in_err-script-in-Decide-clause-refused g c =
+    let asked = c.args.request.now in
+    let read = c.in_ok-read.read in
+    let base = c.in_ok-built.built in
+    let fault = c.in_err-script-in-Decide.field-0.0 in
+    let start = has_base c.args.script.now asked.settings read.base.items _ read.traced.items base
+    c.in_ok-read.ensures.ok c.in_ok-built.ensures.lawful c.deref.ensures.value c.in_ok-built.ensures.built in
+    let same : c.from_residual-in_err-script-in-Decide.result ≡ Err fault = search rules in
+    subst (λ r. IfErr r (λ f. f ≢ OutOfMemory
+    → IsAnswerTo asked.question c.args.script.now asked.settings (Refused f))) (sym same)
+    (λ memory. subst (λ q. IsAnswerTo q c.args.script.now asked.settings (Refused fault)) (sym c.in-Decide.is)
+    (refused_steps c.args.script.now asked.settings base read.traced.items fault start
+    (subst (λ s. IsTraceRefusal asked.settings base s fault) c.deref-in-Decide.ensures.value
+    (c.in_err-script-in-Decide.ensures.refused memory))))
+
+pub returns-in-Decide-clause-reported : goal.returns-in-Decide-clause-reported
+returns-in-Decide-clause-reported g c =
+    let asked = c.args.request.now in
+    let read = c.in_ok-read.read in
+    let base = c.in_ok-built.built in
+    let start = has_base c.args.script.now asked.settings read.base.items _ read.traced.items base
+    c.in_ok-read.ensures.ok c.in_ok-built.ensures.lawful c.deref.ensures.value c.in_ok-built.ensures.built in
+    let script = c.in_ok-script-in-Decide.script in
+    let outcome = c.in_ok-decided-in-Decide.field-0 in
+    let traced = subst (λ s. IsTraced asked.settings base s script) c.deref-in-Decide.ensures.value
+    c.in_ok-script-in-Decide.ensures.traced in
+    subst (λ q. IsAnswerTo q c.args.script.now asked.settings (Reported (string_bytes outcome.text) outcome.number))
+    (sym c.in-Decide.is)
+    (reported_on c.args.script.now asked.settings (IsDecision asked.settings) base read.traced.items script
+    (string_bytes outcome.text) outcome.number start traced c.in_ok-decided-in-Decide.ensures.reported)
+
+-- ---- the rules that are enough
+
+pub returns-in_err-script-in-Enough-clause-refused : goal.returns-in_err-script-in-Enough-clause-refused
+returns-in_err-script-in-Enough-clause-refused g c =
+    let asked = c.args.request.now in
+    let read = c.in_ok-read.read in
+    let base = c.in_ok-built.built in
+    let fault = c.in_err-script-in-Enough.field-0.0 in
+    let start = has_base c.args.script.now asked.settings read.base.items _ read.traced.items base
+    c.in_ok-read.ensures.ok c.in_ok-built.ensures.lawful c.deref.ensures.value c.in_ok-built.ensures.built in
+    let same : c.from_residual-in_err-script-in-Enough.result ≡ Err fault = search rules in
+    subst (λ r. IfErr r (λ f. f ≢ OutOfMemory
+    → IsAnswerTo asked.question c.args.script.now asked.settings (Refused f))) (sym same)
+    (λ memory. subst (λ q. IsAnswerTo q c.args.script.now asked.settings (Refused fault)) (sym c.in-Enough.is)
+    (refused_steps c.args.script.now asked.settings base read.traced.items fault start
+    (subst (λ s. IsTraceRefusal asked.settings base s fault) c.deref-in-Enough.ensures.value
+    (c.in_err-script-in-Enough.ensures.refused memory))))
+
+pub returns-in-Enough-clause-reported : goal.returns-in-Enough-clause-reported
+returns-in-Enough-clause-reported g c =
+    let asked = c.args.request.now in
+    let read = c.in_ok-read.read in
+    let base = c.in_ok-built.built in
+    let start = has_base c.args.script.now asked.settings read.base.items _ read.traced.items base
+    c.in_ok-read.ensures.ok c.in_ok-built.ensures.lawful c.deref.ensures.value c.in_ok-built.ensures.built in
+    let script = c.in_ok-script-in-Enough.script in
+    let outcome = c.in_ok-enough-in-Enough.field-0 in
+    let traced = subst (λ s. IsTraced asked.settings base s script) c.deref-in-Enough.ensures.value
+    c.in_ok-script-in-Enough.ensures.traced in
+    subst (λ q. IsAnswerTo q c.args.script.now asked.settings (Reported (string_bytes outcome.text) outcome.number))
+    (sym c.in-Enough.is)
+    (reported_on c.args.script.now asked.settings (IsEnoughReport asked.settings) base read.traced.items script
+    (string_bytes outcome.text) outcome.number start traced c.in_ok-enough-in-Enough.ensures.reported)
+
+-- ---- a search, and one for rules
 
 pub searched-requires-clause-acts : goal.searched-requires-clause-acts
 searched-requires-clause-acts g c κs within =
@@ -49,16 +178,16 @@ pub returns-in-Search-clause-reported : goal.returns-in-Search-clause-reported
 returns-in-Search-clause-reported g c =
     let asked = c.args.request.now in
     let read = c.in_ok-read.read in
-    let base = c.in_ok-base.base in
+    let base = c.in_ok-built.built in
     let start = has_base c.args.script.now asked.settings read.base.items _ read.traced.items base
-    c.in_ok-read.ensures.ok c.in_ok-base.ensures.lawful c.deref.ensures.value c.in_ok-base.ensures.built in
+    c.in_ok-read.ensures.ok c.in_ok-built.ensures.lawful c.deref.ensures.value c.in_ok-built.ensures.built in
     subst (λ q. IfOk c.searched.result (λ outcome. IsAnswerTo q c.args.script.now asked.settings
     (Reported (string_bytes outcome.text) outcome.number))) (sym c.in-Search.is)
     (IfOk-weaker c.searched.result _ _
     (λ outcome reported.
-    reported_pool c.args.script.now asked.settings c.in-Search.most base read.traced.items (string_bytes outcome.text)
+    reported_pool c.args.script.now asked.settings c.in-Search.longest base read.traced.items (string_bytes outcome.text)
     outcome.number start
-    (subst (λ s. IsSearchOf asked.settings c.in-Search.most base s (string_bytes outcome.text) outcome.number)
+    (subst (λ s. IsSearchOf asked.settings c.in-Search.longest base s (string_bytes outcome.text) outcome.number)
     c.deref-in-Search.ensures.value reported))
     c.searched.ensures.reported)
 
@@ -66,9 +195,9 @@ pub returns-in-Search-clause-refused : goal.returns-in-Search-clause-refused
 returns-in-Search-clause-refused g c =
     let asked = c.args.request.now in
     let read = c.in_ok-read.read in
-    let base = c.in_ok-base.base in
+    let base = c.in_ok-built.built in
     let start = has_base c.args.script.now asked.settings read.base.items _ read.traced.items base
-    c.in_ok-read.ensures.ok c.in_ok-base.ensures.lawful c.deref.ensures.value c.in_ok-base.ensures.built in
+    c.in_ok-read.ensures.ok c.in_ok-built.ensures.lawful c.deref.ensures.value c.in_ok-built.ensures.built in
     subst (λ q. IfErr c.searched.result (λ f. f ≢ OutOfMemory
     → IsAnswerTo q c.args.script.now asked.settings (Refused f))) (sym c.in-Search.is)
     (IfErr-weaker c.searched.result _ _
@@ -83,30 +212,30 @@ searched_for_rules-requires-clause-acts g c κs within =
     subst (λ (steps : List Step). All (λ step. IsAct step.act) steps) (sym c.deref-in-SearchRules.ensures.value)
     (are_acts c.args.script.now read.base.items read.traced.items c.in_ok-read.ensures.ok)
 
-pub returns-in-SearchRules-clause-reported : goal.returns-in-SearchRules-clause-reported
-returns-in-SearchRules-clause-reported g c =
+pub returns-clause-reported : goal.returns-clause-reported
+returns-clause-reported g c =
     let asked = c.args.request.now in
     let read = c.in_ok-read.read in
-    let base = c.in_ok-base.base in
+    let base = c.in_ok-built.built in
     let start = has_base c.args.script.now asked.settings read.base.items _ read.traced.items base
-    c.in_ok-read.ensures.ok c.in_ok-base.ensures.lawful c.deref.ensures.value c.in_ok-base.ensures.built in
+    c.in_ok-read.ensures.ok c.in_ok-built.ensures.lawful c.deref.ensures.value c.in_ok-built.ensures.built in
     subst (λ q. IfOk c.searched_for_rules.result (λ outcome. IsAnswerTo q c.args.script.now asked.settings
     (Reported (string_bytes outcome.text) outcome.number))) (sym c.in-SearchRules.is)
     (IfOk-weaker c.searched_for_rules.result _ _
     (λ outcome reported.
-    reported_rules c.args.script.now asked.settings c.in-SearchRules.most base read.traced.items
+    reported_rules c.args.script.now asked.settings c.in-SearchRules.longest base read.traced.items
     (string_bytes outcome.text) outcome.number start
-    (subst (λ s. IsRuleSearchOf asked.settings c.in-SearchRules.most base s (string_bytes outcome.text) outcome.number)
+    (subst (λ s. IsRuleSearchOf asked.settings c.in-SearchRules.longest base s (string_bytes outcome.text) outcome.number)
     c.deref-in-SearchRules.ensures.value reported))
     c.searched_for_rules.ensures.reported)
 
-pub returns-in-SearchRules-clause-refused : goal.returns-in-SearchRules-clause-refused
-returns-in-SearchRules-clause-refused g c =
+pub returns-clause-refused : goal.returns-clause-refused
+returns-clause-refused g c =
     let asked = c.args.request.now in
     let read = c.in_ok-read.read in
-    let base = c.in_ok-base.base in
+    let base = c.in_ok-built.built in
     let start = has_base c.args.script.now asked.settings read.base.items _ read.traced.items base
-    c.in_ok-read.ensures.ok c.in_ok-base.ensures.lawful c.deref.ensures.value c.in_ok-base.ensures.built in
+    c.in_ok-read.ensures.ok c.in_ok-built.ensures.lawful c.deref.ensures.value c.in_ok-built.ensures.built in
     subst (λ q. IfErr c.searched_for_rules.result (λ f. f ≢ OutOfMemory
     → IsAnswerTo q c.args.script.now asked.settings (Refused f))) (sym c.in-SearchRules.is)
     (IfErr-weaker c.searched_for_rules.result _ _
@@ -114,27 +243,3 @@ returns-in-SearchRules-clause-refused g c =
     refused_pool c.args.script.now asked.settings base read.traced.items fault start
     (subst (λ s. IsNoPool s fault) c.deref-in-SearchRules.ensures.value (refused memory)))
     c.searched_for_rules.ensures.refused)
-
-pub returns : goal.returns
-returns g c =
-    let asked = c.args.request.now in
-    let read = c.in_ok-read.read in
-    let base = c.in_ok-base.base in
-    let start = has_base c.args.script.now asked.settings read.base.items _ read.traced.items base
-    c.in_ok-read.ensures.ok c.in_ok-base.ensures.lawful c.deref.ensures.value c.in_ok-base.ensures.built in
-    let of_steps : IsOfSteps asked.question = search rules in record {
-      reported = IfOk-weaker c.answer_steps.result _ _
-          (λ outcome reported.
-          reported_steps c.args.script.now asked.settings asked.question base read.traced.items
-          (string_bytes outcome.text) outcome.number start
-          (subst (λ s. AreReported asked.question asked.settings base s (string_bytes outcome.text) outcome.number)
-          c.deref-in-Visit.ensures.value reported))
-          c.answer_steps.ensures.reported;
-      refused = IfErr-weaker c.answer_steps.result _ _
-          (λ fault refused memory.
-          refused_steps c.args.script.now asked.settings asked.question base read.traced.items fault of_steps start
-          (subst (λ s. AreRefused asked.question asked.settings base s fault) c.deref-in-Visit.ensures.value
-          (refused memory)))
-          c.answer_steps.ensures.refused;
-      full = c.answer_steps.ensures.full;
-    }

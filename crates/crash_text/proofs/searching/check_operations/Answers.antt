@@ -1,4 +1,4 @@
-use Rattle.std.proofs.Common.{List, take, refl, subst}
+use Rattle.std.proofs.Common.{List, refl, subst}
 use Rattle.std.specs.Prelude.{All}
 use Rattle.std.proofs.lemmas.List.{take_all}
 use Rattle.crash_model.specs.declared.refusals.RunFault.TheVariants.{GroupFault}

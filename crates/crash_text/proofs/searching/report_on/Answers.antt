@@ -1,4 +1,4 @@
-use Rattle.std.proofs.Common.{List, length, map, ap, ◌∙◌}
+use Rattle.std.proofs.Common.{ℕ, List, length, map, ap₂, ◌∙◌}
 use Rattle.std.specs.Prelude.{◌==◌}
 use Rattle.std.proofs.lemmas.List.Elements.{All-map}
 use Rattle.question_model.specs.SearchReport.{IsToldKind, search_bytes}
@@ -22,9 +22,9 @@ returns-clause-report g c =
       kinds = told_shown pool crashes ∙ (c.in_ok-kinds.ensures.shown ∙ c.as_slice.ensures.value);
       each = All-map (IsToldKind (search_by judge) settings.explain) (told_kind pool) crashes
           c.in_ok-kinds.ensures.told;
-      whole = c.in_ok-search_report.ensures ∙ ap (λ (ks : List (KindCrash g.row.A.Denot)).
-          search_bytes settings judge.most (length pool) c.args.found.now (map (told_kind pool) ks))
-          c.deref.ensures.value;
+      whole = c.in_ok-search_report.ensures ∙ ap₂ (λ (n : ℕ) (ks : List (KindCrash g.row.A.Denot)).
+          search_bytes settings n (length pool) c.args.found.now (map (told_kind pool) ks))
+          c.operations.ensures.same c.deref.ensures.value;
     }
 
 pub returns-clause-number : goal.returns-clause-number

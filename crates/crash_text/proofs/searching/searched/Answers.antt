@@ -1,6 +1,7 @@
 use Rattle.std.proofs.Common.{rules, ℕ, ap, ◌∙◌}
 use Rattle.std.specs.Prelude.{◌==◌, if◌then◌else◌}
 use Rattle.crash_model.specs.Disk.{IsDisk}
+use Rattle.question_model.specs.Lengths.{operations_of}
 use Rattle.pool_judging.specs.Judging.{IsFullJournal}
 use Rattle.pool_judging.proofs.Full.{nothing_fails, none_failing}
 use Rattle.crash_text.proofs.PoolReports.{search_under}
@@ -12,7 +13,7 @@ returns-clause-full g c = λ full none.
     let settings = c.args.request.now.settings in
     let pool = c.args.pool.now in
     let ordering = c.ordering-ordering in
-    let s = search_under settings c.number.result pool.base.now pool.steps.now ordering.result.«module»
+    let s = search_under settings (operations_of pool.longest) pool.base.now pool.steps.now ordering.result.«module»
     ordering.result.whole_blocks ordering.result.rules.items in
     let is_full : IsFullJournal s = record {
       full = ordering.ensures.«module» ∙ full;

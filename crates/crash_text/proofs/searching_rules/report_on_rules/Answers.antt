@@ -1,7 +1,8 @@
-use Rattle.std.proofs.Common.{ℕ, List, length, map, ap₂, ◌∙◌, subst, sym}
+use Rattle.std.proofs.Common.{ℕ, List, length, map, ap, ap₂, ◌∙◌, subst, sym}
 use Rattle.std.specs.Prelude.{All, ◌==◌}
 use Rattle.patch_sets.specs.Sets.{AreAllInOrder}
 use Rattle.question_model.specs.EnoughFor.{IsNeededInSearch}
+use Rattle.question_model.specs.Lengths.{operations_of}
 use Rattle.question_model.specs.SearchRulesReport.{search_rules_bytes}
 use Rattle.question_reports.specs.SearchRulesFindings.{told_need}
 use Rattle.question_reports.specs.declared.search_rules.findings.NeededWorkload.{NeededWorkload}
@@ -22,8 +23,8 @@ returns-clause-report g c =
     let judge = c.args.judge.now in
     let pool = judge.pool.now in
     let needs = c.in_ok-needs.needs.items in
-    let form : List ℕ → List (NeededWorkload g.row.A.Denot) → List ℕ = λ enough told.
-    search_rules_bytes settings judge.most (length pool) c.args.searched.now.found enough (map (told_need pool) told) in
+    let form : ℕ → List ℕ → List (NeededWorkload g.row.A.Denot) → List ℕ = λ longest enough told.
+    search_rules_bytes settings longest (length pool) c.args.searched.now.found enough (map (told_need pool) told) in
     record {
       enough = c.in_ok-sets.sets.enough.items;
       minimal = c.in_ok-sets.ensures.enough;
@@ -32,7 +33,9 @@ returns-clause-report g c =
           (sym (told_groups pool needs ∙ (c.in_ok-needs.ensures.groups ∙ c.deref.ensures.value)))
           c.in_ok-sets.ensures.needed;
       told = c.in_ok-needs.ensures.told;
-      whole = c.in_ok-search_rules_report.ensures ∙ ap₂ form c.deref-2.ensures.value c.deref-3.ensures.value;
+      whole = c.in_ok-search_rules_report.ensures
+          ∙ (ap (λ (n : ℕ). form n c.deref-2.result.now c.deref-3.result.now) c.operations.ensures.same
+          ∙ ap₂ (form (operations_of judge.longest)) c.deref-2.ensures.value c.deref-3.ensures.value);
     }
 
 pub returns-clause-number : goal.returns-clause-number

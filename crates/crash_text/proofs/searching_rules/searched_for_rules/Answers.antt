@@ -1,4 +1,4 @@
-use Rattle.std.proofs.Common.{rules, ℕ, length, map, ap, subst, ◌∙◌}
+use Rattle.std.proofs.Common.{rules, ℕ, map, refl, ap, subst, ◌∙◌}
 use Rattle.std.specs.Prelude.{All, ◌==◌, if◌then◌else◌}
 use Rattle.patch_sets.specs.Sets.{AreAllInOrder}
 use Rattle.report_model.specs.Answer.{ordering_rules}
@@ -6,10 +6,10 @@ use Rattle.crash_model.specs.Disk.{IsDisk}
 use Rattle.pool_judging.specs.Judging.{IsFullJournal}
 use Rattle.pool_judging.proofs.Full.{nothing_fails, none_failing}
 use Rattle.question_model.specs.Found.{AreFound}
-use Rattle.question_model.specs.Most.{number_of_most}
+use Rattle.question_model.specs.Lengths.{operations_of}
 use Rattle.question_model.specs.Workloads.{Search}
 use Rattle.question_model.specs.EnoughFor.{IsMinimalInSearch, IsNeededInSearch}
-use Rattle.question_model.specs.SearchRulesReport.{IsToldNeed, search_rules_bytes}
+use Rattle.question_model.specs.SearchRulesReport.{IsToldNeed}
 use Rattle.crash_text.proofs.PoolReports.{search_under, same_search}
 use Rattle.crash_text.proofs.Safe.{full_rules}
 use Rattle.crash_text.proofs.searching_rules.searched_for_rules.Goals as goal
@@ -19,7 +19,7 @@ returns-clause-full g c = λ full none.
     let settings = c.args.request.now.settings in
     let pool = c.args.pool.now in
     let ordering = c.ordering-ordering in
-    let s = search_under settings c.number.result pool.base.now pool.steps.now ordering.result.«module»
+    let s = search_under settings (operations_of pool.longest) pool.base.now pool.steps.now ordering.result.«module»
     ordering.result.whole_blocks ordering.result.rules.items in
     let is_full : IsFullJournal s = record {
       full = ordering.ensures.«module» ∙ full;
@@ -36,13 +36,13 @@ returns-clause-reported g c =
     let settings = c.args.request.now.settings in
     let pool = c.args.pool.now in
     let steps = pool.steps.now in
-    let most = number_of_most pool.most in
+    let longest = operations_of pool.longest in
     let ordering = c.ordering-ordering in
     let found = c.in_ok-searched.searched.found in
     let report = c.in_ok-outcome.ensures.report in
-    let same = same_search settings pool.base.now steps c.number.result most ordering.result.«module» settings.«module»
-    ordering.result.whole_blocks settings.whole_blocks ordering.result.rules.items (ordering_rules settings)
-    c.number.ensures.same ordering.ensures.«module» ordering.ensures.whole ordering.ensures.rules in (
+    let same = same_search settings pool.base.now steps longest longest ordering.result.«module» settings.«module»
+    ordering.result.whole_blocks settings.whole_blocks ordering.result.rules.items (ordering_rules settings) refl
+    ordering.ensures.«module» ordering.ensures.whole ordering.ensures.rules in (
       c.in_ok-check_operations.ensures.ok,
       record {
         found = found;
@@ -53,8 +53,7 @@ returns-clause-reported g c =
         needed = subst (λ (s : Search). AreAllInOrder (IsNeededInSearch s) (map (λ t. t.group) report.needs)) same
             report.needed;
         told = subst (λ (s : Search). All (IsToldNeed s settings.explain) report.needs) same report.told;
-        whole = report.whole ∙ ap (λ (m : ℕ). search_rules_bytes settings m (length steps) found report.enough
-            report.needs) c.number.ensures.same;
+        whole = report.whole;
         number_of = c.in_ok-outcome.ensures.number;
       },
     )

@@ -1,19 +1,30 @@
+use Rattle.std.proofs.Common.{arith}
 use Rattle.std.specs.Prelude.{Some}
 use Rattle.std.proofs.lemmas.List.Elements.{All-pop}
-use Rattle.explorers.specs.Ready.{IsLeft}
+use Rattle.explorers.specs.declared.worker.Left.{Left}
+use Rattle.explorers.specs.Ready.{IsLeft, IsCounted}
+use Rattle.explorers.proofs.Sharing.{whole_join, whole_end}
 use Rattle.explorers.proofs.answers.join_all.Goals as goal
 
 pub join-all-requires-clause-all : goal.join-all-requires-clause-all
-join-all-requires-clause-all g c = c.loop-other.invariant.all
+join-all-requires-clause-all g c = (c.loop-other.invariant.all, c.loop-other.invariant.counted)
 
 pub join-all-requires-clause-other : goal.join-all-requires-clause-other
 join-all-requires-clause-other g c =
-    (All-pop (IsLeft c.args.board.now) c.loop-other.others.items c.pop.new.self.items (Some c.in-Some.other)
-    c.in-Some.ensures.items c.loop-other.invariant.others).1
+    (All-pop (λ left. IsLeft c.args.board.now left × IsCounted left) c.loop-other.others.items c.pop.new.self.items
+    (Some c.in-Some.other) c.in-Some.ensures.items c.loop-other.invariant.others).1
 
 pub loop-other-preserved : goal.loop-other-preserved
 loop-other-preserved g c = record {
-  all = c.join-all.ensures;
-  others = (All-pop (IsLeft c.args.board.now) c.loop-other.others.items c.pop.new.self.items (Some c.in-Some.other)
-      c.in-Some.ensures.items c.loop-other.invariant.others).0;
+  all = c.join-all.ensures.left;
+  counted = c.join-all.ensures.counted;
+  others = (All-pop (λ left. IsLeft c.args.board.now left × IsCounted left) c.loop-other.others.items
+      c.pop.new.self.items (Some c.in-Some.other) c.in-Some.ensures.items c.loop-other.invariant.others).0;
+  shares = whole_join (λ left. left.seat.share) c.loop-other.all.seat.share c.join-all.result.seat.share
+      c.loop-other.others.items c.pop.new.self.items c.in-Some.other c.in-Some.ensures.items c.join-all.ensures.share
+      c.loop-other.invariant.shares;
 }
+
+pub returns-clause-whole : goal.returns-clause-whole
+returns-clause-whole g c = whole_end (λ (left : Left). left.seat.share) c.loop-other.all.seat.share
+    c.loop-other.others.items (omega (arith, c.in_default.ensures.cases.0, c.loop-other.others.ok)) c.loop-other.invariant.shares

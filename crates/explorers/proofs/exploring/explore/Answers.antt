@@ -1,9 +1,6 @@
-use Rattle.std.proofs.Common.{sym, ◌∙◌}
+use Rattle.explorers.proofs.Overfilling.{overfills_any}
 use Rattle.explorers.proofs.exploring.explore.Goals as goal
 
-pub work_all-requires-clause-ways : goal.work_all-requires-clause-ways
-work_all-requires-clause-ways g c = λ _ _ k d inside. c.in_ok-hands.ensures.ways k d inside
-    ∙ sym c.in_ok-hands.ensures.count
-
-pub answer-requires-clause-board : goal.answer-requires-clause-board
-answer-requires-clause-board g c = c.in_ok-board.ensures.board
+pub returns-clause-too_many : goal.returns-clause-too_many
+returns-clause-too_many g c = λ is. overfills_any _ c.args.limit c.for_any.result.limit c.for_any.result.places
+    c.for_any.ensures.limit c.for_any.ensures.places (c.explore_in_room.ensures.too_many is)

@@ -1,6 +1,7 @@
-use Rattle.std.proofs.Common.{refl, sym, subst, ◌∙◌}
+use Rattle.std.proofs.Common.{refl, sym, subst, ap, ◌∙◌}
 use Rattle.board_rule.specs.Lists.{Has}
 use Rattle.seen_board.specs.Known.{Known}
+use Rattle.seen_board.specs.Ended.{claims_made}
 use Rattle.explorers.specs.Ready.{IsIdle}
 use Rattle.explorers.proofs.Meeting.{met_copies}
 use Rattle.explorers.proofs.exploring.new_worker.Goals as goal
@@ -29,4 +30,14 @@ returns-clause-ready g c =
             (rw c.start.ensures has));
       };
       unclaimed = seat.2;
+      counted = λ _. c.new-2.ensures.expanded ∙ sym (ap claims_made (c.new-2.ensures.seat ∙ c.split.ensures.new));
     }
+
+pub returns-clause-made : goal.returns-clause-made
+returns-clause-made g c = ap claims_made c.split.ensures.same
+
+pub returns-clause-share : goal.returns-clause-share
+returns-clause-share g c = ap (λ (s : Known). s.share) c.split.ensures.same
+
+pub returns-clause-half : goal.returns-clause-half
+returns-clause-half g c = ap (λ (s : Known). s.share) (c.new-2.ensures.seat ∙ c.split.ensures.new)

@@ -1,6 +1,7 @@
-use Rattle.std.proofs.Common.{◌≡◌, length, IfSome, arith, ap, subst}
+use Rattle.std.proofs.Common.{◌≡◌, ◌∙◌, length, IfSome, arith, refl, ap, subst}
 use Rattle.std.proofs.lemmas.List.Elements.{All-push, All-pop}
 use Rattle.explorers.specs.Ready.{IsReady}
+use Rattle.explorers.proofs.Sharing.{whole_alone, whole_split}
 use Rattle.explorers.proofs.exploring.new_workers.Goals as goal
 
 pub loop-hand-preserved : goal.loop-hand-preserved
@@ -9,6 +10,10 @@ loop-hand-preserved g c =
     let start = g.S.Space.initial c.args.space.now in
     record {
       idle = c.new_worker.ensures.idle;
+      made = c.new_worker.ensures.made ∙ c.loop-hand.invariant.made;
+      shares = rw c.in_ok-push.ensures.items (whole_split (λ worker. worker.seat.share) c.loop-hand.seat.share
+          c.new_worker.new.seat.share c.loop-hand.workers.items c.in_ok-worker.worker c.in_ok-worker.ensures.share
+          c.in_ok-worker.ensures.half c.loop-hand.invariant.shares);
       start = rw c.new_worker.ensures.seen c.loop-hand.invariant.start;
       ready = rw c.in_ok-push.ensures.items (All-push (IsReady b c.args.space.now g.S.Space.is_own)
           c.loop-hand.workers.items c.in_ok-worker.worker c.loop-hand.invariant.ready c.in_ok-worker.ensures.ready);
@@ -20,6 +25,9 @@ loop-hand-preserved g c =
 pub loop-hand-init : goal.loop-hand-init
 loop-hand-init g c = record {
   idle = c.requires.idle;
+  made = refl;
+  shares = rw c.new-workers.ensures.items (whole_alone (λ worker. worker.seat.share) c.args.seat.now.share
+      c.requires.whole);
   start = c.requires.start;
   ready = λ k d inside. absurd (omega (arith, inside, ap length c.new-workers.ensures.items));
   ways = λ k d inside. omega (arith, c.requires.ways k d inside, c.len-count.ensures, c.args.hands.ok);

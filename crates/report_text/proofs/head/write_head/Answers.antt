@@ -3,7 +3,7 @@ use Rattle.std.specs.Prelude.{if◌then◌else◌}
 use Rattle.std.proofs.lemmas.Result.{on_ok_weaker}
 use Rattle.report_model.specs.Report.{line}
 use Rattle.crash_model.specs.Texts.{module_text}
-use Rattle.report_model.specs.Whole.{rule_lines, told_with, told_without}
+use Rattle.report_model.specs.Whole.{rule_lines, told_with, told_without, blocks_text}
 use Rattle.report_text.proofs.HeadLines.{head_of}
 use Rattle.report_text.proofs.head.write_head.Goals as goal
 
@@ -12,7 +12,7 @@ returns g c =
     let s = c.args.settings.now in
     on_ok_weaker c.write_numbers.result (λ wrote. head_of _ _ _ (line (codes "module " ++ module_text s.module))
     (rule_lines (codes "without") (told_without s)) (rule_lines (codes "with") (told_with s))
-    (if s.whole_blocks then line (codes "whole blocks") else []) (if s.strict then line (codes "strict") else [])
+    (blocks_text s.generations s.whole_blocks) (if s.strict then line (codes "strict") else [])
     (if s.atomic then line (codes "atomic") else []) (line (codes "patches " ++ decimal c.args.patches))
     (line (codes "closed " ++ decimal c.args.closed)) (line (codes "failing " ++ decimal c.args.failing))
     c.in_ok-write_ordering.ensures wrote) c.write_numbers.ensures

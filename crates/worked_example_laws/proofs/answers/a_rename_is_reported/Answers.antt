@@ -1,7 +1,8 @@
 use Rattle.std.proofs.Common.{refl}
 use Rattle.crash_model.specs.Disk.{overwrite}
 use Rattle.crash_model.specs.Lists.{each_below, some_below, first_below}
-use Rattle.crash_model.specs.Plan.{plan_of}
+use Rattle.crash_model.specs.Layout.{generation_of, mark_generation}
+use Rattle.crash_model.specs.Plan.{plan_of, next_generation}
 use Rattle.crash_model.specs.Faults.{each_slot, each_entry, namers, entries_to, faults}
 use Rattle.std.proofs.Common.{[], ◌∷◌}
 use Rattle.std.specs.Prelude.{codes}
@@ -19,6 +20,7 @@ use Rattle.worked_example_laws.proofs.answers.a_rename_is_reported.Goals as goal
 
 pub returns : goal.returns
 unfolding overwrite each_below some_below first_below plan_of each_slot each_entry namers entries_to faults fault_text
+    generation_of mark_generation next_generation
     text_report json_report digits
-returns c = reported (settings_of Async 16 0 4096 false) (Do (Create (root (codes "a"))) ∷ [])
-    (Do (Rename (root (codes "a")) (root (codes "b"))) ∷ []) 12 (2 ∷ 11 ∷ []) _ refl refl refl
+returns c = reported (settings_of Async 16 0 false) 4096 (Do (Create (root (codes "a"))) ∷ [])
+    (Do (Rename (root (codes "a")) (root (codes "b"))) ∷ []) 12 (2 ∷ 11 ∷ []) _ refl refl

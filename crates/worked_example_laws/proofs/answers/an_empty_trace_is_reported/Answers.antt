@@ -1,7 +1,8 @@
 use Rattle.std.proofs.Common.{refl}
 use Rattle.crash_model.specs.Disk.{overwrite}
 use Rattle.crash_model.specs.Lists.{each_below, some_below, first_below}
-use Rattle.crash_model.specs.Plan.{plan_of}
+use Rattle.crash_model.specs.Layout.{generation_of, mark_generation}
+use Rattle.crash_model.specs.Plan.{plan_of, next_generation}
 use Rattle.crash_model.specs.Faults.{each_slot, each_entry, namers, entries_to, faults}
 use Rattle.std.proofs.Common.{[]}
 use Rattle.std.specs.Fmt.{digits}
@@ -15,5 +16,6 @@ use Rattle.worked_example_laws.proofs.answers.an_empty_trace_is_reported.Goals a
 
 pub returns : goal.returns
 unfolding overwrite each_below some_below first_below plan_of each_slot each_entry namers entries_to faults fault_text
+    generation_of mark_generation next_generation
     text_report json_report digits
-returns c = reported (settings_of Async 16 0 1 false) ([]) ([]) 1 [] _ refl refl refl
+returns c = reported (settings_of Async 16 0 false) 1 ([]) ([]) 1 [] _ refl refl

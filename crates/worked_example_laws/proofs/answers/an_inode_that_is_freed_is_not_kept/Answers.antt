@@ -1,7 +1,8 @@
 use Rattle.std.proofs.Common.{refl}
 use Rattle.crash_model.specs.Disk.{overwrite}
 use Rattle.crash_model.specs.Lists.{each_below, some_below, first_below}
-use Rattle.crash_model.specs.Plan.{plan_of}
+use Rattle.crash_model.specs.Layout.{generation_of, mark_generation}
+use Rattle.crash_model.specs.Plan.{plan_of, next_generation}
 use Rattle.crash_model.specs.Faults.{each_slot, each_entry, namers, entries_to, faults}
 use Rattle.crash_model.specs.Strict.{reach_in, is_reached, strict_faults}
 use Rattle.std.proofs.Common.{[], ◌∷◌}
@@ -20,6 +21,7 @@ use Rattle.worked_example_laws.proofs.answers.an_inode_that_is_freed_is_not_kept
 
 pub returns : goal.returns
 unfolding overwrite each_below some_below first_below plan_of each_slot each_entry namers entries_to faults reach_in
+    generation_of mark_generation next_generation
     is_reached strict_faults fault_text text_report json_report digits
-returns c = reported (strict_settings_of Soft 16 0 4096 false) (Do (Create (root (codes "a"))) ∷ [])
-    (Do (Unlink (root (codes "a"))) ∷ Do (Create (root (codes "b"))) ∷ []) 5 [] _ refl refl refl
+returns c = reported (strict_settings_of Soft 16 0 false) 4096 (Do (Create (root (codes "a"))) ∷ [])
+    (Do (Unlink (root (codes "a"))) ∷ Do (Create (root (codes "b"))) ∷ []) 5 [] _ refl refl

@@ -1,4 +1,4 @@
-use Rattle.worked_example_laws.proofs.Scripts.{script_one, refusal_one, read_or_refused}
+use Rattle.uniqueness_laws.proofs.Scripts.{script_one, refusal_one, read_or_refused}
 use Rattle.worked_example_laws.proofs.SomeReading.{some_reading}
 use Rattle.worked_example_laws.proofs.determined.a_script_has_one_reading_or_one_refusal.Goals as goal
 

@@ -1,6 +1,6 @@
 use Rattle.worked_example_laws.specs.Computed.{graph_of}
 use Rattle.worked_example_laws.proofs.Graphs.{graph_is}
-use Rattle.worked_example_laws.proofs.OneGraph.{graph_one}
+use Rattle.uniqueness_laws.proofs.OneGraph.{graph_one}
 use Rattle.worked_example_laws.proofs.determined.a_trace_has_one_graph.Goals as goal
 
 pub returns-clause-some : goal.returns-clause-some

@@ -1,5 +1,6 @@
 use Rattle.worked_example_laws.specs.Computed.{demands_of}
-use Rattle.worked_example_laws.proofs.Keeping.{are_demands, one_demands}
+use Rattle.uniqueness_laws.proofs.Demands.{one_demands}
+use Rattle.worked_example_laws.proofs.Keeping.{are_demands}
 use Rattle.worked_example_laws.proofs.determined.what_is_demanded_is_determined.Goals as goal
 
 pub returns-clause-some : goal.returns-clause-some

@@ -1,5 +1,6 @@
 use Rattle.worked_example_laws.specs.Computed.{kept_of}
-use Rattle.worked_example_laws.proofs.Keeping.{is_told_kept, one_kept}
+use Rattle.uniqueness_laws.proofs.Demands.{one_kept}
+use Rattle.worked_example_laws.proofs.Keeping.{is_told_kept}
 use Rattle.worked_example_laws.proofs.determined.what_is_kept_is_determined.Goals as goal
 
 pub returns-clause-some : goal.returns-clause-some

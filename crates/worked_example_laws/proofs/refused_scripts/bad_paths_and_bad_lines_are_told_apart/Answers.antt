@@ -13,13 +13,13 @@ pub returns-clause-root : goal.returns-clause-root
 unfolding is_utf8 chars encode
 returns-clause-root c =
     path_refused (lines_of [] []) (codes "mkdir /") [] (started_accepted [] [] refl refl) refl
-    (bad_path_if (codes "mkdir /") (Do (Mkdir a)) (codes "/" ∷ []) refl refl refl)
+    (bad_path_if (codes "mkdir /") (Do (Mkdir a)) (codes "/" ∷ []) refl refl refl tt)
 
 pub returns-clause-deep : goal.returns-clause-deep
 unfolding is_utf8 chars encode
 returns-clause-deep c =
     path_refused (lines_of [] []) (codes "mkdir /a/b/c/d/e") [] (started_accepted [] [] refl refl) refl
-    (bad_path_if (codes "mkdir /a/b/c/d/e") (Do (Mkdir a)) (codes "/a/b/c/d/e" ∷ []) refl refl refl)
+    (bad_path_if (codes "mkdir /a/b/c/d/e") (Do (Mkdir a)) (codes "/a/b/c/d/e" ∷ []) refl refl refl tt)
 
 pub returns-clause-spaces : goal.returns-clause-spaces
 unfolding is_utf8 chars encode

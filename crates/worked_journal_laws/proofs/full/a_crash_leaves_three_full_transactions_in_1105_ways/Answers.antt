@@ -1,14 +1,15 @@
 use Rattle.std.proofs.Common.{refl, arith, [], ◌∷◌}
 use Rattle.crash_model.specs.Disk.{overwrite}
 use Rattle.crash_model.specs.Lists.{each_below, some_below, first_below}
-use Rattle.crash_model.specs.Plan.{plan_of}
+use Rattle.crash_model.specs.Layout.{generation_of, mark_generation}
+use Rattle.crash_model.specs.Plan.{plan_of, next_generation}
 use Rattle.crash_model.specs.declared.modules.Module.TheVariants.{Full}
 use Rattle.worked_example_laws.specs.Examples.{with_directory, reused_directory}
 use Rattle.worked_example_laws.proofs.FailingSets.{HasCounts, counts_if}
 use Rattle.worked_journal_laws.proofs.full.a_crash_leaves_three_full_transactions_in_1105_ways.Goals as goal
 
 counts : HasCounts Full with_directory reused_directory (2 ∷ 9 ∷ 17 ∷ []) (256 ∷ 320 ∷ 328 ∷ 201 ∷ []) 1105
-unfolding overwrite each_below some_below first_below plan_of
+unfolding overwrite each_below some_below first_below plan_of generation_of mark_generation next_generation
 counts = counts_if Full with_directory reused_directory (2 ∷ 9 ∷ 17 ∷ []) (256 ∷ 320 ∷ 328 ∷ 201 ∷ []) 1105 refl
 
 pub returns-clause-none : goal.returns-clause-none

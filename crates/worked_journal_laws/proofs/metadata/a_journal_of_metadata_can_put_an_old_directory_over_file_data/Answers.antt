@@ -3,7 +3,8 @@ use Rattle.crash_model.specs.Disk.{Disk, overwrite}
 use Rattle.crash_model.specs.Faults.{faults}
 use Rattle.crash_model.specs.Lists.{each_below, some_below, first_below}
 use Rattle.crash_model.specs.Patches.{deps_of, image_of}
-use Rattle.crash_model.specs.Plan.{plan_of}
+use Rattle.crash_model.specs.Layout.{generation_of, mark_generation}
+use Rattle.crash_model.specs.Plan.{plan_of, next_generation}
 use Rattle.crash_model.specs.Replay.{headers, image_after_replay}
 use Rattle.crash_model.specs.declared.fault.Fault.{Fault}
 use Rattle.crash_model.specs.declared.fault.Fault.TheVariants.{Unwritten}
@@ -29,7 +30,7 @@ abbrev IsFound : List Patch → Type 0
 IsFound patches = found patches ≡ (true, 4 ∷ 7 ∷ 11 ∷ [], Unwritten 3 0 17 ∷ [])
 
 is_found : HasGraph Meta with_directory reused_directory IsFound
-unfolding overwrite each_below some_below first_below plan_of
+unfolding overwrite each_below some_below first_below plan_of generation_of mark_generation next_generation
 is_found = graph_if Meta with_directory reused_directory found (true, 4 ∷ 7 ∷ 11 ∷ [], Unwritten 3 0 17 ∷ []) refl
 
 faults_are : (patches : List Patch) → IsFound patches → faults

@@ -1,7 +1,7 @@
 use Rattle.std.proofs.Common.{◌≡◌, arith, ap}
 use Rattle.crash_image.specs.Moves.{Applied}
 use Rattle.crash_image.proofs.NoJournal.{journal_size, has_journal}
-use Rattle.crash_image.proofs.Differ.{next_blocks, next_journal, next_differ}
+use Rattle.crash_image.proofs.Differ.{next_blocks, next_journal, next_generations, next_differ}
 use Rattle.crash_image.proofs.replayer.Replayer.move_to.Goals as goal
 
 pub copy_blocks-requires-clause-blocks : goal.copy_blocks-requires-clause-blocks
@@ -17,6 +17,14 @@ copy_blocks-requires-clause-journal g c =
     let some = has_journal c.self.inside.mover c.image.result.now c.journal.result c.image.ensures
     c.journal.ensures.value c.if-journal-eq0.false in
     next_journal c.self.inside.mover c.move_to-2.new.self c.self.inside.after c.image-2.result.now c.args.set
+    c.self.inside.stale c.blocks_to.result
+    (c.self.invariant some) c.move_to-2.ensures c.image-2.ensures
+
+pub copy_blocks-requires-clause-generations : goal.copy_blocks-requires-clause-generations
+copy_blocks-requires-clause-generations g c =
+    let some = has_journal c.self.inside.mover c.image.result.now c.journal.result c.image.ensures
+    c.journal.ensures.value c.if-journal-eq0.false in
+    next_generations c.self.inside.mover c.move_to-2.new.self c.self.inside.after c.image-2.result.now c.args.set
     c.self.inside.stale c.blocks_to.result
     (c.self.invariant some) c.move_to-2.ensures c.image-2.ensures
 

@@ -13,7 +13,7 @@ returns g c =
     let f = c.args.self.now in
     let found = c.requires.found.found in
     IfOk-weaker c.write.result _ _
-    (λ text told. λ last is. by_set f.settings.now f.demands.now f.base.now f.traced.now last is g.row.A.Denot
+    (λ text told. λ last is. by_set f.settings.now f.visit.report f.visit.limit f.demands.now f.base.now f.traced.now last is g.row.A.Denot
     f.found.closed f.found.failing found.sets (string_bytes text) c.args.sets found.totals c.requires.by
     c.requires.sets told)
     c.write.ensures

@@ -1,8 +1,10 @@
-use Rattle.std.proofs.Common.{rules, arith, sym, subst, ◌≡◌, ◌+◌, ◌∙◌}
+use Rattle.std.proofs.Common.{rules, arith, sym, subst, ◌≡◌, ◌+◌, ◌∙◌, length}
 use Rattle.seen_board.specs.Known.{Known}
+use Rattle.seen_board.specs.Ended.{claims_made}
 use Rattle.seen_board.specs.Clauses.{HasPlace, word_at, SeesOn}
 use Rattle.seen_board.proofs.Chains.{sees_on_trans}
 use Rattle.seen_board.proofs.Puts.{place_on, successor_on}
+use Rattle.explorers.proofs.Counting.{keeps_same, keeps_trans, counts_one}
 use Rattle.explorers.proofs.Successors.{expands_next, expands_all}
 use Rattle.explorers.proofs.exploration.Exploration.expand.Goals as goal
 
@@ -22,6 +24,9 @@ loop-next-preserved g c = let same = c.at-word.ensures.same in
     let kept = c.loop-next.invariant in
     let come = c.in-Some.ensures.next kept.k kept.ahead in
     record {
+      expanded = c.put_in.ensures.expanded ∙ kept.expanded;
+      keeps = keeps_trans c.at-word.new.seat c.loop-next.mine.seat c.put_in.new.mine.seat kept.keeps
+          c.put_in.ensures.keeps;
       free = c.put_in.ensures.free;
       k = kept.k + 1;
       ahead = come.2;
@@ -70,3 +75,75 @@ pub returns-in-Over-clause-sees : goal.returns-in-Over-clause-sees
 returns-in-Over-clause-sees g c = subst (λ (s : Known). SeesOn s.seen c.put_in.new.mine.seat.seen)
     c.at-word.ensures.same (sees_on_trans c.at-word.new.seat.seen c.loop-next.mine.seat.seen c.put_in.new.mine.seat.seen
     c.loop-next.invariant.expands.sees c.put_in.ensures.sees)
+
+pub returns-clause-keeps : goal.returns-clause-keeps
+returns-clause-keeps g c =
+    let begun = keeps_same c.args.mine.now.seat c.at-word.new.seat c.at-word.ensures.same in
+    let looped = keeps_trans c.args.mine.now.seat c.at-word.new.seat c.loop-next.mine.seat begun
+    c.loop-next.invariant.keeps in
+    keeps_trans c.args.mine.now.seat c.loop-next.mine.seat c.judge.new.mine.seat looped c.judge.ensures.keeps
+
+pub returns-clause-counted : goal.returns-clause-counted
+returns-clause-counted g c =
+    let seat = c.args.mine.now.seat in
+    let begun = keeps_same seat c.at-word.new.seat c.at-word.ensures.same in
+    let looped = keeps_trans seat c.at-word.new.seat c.loop-next.mine.seat begun c.loop-next.invariant.keeps in
+    let kept = keeps_trans seat c.loop-next.mine.seat c.judge.new.mine.seat looped c.judge.ensures.keeps in
+    counts_one c.args.mine.now.expanded c.saturating_add-mine.result c.judge.new.mine.expanded
+    (seat.verdicts + length seat.given_up) (claims_made c.judge.new.mine.seat) c.requires.counted
+    c.saturating_add-mine.ensures (c.judge.ensures.expanded ∙ c.loop-next.invariant.expanded)
+    (omega (arith, kept.claims, c.requires.claim.0))
+
+pub returns-in_err-judge-clause-keeps : goal.returns-in_err-judge-clause-keeps
+returns-in_err-judge-clause-keeps g c =
+    let begun = keeps_same c.args.mine.now.seat c.at-word.new.seat c.at-word.ensures.same in
+    let looped = keeps_trans c.args.mine.now.seat c.at-word.new.seat c.loop-next.mine.seat begun
+    c.loop-next.invariant.keeps in
+    keeps_trans c.args.mine.now.seat c.loop-next.mine.seat c.judge.new.mine.seat looped c.judge.ensures.keeps
+
+pub returns-in_err-judge-clause-counted : goal.returns-in_err-judge-clause-counted
+returns-in_err-judge-clause-counted g c =
+    let seat = c.args.mine.now.seat in
+    let begun = keeps_same seat c.at-word.new.seat c.at-word.ensures.same in
+    let looped = keeps_trans seat c.at-word.new.seat c.loop-next.mine.seat begun c.loop-next.invariant.keeps in
+    let kept = keeps_trans seat c.loop-next.mine.seat c.judge.new.mine.seat looped c.judge.ensures.keeps in
+    counts_one c.args.mine.now.expanded c.saturating_add-mine.result c.judge.new.mine.expanded
+    (seat.verdicts + length seat.given_up) (claims_made c.judge.new.mine.seat) c.requires.counted
+    c.saturating_add-mine.ensures (c.judge.ensures.expanded ∙ c.loop-next.invariant.expanded)
+    (omega (arith, kept.claims, c.requires.claim.0))
+
+pub returns-in_err-put_in-clause-keeps : goal.returns-in_err-put_in-clause-keeps
+returns-in_err-put_in-clause-keeps g c =
+    let begun = keeps_same c.args.mine.now.seat c.at-word.new.seat c.at-word.ensures.same in
+    let looped = keeps_trans c.args.mine.now.seat c.at-word.new.seat c.loop-next.mine.seat begun
+    c.loop-next.invariant.keeps in
+    keeps_trans c.args.mine.now.seat c.loop-next.mine.seat c.put_in.new.mine.seat looped c.put_in.ensures.keeps
+
+pub returns-in_err-put_in-clause-counted : goal.returns-in_err-put_in-clause-counted
+returns-in_err-put_in-clause-counted g c =
+    let seat = c.args.mine.now.seat in
+    let begun = keeps_same seat c.at-word.new.seat c.at-word.ensures.same in
+    let looped = keeps_trans seat c.at-word.new.seat c.loop-next.mine.seat begun c.loop-next.invariant.keeps in
+    let kept = keeps_trans seat c.loop-next.mine.seat c.put_in.new.mine.seat looped c.put_in.ensures.keeps in
+    counts_one c.args.mine.now.expanded c.saturating_add-mine.result c.put_in.new.mine.expanded
+    (seat.verdicts + length seat.given_up) (claims_made c.put_in.new.mine.seat) c.requires.counted
+    c.saturating_add-mine.ensures (c.put_in.ensures.expanded ∙ c.loop-next.invariant.expanded)
+    (omega (arith, kept.claims, c.requires.claim.0))
+
+pub returns-in-Over-clause-keeps : goal.returns-in-Over-clause-keeps
+returns-in-Over-clause-keeps g c =
+    let begun = keeps_same c.args.mine.now.seat c.at-word.new.seat c.at-word.ensures.same in
+    let looped = keeps_trans c.args.mine.now.seat c.at-word.new.seat c.loop-next.mine.seat begun
+    c.loop-next.invariant.keeps in
+    keeps_trans c.args.mine.now.seat c.loop-next.mine.seat c.put_in.new.mine.seat looped c.put_in.ensures.keeps
+
+pub returns-in-Over-clause-counted : goal.returns-in-Over-clause-counted
+returns-in-Over-clause-counted g c =
+    let seat = c.args.mine.now.seat in
+    let begun = keeps_same seat c.at-word.new.seat c.at-word.ensures.same in
+    let looped = keeps_trans seat c.at-word.new.seat c.loop-next.mine.seat begun c.loop-next.invariant.keeps in
+    let kept = keeps_trans seat c.loop-next.mine.seat c.put_in.new.mine.seat looped c.put_in.ensures.keeps in
+    counts_one c.args.mine.now.expanded c.saturating_add-mine.result c.put_in.new.mine.expanded
+    (seat.verdicts + length seat.given_up) (claims_made c.put_in.new.mine.seat) c.requires.counted
+    c.saturating_add-mine.ensures (c.put_in.ensures.expanded ∙ c.loop-next.invariant.expanded)
+    (omega (arith, kept.claims, c.requires.claim.0))

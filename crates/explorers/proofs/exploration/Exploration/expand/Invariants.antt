@@ -1,6 +1,6 @@
-use Rattle.std.specs.Prelude.{ℕ}
+use Rattle.std.specs.Prelude.{◌≡◌, ℕ}
 use Rattle.seen_board.specs.Clauses.{word_at}
-use Rattle.explorers.specs.Ready.{IsFree, Expands}
+use Rattle.explorers.specs.Ready.{IsFree, Keeps, Expands}
 use Rattle.explorers.proofs.exploration.Exploration.expand.Given as goal
 
 abbrev pub invariant-loop-next : goal.invariant-loop-next
@@ -8,6 +8,8 @@ invariant-loop-next g l =
     let space = l.self.space.now in
     let seen = l.initial.mine.seat.seen in
     record {
+      expanded : l.mine.expanded ≡ l.initial.mine.expanded;
+      keeps : Keeps l.initial.mine.seat l.mine.seat;
       free : IsFree l.self.board.now space g.S.Space.is_own l.mine;
       k : ℕ;
       ahead : g.S.Space.is_ahead space l.word l.ahead k;

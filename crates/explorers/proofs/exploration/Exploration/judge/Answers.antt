@@ -1,3 +1,4 @@
+use Rattle.std.proofs.Common.{arith, refl}
 use Rattle.explorers.proofs.exploration.Exploration.judge.Goals as goal
 
 pub settle-requires-clause-seen : goal.settle-requires-clause-seen
@@ -8,3 +9,9 @@ settle-requires-clause-successors g c = rw c.requires.free.explored (rw (← c.r
 
 pub settle-requires-clause-verdict : goal.settle-requires-clause-verdict
 settle-requires-clause-verdict g c = rw c.requires.free.explored (rw (← c.requires.word) c.in_ok-good.ensures.good)
+
+pub returns-clause-keeps : goal.returns-clause-keeps
+returns-clause-keeps g c = rw c.settle.ensures (record { claims = omega (arith, c.requires.claim.0); share = refl })
+
+pub returns-in_err-good-clause-keeps : goal.returns-in_err-good-clause-keeps
+returns-in_err-good-clause-keeps g c = record { claims = refl; share = refl }

@@ -1,8 +1,12 @@
 use Rattle.std.proofs.Common.{rules, refl}
 use Rattle.seen_board.proofs.Puts.{put_sees}
 use Rattle.explorers.proofs.Successors.{puts_in}
+use Rattle.explorers.proofs.Counting.{put_keeps}
 use Rattle.explorers.proofs.Meeting.{met_on, free_after}
 use Rattle.explorers.proofs.exploration.Exploration.put_in.Goals as goal
+
+pub returns-then-has-clause-keeps : goal.returns-then-has-clause-keeps
+returns-then-has-clause-keeps g c = record { claims = refl; share = refl }
 
 pub returns-then-has-clause-within : goal.returns-then-has-clause-within
 returns-then-has-clause-within g c = λ _. record {
@@ -14,6 +18,10 @@ returns-then-has-clause-within g c = λ _. record {
   place = refl;
   has = c.requires.free.recent.has c.args.word (c.has.ensures c.if-has.true);
 }
+
+pub returns-in-Over-clause-keeps : goal.returns-in-Over-clause-keeps
+returns-in-Over-clause-keeps g c =
+    put_keeps c.args.word c.args.mine.now.seat c.insert-put.new.seat c.insert-put.result c.insert-put.ensures.put
 
 pub returns-in-Over-clause-free : goal.returns-in-Over-clause-free
 returns-in-Over-clause-free g c = record {
@@ -34,6 +42,8 @@ returns-in-Ok g c =
           (record c.args.mine.now { seat = c.insert-put.new.seat; tasks = c.push.new.self; recent = c.keep.new.self })
           c.args.word c.insert-put.result c.requires.free c.insert-put.ensures.put c.in_default.not-Over
           c.insert-put.ensures.done c.requires.free.own c.keep.ensures;
+      expanded = refl;
+      keeps = put_keeps c.args.word seat c.insert-put.new.seat c.insert-put.result c.insert-put.ensures.put;
       sees = put_sees c.args.word seat c.insert-put.new.seat c.insert-put.result c.insert-put.ensures.put;
       within = λ _. puts_in c.args.word seat c.insert-put.new.seat c.insert-put.result c.insert-put.ensures.put
           c.in_default.not-Over c.insert-put.ensures.done;
@@ -51,6 +61,8 @@ returns-in_default-put g c =
             recent = c.keep.new.self;
           }) c.args.word c.insert-put.result c.requires.free c.insert-put.ensures.put
           c.in_default.not-Over c.insert-put.ensures.done c.requires.free.own c.keep.ensures;
+      expanded = refl;
+      keeps = put_keeps c.args.word seat c.insert-put.new.seat c.insert-put.result c.insert-put.ensures.put;
       sees = put_sees c.args.word seat c.insert-put.new.seat c.insert-put.result c.insert-put.ensures.put;
       within = λ _. puts_in c.args.word seat c.insert-put.new.seat c.insert-put.result c.insert-put.ensures.put
           c.in_default.not-Over c.insert-put.ensures.done;
@@ -65,6 +77,8 @@ returns-in-Err g c =
           (record c.args.mine.now { seat = c.insert-put.new.seat; tasks = c.push.new.self; recent = c.keep.new.self })
           c.args.word c.insert-put.result c.requires.free c.insert-put.ensures.put c.in_default.not-Over
           c.insert-put.ensures.done c.requires.free.own c.keep.ensures;
+      expanded = refl;
+      keeps = put_keeps c.args.word seat c.insert-put.new.seat c.insert-put.result c.insert-put.ensures.put;
       sees = put_sees c.args.word seat c.insert-put.new.seat c.insert-put.result c.insert-put.ensures.put;
       within = search rules;
       over = search rules;

@@ -1,5 +1,5 @@
 use Rattle.std.proofs.Common.{◌≡◌, ◌∙◌, [], ◌∷◌, ℕ, List, true, false, sym, ap, subst, map, take, ◌+◌}
-use Rattle.crash_model.specs.declared.rules.Part.TheVariants as part
+use Rattle.crash_model.specs.declared.rules.Part.{Part}
 use Rattle.crash_model.specs.Trace.{part_of}
 use Rattle.std.specs.List.{filter}
 use Rattle.traced_patches.specs.Labels.{origin_by}
@@ -30,8 +30,9 @@ loop-change-preserved g c =
       | then-is_ahead+in_ok-emit w ↦
           let t : is_ahead old.kind x ≡ true = same ∙ w.if-is_ahead.true in
           let one = adds-same now w.emit.new.self _ (f x ∷ [])
-          (ap (λ (new : List ℕ). part_of turn origin part.FileData x.block x.offset new ∷ [])
-          w.as_slice.ensures.value) w.in_ok-emit.ensures.ok in
+          (ap (λ (new : List ℕ). part_of turn origin w.data_part.result x.block x.offset new ∷ [])
+          w.as_slice.ensures.value ∙ ap (λ (p : Part). part_of turn origin p x.block x.offset x.new.items ∷ [])
+          w.data_part.ensures) w.in_ok-emit.ensures.ok in
           subst next (sym w.self-is) (chosen_next old now p f c.args.changes.now i x c.loop-change-test.true
           c.change-item.is c.loop-change.invariant w.emit.new.self (t) one)
       | else-is_ahead w ↦

@@ -4,7 +4,6 @@ use Rattle.std.specs.List.{All}
 use Rattle.std.proofs.lemmas.Result.{IfOk-weaker}
 use Rattle.std.proofs.Math.Logic.{∥∥₁_elim}
 use Rattle.crash_model.specs.declared.patches.Patch.{Patch}
-use Rattle.full_journal_laws.proofs.Safe.{traced_is_safe}
 use Rattle.question_model.specs.Workloads.{steps_at}
 use Rattle.pool_judging.specs.Judging.{search_by, IsVerdictOn}
 use Rattle.pool_judging.proofs.Beginnings.{graph_at, fits_at, patches_of}
@@ -15,15 +14,15 @@ pub judge_graph-requires : goal.judge_graph-requires
 judge_graph-requires g c =
     let s = search_by c.args.self.now in
     subst (All (λ patch. patch.block < s.base.blocks)) (sym c.graph.ensures)
-    (fits_at s c.requires.0 c.args.tracer c.into_traced-traced.result.patches c.requires.1
-    c.into_traced-traced.ensures.fits)
+    (fits_at s c.requires.0 c.args.tracer c.finish-traced.result.patches c.requires.1
+    c.finish-traced.ensures.fits)
 
 pub returns-clause-verdict : goal.returns-clause-verdict
 returns-clause-verdict g c = λ places trace wanted.
     let s = search_by c.args.self.now in
-    let patches = c.into_traced-traced.result.patches in
+    let patches = c.finish-traced.result.patches in
     let demands = c.args.demands.now in
-    let is = patches_of s places c.args.tracer demands patches trace c.into_traced-traced.ensures.graph wanted in
+    let is = patches_of s places c.args.tracer demands patches trace c.finish-traced.ensures.graph wanted in
     IfOk-weaker c.judge_graph.result _ _ (λ verdict on. verdict_on s places demands patches verdict is on)
     (subst (λ (ps : List Patch). IfOk c.judge_graph.result (IsVerdictOn demands s.base ps)) c.graph.ensures
     c.judge_graph.ensures)
@@ -35,14 +34,15 @@ returns-clause-full g c = λ is.
     let (places, trace, wanted) = c.requires in
     let steps = steps_at s.pool places in
     let t = c.args.tracer in
-    let patches = c.into_traced-traced.result.patches in
+    let patches = c.finish-traced.result.patches in
     let demands = c.args.demands.now in
     let disk = c.blocks-blocks.ensures.disk in
-    let graph = graph_at s places t patches trace c.into_traced-traced.ensures.graph in
+    let graph = graph_at s places t patches trace c.finish-traced.ensures.graph in
     let on = subst (λ (ps : List Patch). IfOk c.judge_graph.result (IsVerdictOn demands s.base ps)) c.graph.ensures
     c.judge_graph.ensures in
     ∥∥₁_elim j.sound (no_failure_prop c.judge_graph.result)
-    (λ sound. let safe = traced_is_safe s.ordering s.rules s.whole s.base steps t.tracing patches is.full is.all disk
-    sound.0 sound.1 trace.names trace.traced graph in
+    (λ sound. let safe = c.finish-traced.ensures.recovers s.ordering s.rules s.whole s.base steps
+    (record { over = trace.base; by = trace.rules; names = trace.names; traced = trace.traced })
+    (record { journal = record { full = is.full; all = is.all }; disk = disk; sound = sound.0; zeros = sound.1 }) in
     IfOk-weaker c.judge_graph.result _ _ (λ verdict is_on. never_fails s.strict s.atomic s.whole demands s.base steps
     patches verdict disk wanted safe is_on) on)

@@ -1,0 +1,66 @@
+use Rattle.std.proofs.Common.{rules, ◌≡◌, List, Bool, Ok, refl, subst, ◌∙◌}
+use Rattle.report_model.specs.Answer.{ordering_rules}
+use Rattle.crash_model.specs.Disk.{Disk, IsDisk}
+use Rattle.crash_model.specs.Rules.{rules_of}
+use Rattle.crash_model.specs.RuleFacts.{AreAmong}
+use Rattle.crash_model.specs.Trace.{Tracing, trace_start, trace_from, IsGraphOf}
+use Rattle.crash_model.specs.declared.rules.Rule.{Rule}
+use Rattle.crash_model.specs.declared.patches.Patch.{Patch}
+use Rattle.crash_model.specs.declared.settings.Settings.{Settings}
+use Rattle.crash_model.specs.declared.steps.Step.{Step}
+use Rattle.crash_model.specs.declared.modules.Module.{Module}
+use Rattle.crash_model.specs.declared.modules.Module.TheVariants.{Full}
+use Rattle.full_journal_laws.proofs.Failing.{none_fails}
+use Rattle.crash_text.specs.Traced.{IsTraceOf}
+use Rattle.crash_text.proofs.Safe.{full_rules}
+use Rattle.crash_text.proofs.traced_script.trace_script.Goals as goal
+
+-- what is traced under an ordering of these settings is traced under the settings
+of_settings : (settings : Settings) (base : Disk) (steps : List Step) (by : Module) (whole : Bool) (rules : List Rule)
+    (last : Tracing) (patches : List Patch) → by ≡ settings.module → whole ≡ settings.whole_blocks
+    → rules ≡ ordering_rules settings
+    → trace_from by (trace_start whole base) steps ≡ Ok last → IsGraphOf rules base last patches
+    → (trace_from settings.module (trace_start settings.whole_blocks base) steps ≡ Ok last)
+    × IsGraphOf (ordering_rules settings) base last patches
+of_settings settings base steps by whole rules last patches module_is whole_is rules_are run graph = (
+  subst (λ (m : Module). trace_from m (trace_start settings.whole_blocks base) steps ≡ Ok last) module_is
+      (subst (λ (w : Bool). trace_from by (trace_start w base) steps ≡ Ok last) whole_is run),
+  subst (λ (rs : List Rule). IsGraphOf rs base last patches) rules_are graph,
+)
+
+pub returns-clause-full : goal.returns-clause-full
+returns-clause-full g c = λ full none.
+    let settings = c.args.settings.now in
+    let base = c.args.base.now in
+    let ordering = c.args.ordering.now in
+    let same = c.requires.ordering in
+    let among : AreAmong (rules_of Full) ordering.rules.items =
+    full_rules settings ordering.rules.items full none same.rules in
+    let disk : IsDisk base = search rules in
+    let safe = c.in_ok-traced.ensures.recovers (record { full = same.kind ∙ full; all = among }) in
+    none_fails settings.strict settings.atomic ordering.whole_blocks c.in_ok-demands.demands base c.args.steps.now
+    c.in_ok-traced.traced.patches disk c.in_ok-demands.ensures safe
+
+pub returns-clause-traced : goal.returns-clause-traced
+returns-clause-traced g c =
+    let settings = c.args.settings.now in
+    let base = c.args.base.now in
+    let t = c.in_ok-traced.traced in
+    let ok = c.in_ok-traced.ensures.ok in
+    let same = c.requires.ordering in
+    let under = of_settings settings base c.args.steps.now _ _ _ ok.0 t.patches same.kind same.whole same.rules ok.1
+    ok.2 in
+    let is : IsTraceOf settings base t ok.0 = record {
+      emitted = ok.3;
+      links = ok.4;
+      whole = ok.5;
+      rules = c.in_ok-traced.ensures.rules ∙ same.rules;
+      graph = under.1;
+    } in
+    record {
+      over = refl;
+      last = ok.0;
+      run = under.0;
+      trace = is;
+      demanded = c.in_ok-demands.ensures;
+    }

@@ -1,0 +1,55 @@
+-- Traced scripts, and the reports on them.
+use Rattle.std.specs.Prelude.{◌≡◌, ℕ, List, Ok, Err}
+use Rattle.report_model.specs.Answer.{ordering_rules}
+use Rattle.crash_model.specs.Checker.{Demands, AreDemands, IsFailingUnder}
+use Rattle.crash_model.specs.Disk.{Disk}
+use Rattle.crash_model.specs.Refusals.{run_of_trace}
+use Rattle.crash_model.specs.Trace.{Tracing, trace_start, trace_from, IsGraphOf}
+use Rattle.crash_model.specs.declared.orderings.Ordering.{Ordering}
+use Rattle.crash_model.specs.declared.patches.Patch.{Patch}
+use Rattle.crash_model.specs.declared.refusals.RunFault.{RunFault}
+use Rattle.crash_model.specs.declared.refusals.TraceFault.{TraceFault}
+use Rattle.crash_model.specs.declared.settings.Settings.{Settings}
+use Rattle.crash_model.specs.declared.steps.Step.{Step}
+use Rattle.traced_patches.specs.Traced.{TracedPatches}
+use Rattle.crash_text.specs.declared.traced_script.TracedScript.{TracedScript}
+
+-- the ordering that the settings ask for
+pub record IsOrderingOf (settings : Settings) (ordering : Ordering) : Type 0 where
+  pub kind : ordering.«module» ≡ settings.«module»
+  pub whole : ordering.whole_blocks ≡ settings.whole_blocks
+  pub rules : ordering.rules.items ≡ ordering_rules settings
+
+-- traced patches, with the state in which tracing ended
+pub record IsTraceOf (settings : Settings) (base : Disk) (t : TracedPatches) (last : Tracing) : Type 0 where
+  pub emitted : t.emitted ≡ last.emitted
+  pub links : t.links ≡ last.links
+  pub whole : t.whole ≡ last.whole
+  pub rules : t.rules ≡ ordering_rules settings
+  pub graph : IsGraphOf (ordering_rules settings) base last t.patches
+
+-- the steps are traced over the base, and what they demand of images is known
+pub record IsTraced {A : Type 0} (settings : Settings) (base : Disk) (steps : List Step) (s : TracedScript A)
+    : Type 0 where
+  pub over : s.base.now ≡ base
+  pub last : Tracing
+  pub run : trace_from settings.module (trace_start settings.whole_blocks s.base.now) steps ≡ Ok last
+  pub trace : IsTraceOf settings s.base.now s.traced last
+  pub demanded : AreDemands settings.strict settings.atomic s.base.now steps s.demands
+
+-- a step is refused
+abbrev pub IsTraceRefusal : Settings → Disk → List Step → RunFault → Type 0
+IsTraceRefusal settings base steps fault =
+    (why : TraceFault) × (trace_from settings.module (trace_start settings.whole_blocks base) steps ≡ Err why)
+    × (fault ≡ run_of_trace why)
+
+-- no set that a crash can leave fails
+abbrev pub NoneFails : {A : Type 0} → TracedScript A → Type 0
+NoneFails s = (set : ℕ) → ¬ (IsFailingUnder s.demands s.base.now s.traced.patches set)
+
+-- the text and the number are those of such a report on a traced script, whatever state traced its patches
+abbrev pub IsReportOn : {A : Type 0} → (Demands → Disk → Tracing → List Patch → List ℕ → ℕ → Type 0) → Settings
+    → TracedScript A → List ℕ → ℕ → Type 0
+IsReportOn IsOn settings s text number =
+    (last : Tracing) → IsTraceOf settings s.base.now s.traced last
+    → IsOn s.demands s.base.now last s.traced.patches text number

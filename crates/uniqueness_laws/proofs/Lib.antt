@@ -1,0 +1,6 @@
+pub mod Acts
+pub mod Demands
+pub mod OneGraph
+pub mod Pieces
+pub mod Readings
+pub mod Scripts
