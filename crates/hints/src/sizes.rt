@@ -1,5 +1,8 @@
 //! Disks that are too small, scripts that are too long, and too many closed sets.
 
+ghost use Rattle.std.specs.Prelude.{IfSome};
+ghost use Rattle.hints.specs.Enough.{IsEnough};
+
 use crate::edge::Answer;
 use crate::room::{Enough, enough_blocks, enough_journal};
 use crash_model::disk_bytes::{MOST_BLOCKS, OTHER_BLOCKS};
@@ -31,14 +34,15 @@ pub(crate) fn size_text<A: Allocator + Copy>(
     } = *settings;
     Ok(Some(match fault {
         RunFault::NoBlock { .. } => {
-            let right = enough_text(alloc, settings, enough_blocks(alloc, script, settings)?)?;
+            let enough = enough_blocks(alloc, script, settings)?;
+            let right = enough_text(alloc, script, settings, enough)?;
             format!(in alloc;
                 "no block of the disk's {blocks} is free at this line\nhint: {right}"
             )?
         }
         RunFault::JournalFull { .. } => {
             let enough = enough_journal(alloc, script, settings, journal)?;
-            let right = enough_text(alloc, settings, enough)?;
+            let right = enough_text(alloc, script, settings, enough)?;
             format!(in alloc;
                 "the journal of {journal} blocks has no room for the transaction of this line\nhint: {right}"
             )?
@@ -68,12 +72,17 @@ pub(crate) fn geometry_text<A: Allocator + Copy>(
     )
 }
 
-/// Which disk is enough in place of the one asked for, and how far it is enough.
+/// Which disk is enough for the script in place of the one asked for, and how far it is enough.
 fn enough_text<A: Allocator + Copy>(
     alloc: A,
+    _script: &Script<A>,
     settings: &Settings,
     enough: Option<Enough>,
-) -> Result<String<A>, AllocError> {
+) -> Result<String<A>, AllocError>
+    requires { IfSome enough
+        (IsEnough settings.now.module settings.now.whole_blocks settings.now.generations _script.now.base.items
+        _script.now.traced.items) }
+{
     let Some(Enough { disk, before }) = enough else {
         return format!(in alloc;
             "no disk of up to {MOST_BLOCKS} blocks is enough for this script: leave lines out"

@@ -42,8 +42,8 @@ fn write_numbers<A: Allocator>(
 }
 
 /// The lines that say which ordering and which checker a run uses: the module, each rule that is taken out or put in,
-/// whether inodes have generations, whether blocks are written whole, whether the run is strict, and whether operations are to be atomic. It fails only
-/// when out of memory.
+/// whether inodes have generations, whether blocks are written whole, whether the run is strict, and whether operations
+/// are to be atomic. It fails only when out of memory.
 pub fn write_ordering<A: Allocator>(
     out: &mut String<A>,
     settings: &Settings,
