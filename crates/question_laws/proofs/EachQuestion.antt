@@ -1,0 +1,51 @@
+-- Each question has an answer, and no other.
+use Rattle.std.proofs.Common.{◌≡◌, ℕ, List}
+use Rattle.report_model.specs.Answer.{Answer}
+use Rattle.crash_model.specs.declared.settings.Settings.{Settings}
+use Rattle.question_model.specs.Answers.{IsAnswerTo}
+use Rattle.question_model.specs.Decision.{IsDecision}
+use Rattle.question_model.specs.EnoughReport.{IsEnoughReport}
+use Rattle.question_model.specs.Lengths.{operations_of}
+use Rattle.question_model.specs.SearchReport.{IsSearchReport}
+use Rattle.question_model.specs.SearchRulesReport.{IsSearchRulesReport}
+use Rattle.question_model.specs.declared.question.Question.{Question}
+use Rattle.question_model.specs.declared.question.Question.TheVariants.{Visit, Decide, Enough, Search, SearchRules}
+use Rattle.worked_example_laws.proofs.OneAnswer.{answer_one}
+use Rattle.worked_example_laws.proofs.SomeAnswer.{some_answer}
+use Rattle.question_laws.proofs.OneDecision.{decision_one}
+use Rattle.question_laws.proofs.OneEnough.{enough_one}
+use Rattle.question_laws.proofs.OnePool.{pool_answered_one}
+use Rattle.question_laws.proofs.OneSearch.{search_one, search_rules_one}
+use Rattle.question_laws.proofs.OneStart.{answered_one}
+use Rattle.question_laws.proofs.SomeDecision.{some_decision}
+use Rattle.question_laws.proofs.SomeEnough.{some_enough}
+use Rattle.question_laws.proofs.SomePool.{some_searched}
+use Rattle.question_laws.proofs.SomeSearch.{some_search, some_search_rules}
+use Rattle.question_laws.proofs.SomeStart.{some_answered}
+
+pub each_some : (question : Question) (bytes : List ℕ) (settings : Settings) → (answer : Answer)
+    × IsAnswerTo question bytes settings answer
+each_some (Visit visit) bytes settings = some_answer settings visit.report visit.limit bytes
+each_some Decide bytes settings = some_answered bytes settings (IsDecision settings) (some_decision settings)
+each_some Enough bytes settings = some_answered bytes settings (IsEnoughReport settings) (some_enough settings)
+each_some (Search longest) bytes settings =
+    some_searched bytes settings (IsSearchReport settings (operations_of longest))
+    (some_search settings (operations_of longest))
+each_some (SearchRules longest) bytes settings =
+    some_searched bytes settings (IsSearchRulesReport settings (operations_of longest))
+    (some_search_rules settings (operations_of longest))
+
+pub each_one : (question : Question) (bytes : List ℕ) (settings : Settings) (answer other : Answer)
+    → IsAnswerTo question bytes settings answer → IsAnswerTo question bytes settings other → answer ≡ other
+each_one (Visit visit) bytes settings answer other is also =
+    answer_one settings visit.report visit.limit bytes answer other is also
+each_one Decide bytes settings answer other is also =
+    answered_one bytes settings (IsDecision settings) (decision_one settings) answer other is also
+each_one Enough bytes settings answer other is also =
+    answered_one bytes settings (IsEnoughReport settings) (enough_one settings) answer other is also
+each_one (Search longest) bytes settings answer other is also =
+    pool_answered_one bytes settings (IsSearchReport settings (operations_of longest))
+    (search_one settings (operations_of longest)) answer other is also
+each_one (SearchRules longest) bytes settings answer other is also =
+    pool_answered_one bytes settings (IsSearchRulesReport settings (operations_of longest))
+    (search_rules_one settings (operations_of longest)) answer other is also

@@ -1,0 +1,59 @@
+-- There is at most one first fault, and one report of it.
+use Rattle.std.proofs.Common.{◌≡◌, ◌≢◌, ℕ, List, [], ◌∷◌, refl, sym, subst, ap, inl, inr}
+use Rattle.std.specs.Prelude.{◌⊎◌, Option, Some, None}
+use Rattle.report_model.specs.Report.{Detail, AreSections}
+use Rattle.crash_model.specs.Disk.{Disk}
+use Rattle.crash_model.specs.FaultRows.{HasFault}
+use Rattle.crash_model.specs.Trace.{Tracing}
+use Rattle.crash_model.specs.declared.fault.Fault.{Fault}
+use Rattle.crash_model.specs.declared.patches.Patch.{Patch}
+use Rattle.crash_model.specs.declared.rules.Rule.{Rule}
+use Rattle.question_model.specs.Decision.{ToldDecided}
+use Rattle.question_model.specs.Enough.{rules_but}
+use Rattle.question_model.specs.EnoughReport.{IsFirstFault, IsToldFirst, IsToldAny, ToldGroup, IsToldGroup}
+use Rattle.question_model.specs.declared.decided_fault.DecidedFault.{DecidedFault}
+use Rattle.uniqueness_laws.proofs.OneGraph.{graph_one, heads}
+use Rattle.worked_example_laws.proofs.GatheredFaults.{same_or_not}
+use Rattle.worked_example_laws.proofs.OneBody.{sections_one}
+use Rattle.question_laws.proofs.OneDecision.{not_both, shown_one}
+
+pub first_fault_one : (has : Fault → ℕ → Type 0) (f g : DecidedFault) → IsFirstFault has f → IsFirstFault has g → f ≡ g
+first_fault_one has f g is also = by (same_or_not f.fault g.fault)
+  where
+    by : (f.fault ≡ g.fault) ⊎ (f.fault ≢ g.fault) → f ≡ g
+    by (inl same) = shown_one has f g is.first also.first same
+    by (inr apart) = absurd (not_both f.fault g.fault
+        (is.before g.fault g.first also.first.among (λ e. apart (sym e)))
+        (also.before f.fault f.first is.first.among apart))
+
+module _ (detail : Detail) (base : Disk) (patches : List Patch) where
+  pub told_first_one : (told other : ToldDecided) → IsToldFirst detail base patches told
+      → IsToldFirst detail base patches other → told ≡ other
+  told_first_one told other is also =
+      let decided : told.decided ≡ other.decided = first_fault_one (HasFault detail.demands base patches) told.decided
+      other.decided is.fault also.fault in
+      let first : told.first ≡ other.first = heads (sections_one detail base patches (other.decided.first ∷ [])
+      (told.first ∷ []) (other.first ∷ [])
+      (subst (λ (f : DecidedFault). AreSections detail base patches (f.first ∷ []) (told.first ∷ [])) decided
+      is.section)
+      also.section) in
+      λ i. record { decided = decided i; first = first i }
+
+  pub told_any_one : (told other : Option ToldDecided) → IsToldAny detail base patches told
+      → IsToldAny detail base patches other → told ≡ other
+  told_any_one None None is also = refl
+  told_any_one None (Some o) is also = absurd (is o.decided.fault o.decided.first also.fault.first.among)
+  told_any_one (Some t) None is also = absurd (also t.decided.fault t.decided.first is.fault.first.among)
+  told_any_one (Some t) (Some o) is also = ap Some (told_first_one t o is also)
+
+pub told_group_one : (detail : Detail) (rules : List Rule) (base : Disk) (s : Tracing) (told other : ToldGroup)
+    → IsToldGroup detail rules base s told → IsToldGroup detail rules base s other → told.group ≡ other.group
+    → told ≡ other
+told_group_one detail rules base s told other is also same =
+    let here = subst (λ (group : ℕ). IsToldGroup detail rules base s (record { group = group; fault = told.fault }))
+    same
+    is in
+    let patches : here.0 ≡ also.0 = graph_one (rules_but rules other.group) base s here.0 also.0 here.1 also.1 in
+    let fault : told.fault ≡ other.fault = told_first_one detail base also.0 told.fault other.fault
+    (subst (λ ps. IsToldFirst detail base ps told.fault) patches here.2) also.2 in
+    λ i. record { group = same i; fault = fault i }

@@ -1,0 +1,132 @@
+-- There is a report of the rules that a script needs.
+use Rattle.std.proofs.Common.{◌≡◌, ℕ, List, [], ◌∷◌, length, map, All, refl, sym, subst, inl, inr}
+use Rattle.std.specs.Prelude.{◌⊎◌, option_to_list}
+use Rattle.std.specs.List.{Contains}
+use Rattle.std.proofs.lemmas.List.Elements.{All-nil, All-cons}
+use Rattle.patch_sets.specs.Sets.{AreAllInOrder}
+use Rattle.patch_sets.proofs.Lists.{in_front, in_rest}
+use Rattle.report_model.specs.Answer.{detail_of, ordering_rules}
+use Rattle.crash_model.specs.Disk.{Disk}
+use Rattle.crash_model.specs.Checker.{Demands, IsFailingUnder}
+use Rattle.crash_model.specs.Lists.{when}
+use Rattle.crash_model.specs.Patches.{deps_of}
+use Rattle.crash_model.specs.Reasons.{explanation}
+use Rattle.crash_model.specs.Trace.{Tracing, IsGraphOf}
+use Rattle.crash_model.specs.declared.patches.Patch.{Patch}
+use Rattle.crash_model.specs.declared.rules.Rule.{Rule}
+use Rattle.crash_model.specs.declared.settings.Settings.{Settings}
+use Rattle.question_model.specs.Enough.{rules_but, IsMinimalFor, IsNeededFor, AreEnough, IsMinimalEnough, IsNeeded}
+use Rattle.question_model.specs.EnoughReport.{ToldGroup, IsToldGroup, RulesReport, rules_report_bytes, IsEnoughReport}
+use Rattle.uniqueness_laws.proofs.OneGraph.{graph_one}
+use Rattle.worked_example_laws.specs.Computed.{closed_sets, graph_of}
+use Rattle.worked_example_laws.proofs.FailingSets.{counts_closed}
+use Rattle.worked_example_laws.proofs.Graphs.{graph_is, earlier}
+use Rattle.question_laws.proofs.SomeFirst.{failing_or_not, told_any, told_first}
+use Rattle.question_laws.proofs.SomeRules.{some_minimal, some_needed}
+use Rattle.question_laws.proofs.SomeSets.{all_like}
+
+module _ (settings : Settings) (demands : Demands) (base : Disk) (s : Tracing) where
+  -- a failing set by other rules, or none
+  failing_by : (rules : List Rule) → ((set : ℕ) × IsFailingUnder demands base (graph_of rules base s) set)
+      ⊎ ((set : ℕ) → ¬ (IsFailingUnder demands base (graph_of rules base s) set))
+  failing_by rules = failing_or_not demands base (graph_of rules base s) (earlier rules base s)
+
+  are_enough : (rules : List Rule) → Dec (AreEnough demands base s rules)
+  are_enough rules = by (failing_by rules)
+    where
+      by : ((set : ℕ) × IsFailingUnder demands base (graph_of rules base s) set)
+          ⊎ ((set : ℕ) → ¬ (IsFailingUnder demands base (graph_of rules base s) set))
+          → Dec (AreEnough demands base s rules)
+      by (inl fails) = no (λ enough. enough.2 fails.0 (subst (λ ps. IsFailingUnder demands base ps fails.0)
+          (graph_one rules base s (graph_of rules base s) enough.0 (graph_is rules base s) enough.1) fails.1))
+      by (inr none) = yes (graph_of rules base s, graph_is rules base s, none)
+
+  module _ (rules : List Rule) where
+    pub all_minimal : (sets : List ℕ) × AreAllInOrder (IsMinimalEnough demands base s rules) sets
+    all_minimal =
+        let all = some_minimal (AreEnough demands base s) are_enough rules in (
+          all.0,
+          all_like (IsMinimalFor (AreEnough demands base s) rules) (IsMinimalEnough demands base s rules)
+              (λ set is. record { places = is.places; enough = is.enough; minimal = is.minimal })
+              (λ set is. record { places = is.places; enough = is.enough; minimal = is.minimal }) all.0 all.1,
+        )
+
+    pub all_needed : (groups : List ℕ) × AreAllInOrder (IsNeeded demands base s rules) groups
+    all_needed =
+        let all = some_needed (AreEnough demands base s) are_enough rules in (
+          all.0,
+          all_like (IsNeededFor (AreEnough demands base s) rules) (IsNeeded demands base s rules)
+              (λ group is. record { places = is.places; some = is.some; needed = is.needed; minimal = is.minimal })
+              (λ group is. record { places = is.places; some = is.some; needed = is.needed; minimal = is.minimal })
+              all.0 all.1,
+        )
+
+    -- what is told of a group
+    told_group : (group : ℕ) → IsNeeded demands base s rules group → (told : ToldGroup)
+        × IsToldGroup (detail_of settings demands) rules base s told × (told.group ≡ group)
+    told_group group is = by (failing_by (rules_but rules group))
+      where
+        by : ((set : ℕ) × IsFailingUnder demands base (graph_of (rules_but rules group) base s) set)
+            ⊎ ((set : ℕ) → ¬ (IsFailingUnder demands base (graph_of (rules_but rules group) base s) set))
+            → (told : ToldGroup) × IsToldGroup (detail_of settings demands) rules base s told × (told.group ≡ group)
+        by (inr none) = absurd (is.needed (
+          graph_of (rules_but rules group) base s,
+          graph_is (rules_but rules group) base s,
+          none,
+        ))
+        by (inl fails) =
+            let told = told_first settings demands base (graph_of (rules_but rules group) base s)
+            (earlier (rules_but rules group) base s) fails.0 fails.1 in (
+              record { group = group; fault = told.0 },
+              (graph_of (rules_but rules group) base s, graph_is (rules_but rules group) base s, told.1),
+              refl,
+            )
+
+    told_groups : (groups : List ℕ) → ((group : ℕ) → Contains groups group → IsNeeded demands base s rules group)
+        → (told : List ToldGroup) × All (IsToldGroup (detail_of settings demands) rules base s) told
+        × (groups ≡ map (λ t. t.group) told)
+    told_groups [] each = ([], All-nil (IsToldGroup (detail_of settings demands) rules base s), refl)
+    told_groups (group ∷ groups) each =
+        let one = told_group group (each group (in_front group groups)) in
+        let rest = told_groups groups (λ g is. each g (in_rest group groups g is)) in (
+          one.0 ∷ rest.0,
+          All-cons (IsToldGroup (detail_of settings demands) rules base s) one.0 rest.0 one.1 rest.1,
+          front (sym one.2) rest.2,
+        )
+      where
+        front : {a b : ℕ} {cs ds : List ℕ} → a ≡ b → cs ≡ ds → a ∷ cs ≡ b ∷ ds
+        front e f = cc
+
+pub some_enough : (settings : Settings) (demands : Demands) (base : Disk) (last : Tracing) (patches : List Patch)
+    → IsGraphOf (ordering_rules settings) base last patches → (text : List ℕ) × (number : ℕ)
+    × IsEnoughReport settings demands base last patches text number
+some_enough settings demands base last patches graph =
+    let rules = ordering_rules settings in
+    let enough = all_minimal settings demands base last rules in
+    let groups = all_needed settings demands base last rules in
+    let needs = told_groups settings demands base last rules groups.0 (λ group is. (groups.1.exactly group).0 is) in
+    let first = told_any settings demands base patches graph.earlier in
+    let report : RulesReport = record {
+      patches = length patches;
+      closed = length (closed_sets (deps_of patches));
+      explanation = when settings.explain (explanation rules base last patches);
+      enough = enough.0;
+      needs = needs.0;
+      first = first.0;
+    } in (
+      rules_report_bytes settings report,
+      length (option_to_list first.0),
+      record {
+        total = length (closed_sets (deps_of patches));
+        counted = counts_closed patches (length (closed_sets (deps_of patches))) graph.earlier refl;
+        enough = enough.0;
+        exactly = enough.1;
+        needs = needs.0;
+        needed = subst (λ (some : List ℕ). AreAllInOrder (IsNeeded demands base last rules) some) needs.2 groups.1;
+        told = needs.1;
+        first = first.0;
+        any = first.1;
+        number_of = refl;
+        whole = refl;
+      },
+    )

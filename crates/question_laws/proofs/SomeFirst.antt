@@ -1,0 +1,200 @@
+-- Which faults the closed sets have can be told, and of these the first.
+use Rattle.std.proofs.Common.{◌≡◌, ℕ, List, [], ◌∷◌, map, All, refl, sym, subst, ap}
+use Rattle.std.proofs.Common.{inl, inr, false}
+use Rattle.std.specs.Prelude.{◌⊎◌, Option, Some, None}
+use Rattle.std.specs.List.{Contains}
+use Rattle.std.proofs.lemmas.List.Elements.{All-nil, All-cons, All-head, All-tail}
+use Rattle.patch_sets.specs.Closed.{AreEarlier}
+use Rattle.patch_sets.proofs.Lists.{front_or_rest, in_front, in_none}
+use Rattle.report_model.specs.Answer.{IsBody, detail_of}
+use Rattle.report_model.specs.Report.{Detail, AreSections, IsLed}
+use Rattle.report_model.specs.Summary.{ToldFault}
+use Rattle.report_model.specs.Whole.{Body, Sets, Faults, Rules}
+use Rattle.crash_model.specs.Disk.{Disk}
+use Rattle.crash_model.specs.Patches.{deps_of, image_of}
+use Rattle.crash_model.specs.Replay.{image_after_replay}
+use Rattle.crash_model.specs.Checker.{Demands, faults_under, IsFailingUnder}
+use Rattle.crash_model.specs.FaultRows.{IsFaultBefore, HasFault, IsFirst, IsRow, AreRows}
+use Rattle.crash_model.specs.Trace.{trace_start}
+use Rattle.crash_model.specs.declared.fault.Fault.{Fault}
+use Rattle.crash_model.specs.declared.fault.FaultRow.{FaultRow}
+use Rattle.crash_model.specs.declared.patches.Patch.{Patch}
+use Rattle.crash_model.specs.declared.settings.Settings.{Settings}
+use Rattle.crash_model.specs.declared.visit.ReportBy.TheVariants.{BySet, ByFault, ByRule}
+use Rattle.question_model.specs.Decided.{AreDecided}
+use Rattle.question_model.specs.Decision.{ToldDecided, AreToldDecided}
+use Rattle.question_model.specs.EnoughReport.{IsToldFirst, IsToldAny}
+use Rattle.question_model.specs.declared.decided_fault.DecidedFault.{DecidedFault}
+use Rattle.uniqueness_laws.proofs.OneGraph.{heads}
+use Rattle.worked_example_laws.proofs.SomeBody.{some_body, some_failing}
+use Rattle.question_laws.proofs.Orders.{Ascends, ascends, in_pairs, at_key}
+
+-- ---- rows of faults without their counts
+
+abbrev decided_of : FaultRow → DecidedFault
+decided_of row = record { fault = row.fault; first = row.first }
+
+abbrev told_of : ToldFault → ToldDecided
+told_of t = record { decided = decided_of t.row; first = t.first }
+
+module _ (has : Fault → ℕ → Type 0) where
+  in_decided : (rows : List FaultRow) (f : DecidedFault) → Contains (map decided_of rows) f → (row : FaultRow)
+      × Contains rows row × (decided_of row ≡ f)
+  in_decided rows f is = at_key decided_of f rows is
+
+  decided_up : (rows : List FaultRow) → Ascends (λ (a b : FaultRow). IsFaultBefore a.fault b.fault) rows
+      → Ascends (λ (a b : DecidedFault). IsFaultBefore a.fault b.fault) (map decided_of rows)
+  decided_up [] up = tt
+  decided_up (r ∷ rows) up = (
+    (λ f is. let at = in_decided rows f is in
+        subst (λ (g : DecidedFault). IsFaultBefore r.fault g.fault) at.2 (up.0 at.0 at.1)),
+    decided_up rows up.1,
+  )
+
+  decided_each : (rows : List FaultRow) → All (IsRow has) rows
+      → All (λ (f : DecidedFault). IsFirst (has f.fault) f.first)
+      (map decided_of rows)
+  decided_each [] all = All-nil (λ (f : DecidedFault). IsFirst (has f.fault) f.first)
+  decided_each (r ∷ rows) all = All-cons (λ (f : DecidedFault). IsFirst (has f.fault) f.first) (decided_of r)
+      (map decided_of rows) (All-head (IsRow has) r rows all).first
+      (decided_each rows (All-tail (IsRow has) r rows all))
+
+  same_faults : (rows : List FaultRow) → map (λ row. row.fault) rows ≡ map (λ f. f.fault) (map decided_of rows)
+  same_faults [] = refl
+  same_faults (r ∷ rows) = ap (λ (fs : List Fault). r.fault ∷ fs) (same_faults rows)
+
+  are_decided : (rows : List FaultRow) → AreRows has rows → AreDecided has (map decided_of rows)
+  are_decided rows are = record {
+    ordered = in_pairs (λ (a b : DecidedFault). IsFaultBefore a.fault b.fault) (map decided_of rows)
+        (decided_up rows (ascends (λ (a b : FaultRow). IsFaultBefore a.fault b.fault) rows are.ordered));
+    each = decided_each rows are.each;
+    every = λ fault set is. subst (λ (fs : List Fault). Contains fs fault) (same_faults rows) (are.every fault set is);
+  }
+
+same_decided : (told : List ToldFault) → map decided_of (map (λ t. t.row) told)
+    ≡ map (λ t. t.decided) (map told_of told)
+same_decided [] = refl
+same_decided (t ∷ told) = ap (λ (fs : List DecidedFault). decided_of t.row ∷ fs) (same_decided told)
+
+same_firsts : (told : List ToldFault) → map (λ t. t.row.first) told ≡ map (λ t. t.decided.first) (map told_of told)
+same_firsts [] = refl
+same_firsts (t ∷ told) = ap (λ (fs : List ℕ). t.row.first ∷ fs) (same_firsts told)
+
+same_sections : (told : List ToldFault) → map (λ t. t.first) told ≡ map (λ t. t.first) (map told_of told)
+same_sections [] = refl
+same_sections (t ∷ told) = cc (same_sections told)
+
+told_led : (patches : List Patch) (told : List ToldFault) → All (λ t. IsLed patches t.first) told
+    → All (λ t. IsLed patches t.first) (map told_of told)
+told_led patches [] all = All-nil (λ t. IsLed patches t.first)
+told_led patches (t ∷ told) all = All-cons (λ t. IsLed patches t.first) (told_of t) (map told_of told)
+    (All-head (λ t. IsLed patches t.first) t told all)
+    (told_led patches told (All-tail (λ t. IsLed patches t.first) t told all))
+
+-- the first thing of what is decided
+module _ (detail : Detail) (base : Disk) (patches : List Patch) where
+  pub first_told : (t : ToldDecided) (told : List ToldDecided) → AreToldDecided detail base patches (t ∷ told)
+      → All (λ t. IsLed patches t.first) (t ∷ told) → IsToldFirst detail base patches t
+  first_told t told are led = record {
+    fault = record {
+      first = All-head (λ (f : DecidedFault). IsFirst (HasFault detail.demands base patches f.fault) f.first) t.decided
+          (map (λ t. t.decided) told) are.decided.each;
+      before = λ other set has apart. elim (front_or_rest t.decided.fault
+          (map (λ f. f.fault) (map (λ t. t.decided) told)) other (are.decided.every other set has)) [
+            | inl e ↦ absurd (apart (sym e))
+            | inr more ↦ let at = at_key (λ (f : DecidedFault). f.fault) other (map (λ t. t.decided) told) more in
+                subst (IsFaultBefore t.decided.fault) at.2
+                ((ascends (λ (a b : DecidedFault). IsFaultBefore a.fault b.fault) (map (λ t. t.decided) (t ∷ told))
+                are.decided.ordered).0 at.0 at.1)
+          ];
+    };
+    section = (are.firsts.0, [], are.firsts.2, refl, ap (λ s. s ∷ []) (heads are.firsts.4));
+    led = All-head (λ t. IsLed patches t.first) t told led;
+  }
+
+-- ---- failing sets
+
+module _ (demands : Demands) (base : Disk) (patches : List Patch) where
+  -- a failing set has a fault
+  pub fault_of : (set : ℕ) → IsFailingUnder demands base patches set → (fault : Fault)
+      × HasFault demands base patches fault set
+  fault_of set is = by (faults_under demands (image_after_replay (image_of base patches set))) refl
+    where
+      by : (found : List Fault) → faults_under demands (image_after_replay (image_of base patches set)) ≡ found
+          → (fault : Fault) × HasFault demands base patches fault set
+      by [] e = absurd (is.unclean (record { faultless = e }))
+      by (f ∷ fs) e = (
+        f,
+        record { failing = is; found = subst (λ (some : List Fault). Contains some f) (sym e) (in_front f fs) },
+      )
+
+  module _ (before : AreEarlier (deps_of patches)) where
+    pub failing_or_not : ((set : ℕ) × IsFailingUnder demands base patches set)
+        ⊎ ((set : ℕ) → ¬ (IsFailingUnder demands base patches set))
+    failing_or_not =
+        let all = some_failing demands base patches before in
+        by all.0 (λ set is. (all.1.exactly set).0 is) (λ set is. (all.1.exactly set).1 is)
+      where
+        by : (sets : List ℕ) → ((set : ℕ) → Contains sets set → IsFailingUnder demands base patches set)
+            → ((set : ℕ) → IsFailingUnder demands base patches set → Contains sets set)
+            → ((set : ℕ) × IsFailingUnder demands base patches set)
+            ⊎ ((set : ℕ) → ¬ (IsFailingUnder demands base patches set))
+        by [] from to = inr (λ set is. in_none set (to set is))
+        by (x ∷ xs) from to = inl (x, from x (in_front x xs))
+
+-- ---- what is told
+
+module _ (settings : Settings) (demands : Demands) (base : Disk) (patches : List Patch)
+    (before : AreEarlier (deps_of patches)) where
+  pub told_decided : (told : List ToldDecided) × AreToldDecided (detail_of settings demands) base patches told
+      × All (λ t. IsLed patches t.first) told
+  told_decided =
+      let all = some_failing demands base patches before in
+      let body = some_body settings ByFault 0 demands base (trace_start false base) patches before all.0 all.1 all.2 in
+      by all.0 body.0 body.1
+    where
+      by : (sets : List ℕ) (body : Body)
+          → IsBody settings ByFault 0 demands base (trace_start false base) patches sets body
+          → (told : List ToldDecided) × AreToldDecided (detail_of settings demands) base patches told
+          × All (λ t. IsLed patches t.first) told
+      by sets (Sets sections) is = absurd (other is.0)
+        where
+          other : ByFault ≡ BySet → ⊥
+          other e = cc
+      by sets (Rules told) is = absurd (other is.0)
+        where
+          other : ByFault ≡ ByRule → ⊥
+          other e = cc
+      by sets (Faults told) is = (
+        map told_of told,
+        record {
+          decided = subst (AreDecided (HasFault demands base patches)) (same_decided told)
+              (are_decided (HasFault demands base patches) (map (λ t. t.row) told) is.1.rows);
+          firsts = subst (λ sections. AreSections (detail_of settings demands) base patches
+              (map (λ t. t.decided.first) (map told_of told)) sections) (same_sections told)
+              (subst (λ (sets : List ℕ). AreSections (detail_of settings demands) base patches sets
+              (map (λ t. t.first) told)) (same_firsts told) is.1.firsts);
+        },
+        told_led patches told is.2,
+      )
+
+  -- the first of them, or nothing
+  pub told_any : (told : Option ToldDecided) × IsToldAny (detail_of settings demands) base patches told
+  told_any = by told_decided.0 told_decided.1 told_decided.2
+    where
+      by : (told : List ToldDecided) → AreToldDecided (detail_of settings demands) base patches told
+          → All (λ t. IsLed patches t.first) told → (first : Option ToldDecided)
+          × IsToldAny (detail_of settings demands) base patches first
+      by [] are led = (None, λ fault set has. in_none fault (are.decided.every fault set has))
+      by (t ∷ told) are led = (Some t, first_told (detail_of settings demands) base patches t told are led)
+
+  -- if a set fails, there is a first fault
+  pub told_first : (set : ℕ) → IsFailingUnder demands base patches set → (told : ToldDecided)
+      × IsToldFirst (detail_of settings demands) base patches told
+  told_first set is = by told_any.0 told_any.1
+    where
+      by : (told : Option ToldDecided) → IsToldAny (detail_of settings demands) base patches told
+          → (first : ToldDecided)
+          × IsToldFirst (detail_of settings demands) base patches first
+      by None none = let fault = fault_of demands base patches set is in absurd (none fault.0 set fault.1)
+      by (Some told) first = (told, first)

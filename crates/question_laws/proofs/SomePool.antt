@@ -1,0 +1,84 @@
+-- There is an answer to a search.
+use Rattle.std.proofs.Common.{◌≡◌, ℕ, List, [], ◌∷◌, ◌++◌, All, refl, sym, subst, inl, inr}
+use Rattle.std.specs.Prelude.{◌⊎◌}
+use Rattle.std.proofs.lemmas.List.Elements.{All-nil, All-cons}
+use Rattle.report_model.specs.Answer.{Answer, Refused, Reported, HasBase}
+use Rattle.crash_model.specs.Disk.{Disk}
+use Rattle.crash_model.specs.declared.operations.Op.{Op}
+use Rattle.crash_model.specs.declared.refusals.RunFault.TheVariants.{GroupFault}
+use Rattle.crash_model.specs.declared.settings.Settings.{Settings}
+use Rattle.crash_model.specs.declared.steps.Act.{Act}
+use Rattle.crash_model.specs.declared.steps.Act.TheVariants.{Do, Group, End, Depend}
+use Rattle.crash_model.specs.declared.steps.Step.{Step}
+use Rattle.question_model.specs.SearchReport.{before_the_pool, no_operation}
+use Rattle.question_model.specs.Workloads.{IsOperation}
+use Rattle.question_laws.proofs.OnePool.{IsSearched}
+use Rattle.question_laws.proofs.SomeStart.{IsStarted, some_base}
+
+is_operation : (step : Step) → Dec (IsOperation step)
+is_operation step = by step.act
+  where
+    by : (act : Act) → Dec ((op : Op) × (act ≡ Do op))
+    by (Do op) = yes (op, refl)
+    by (Group a) = no (λ it. other it.1)
+      where
+        other : {op : Op} → Group a ≡ Do op → ⊥
+        other e = cc
+    by End = no (λ it. other it.1)
+      where
+        other : {op : Op} → End ≡ Do op → ⊥
+        other e = cc
+    by (Depend b a) = no (λ it. other it.1)
+      where
+        other : {op : Op} → Depend b a ≡ Do op → ⊥
+        other e = cc
+
+-- all steps are operations, or there is a first one that is not
+abbrev HasOther : List Step → Type 0
+HasOther pool =
+    (front : List Step) × (step : Step) × (rest : List Step) × (front ++ step ∷ rest ≡ pool) × All IsOperation front
+    × (¬ (IsOperation step))
+
+are_operations : (pool : List Step) → All IsOperation pool ⊎ HasOther pool
+are_operations [] = inl (All-nil IsOperation)
+are_operations (step ∷ pool) = by (is_operation step) (are_operations pool)
+  where
+    by : Dec (IsOperation step) → All IsOperation pool ⊎ HasOther pool → All IsOperation (step ∷ pool)
+        ⊎ HasOther (step ∷ pool)
+    by (no none) rest = inr ([], step, pool, refl, All-nil IsOperation, none)
+    by (yes is) (inl all) = inl (All-cons IsOperation step pool is all)
+    by (yes is) (inr (front, other, rest, whole, all, none)) = inr (
+      step ∷ front,
+      other,
+      rest,
+      joined whole,
+      All-cons IsOperation step front is all,
+      none,
+    )
+      where
+        joined : {cs ds : List Step} → cs ≡ ds → step ∷ cs ≡ step ∷ ds
+        joined e = cc
+
+module _ (bytes : List ℕ) (settings : Settings) (IsOn : Disk → List Step → List ℕ → ℕ → Type 0)
+    (some : (base : Disk) (pool : List Step) → (text : List ℕ) × (number : ℕ) × IsOn base pool text number) where
+  from_base : (base : Disk) (pool : List Step) → HasBase bytes settings base pool → (answer : Answer)
+      × IsSearched IsOn bytes settings answer
+  from_base base pool start = by (are_operations pool)
+    where
+      by : All IsOperation pool ⊎ HasOther pool → (answer : Answer) × IsSearched IsOn bytes settings answer
+      by (inl all) =
+          let report = some base pool in (
+            Reported report.0 report.1,
+            record { base = base; pool = pool; start = start; operations = all; report = report.2 },
+          )
+      by (inr (front, step, rest, whole, all, none)) = (
+        Refused (GroupFault step.line),
+        no_operation base front rest step (subst (HasBase bytes settings base) (sym whole) start) all none,
+      )
+
+  pub some_searched : (answer : Answer) × IsSearched IsOn bytes settings answer
+  some_searched = by (some_base bytes settings)
+    where
+      by : IsStarted bytes settings → (answer : Answer) × IsSearched IsOn bytes settings answer
+      by (inl start) = from_base start.0 start.1 start.2
+      by (inr refused) = (Refused refused.0, before_the_pool refused.0 refused.1 refused.2)
