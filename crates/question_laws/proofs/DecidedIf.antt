@@ -58,7 +58,7 @@ is_decided detail base patches sets fs =
     && (are_decided (λ set. quick_faults_under detail.demands (replayed (image_of base patches set))) sets fs
     && have_runs patches (map (λ f. f.first) fs))
 
--- what is told of the faults
+-- what a report shows of the faults
 abbrev pub told_one : Detail → Disk → List Patch → DecidedFault → ToldDecided
 told_one detail base patches f = record { decided = f; first = section_of detail base patches f.first }
 

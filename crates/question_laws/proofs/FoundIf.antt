@@ -327,7 +327,7 @@ module _ (s : Search) where
       one.1 in
       (and_parts (are_counted s e.refused) (are_shown s e.kinds) two.1).1
 
-  -- ---- what is told of kinds
+  -- ---- what a report shows of kinds
 
   module _ (explain : Bool) where
     abbrev pub told_kind : ShownBy → ToldKind

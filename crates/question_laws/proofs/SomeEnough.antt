@@ -61,7 +61,7 @@ module _ (settings : Settings) (demands : Demands) (base : Disk) (s : Tracing) w
               all.0 all.1,
         )
 
-    -- what is told of a group
+    -- what a report shows of a group
     told_group : (group : ℕ) → IsNeeded demands base s rules group → (told : ToldGroup)
         × IsToldGroup (detail_of settings demands) rules base s told × (told.group ≡ group)
     told_group group is = by (failing_by (rules_but rules group))

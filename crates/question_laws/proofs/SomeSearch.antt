@@ -32,7 +32,7 @@ use Rattle.question_laws.proofs.SomeSequences.{some_sequences, first_sequence}
 use Rattle.question_laws.proofs.SomeWorkloads.{is_workload, fails, workload_bounded}
 
 module _ (settings : Settings) (s : Search) where
-  -- what is told of a kind that is shown
+  -- what a report shows of a kind
   told_kind : (shown : ShownKind) → IsShown s shown → (told : ToldKind) × IsToldKind s settings.explain told
       × (told.shown ≡ shown)
   told_kind shown is =
