@@ -15,6 +15,7 @@ use Rattle.patch_sets.proofs.Canonical.{ordered_from_next, before_trans, before_
 use Rattle.patch_sets.proofs.Ids.{eq_from_true}
 use Rattle.patch_sets.proofs.Lists.{front_or_rest, in_front, in_rest, in_none}
 use Rattle.worked_example_laws.specs.Computed.{ones_below, is_before, is_ordered, is_in, are_in_order}
+use Rattle.worked_example_laws.proofs.FailingSets.{next_if, in_if}
 use Rattle.question_laws.proofs.Orders.{Ascends}
 
 pub either_true : (a b : Bool) → (a || b) ≡ true → (a ≡ true) ⊎ (b ≡ true)
@@ -61,41 +62,6 @@ module _ {X : Type 0} (test : X → Bool) where
 
 -- ---- sets in order
 
-ones_are : (n set : ℕ) → set < 2 ^ n → count_ones set ≡ ones_below n set
-ones_are zero set small = omega (arith, ones_le_self set)
-ones_are (suc n) set small = ones_step set ∙ ap (λ k. set % 2 + k)
-    (ones_are n (set / 2) (half (2 ^ n) set (omega (arith, small, pow-suc 2 n))))
-  where
-    half : (top set : ℕ) → set < top * 2 → set / 2 < top
-    half top set small = omega arith
-
-before_if : (n a b : ℕ) → a < 2 ^ n → b < 2 ^ n → is_before n a b ≡ true → IsBefore a b
-before_if n a b small_a small_b e = elim (either_true (nat_lt (ones_below n a) (ones_below n b)) _ e) [
-  | inl fewer ↦ inl (rw (ones_are n a small_a, ones_are n b small_b) (ltb-true _ _ fewer))
-  | inr same ↦ let parts = and_parts (ones_below n a == ones_below n b) (nat_lt a b) same in
-      inr (ones_are n a small_a ∙ (eq_from_true _ _ parts.0 ∙ sym (ones_are n b small_b)), ltb-true a b parts.1)
-]
-
-next_if : (n : ℕ) (sets : List ℕ) → ((set : ℕ) → Contains sets set → set < 2 ^ n) → is_ordered n sets ≡ true
-    → (k : ℕ) → k + 1 < length sets → IsBefore (get_or sets k 0) (get_or sets (k + 1) 0)
-next_if n [] small e k within = absurd (omega arith)
-next_if n (a ∷ []) small e k within = absurd (omega arith)
-next_if n (a ∷ b ∷ sets) small e zero within = before_if n a b (small a (in_front a (b ∷ sets)))
-    (small b (in_rest a (b ∷ sets) b (in_front b sets))) (and_parts (is_before n a b) _ e).0
-next_if n (a ∷ b ∷ sets) small e (suc k) within =
-    let rest : IsBefore (get_or (b ∷ sets) k 0) (get_or (b ∷ sets) (suc k) 0) =
-    subst (λ (m : ℕ). IsBefore (get_or (b ∷ sets) k 0) (get_or (b ∷ sets) m 0)) (add-one k)
-    (next_if n (b ∷ sets) (λ set is. small set (in_rest a (b ∷ sets) set is)) (and_parts (is_before n a b) _ e).1 k
-    (omega arith)) in
-    subst (λ (m : ℕ). IsBefore (get_or (b ∷ sets) k 0) (get_or (a ∷ b ∷ sets) m 0)) (sym (add-one (suc k))) rest
-
-in_from : (sets : List ℕ) (set : ℕ) → is_in sets set ≡ true → Contains sets set
-in_from [] set e = cc
-in_from (s ∷ sets) set e = elim (either_true (s == set) (list_any (λ t. t == set) sets) e) [
-  | inl same ↦ subst (Contains (s ∷ sets)) (eq_from_true s set same) (in_front s sets)
-  | inr more ↦ in_rest s sets set (in_from sets set more)
-]
-
 -- these are the sets with a property, in canonical order, if another list has them all
 pub in_order : (P : ℕ → Type 0) (n : ℕ) → ((set : ℕ) → P set → set < 2 ^ n) → (found sets : List ℕ)
     → ((set : ℕ) → Contains found set → P set) → ((set : ℕ) → P set → Contains found set)
@@ -104,12 +70,12 @@ in_order P n small found sets from to e =
     let ordered = and_parts (is_ordered n sets) _ e in
     let same = and_parts (list_all (is_in found) sets) (list_all (is_in sets) found) ordered.1 in
     let has : (set : ℕ) → Contains sets set → P set = λ set is.
-    from set (in_from found set (all_from (is_in found) sets same.0 set is)) in
+    from set (in_if found set (all_from (is_in found) sets same.0 set is)) in
     record {
       ordered = ordered_from_next sets (next_if n sets (λ set is. small set (has set is)) ordered.0);
       exactly = λ set. (
         has set,
-        λ is. in_from sets set (all_from (is_in sets) found same.1 set (to set is)),
+        λ is. in_if sets set (all_from (is_in sets) found same.1 set (to set is)),
       );
     }
 

@@ -157,7 +157,7 @@ before_if n a b small_a small_b e = elim (either (nat_lt (ones_below n a) (ones_
       inr (ones_are n a small_a ∙ (eq_from_true _ _ parts.0 ∙ sym (ones_are n b small_b)), ltb-true a b parts.1)
 ]
 
-next_if : (n : ℕ) (sets : List ℕ) → ((set : ℕ) → Contains sets set → set < 2 ^ n) → is_ordered n sets ≡ true
+pub next_if : (n : ℕ) (sets : List ℕ) → ((set : ℕ) → Contains sets set → set < 2 ^ n) → is_ordered n sets ≡ true
     → (k : ℕ) → k + 1 < length sets → IsBefore (get_or sets k 0) (get_or sets (k + 1) 0)
 next_if n [] small e k within = absurd (omega arith)
 next_if n (a ∷ []) small e k within = absurd (omega arith)
@@ -170,7 +170,7 @@ next_if n (a ∷ b ∷ sets) small e (suc k) within =
     (and_parts (is_before n a b) _ e).1 k (omega arith)) in
     subst (λ (m : ℕ). IsBefore (get_or (b ∷ sets) k 0) (get_or (a ∷ b ∷ sets) m 0)) (sym (add-one (suc k))) rest
 
-in_if : (sets : List ℕ) (set : ℕ) → is_in sets set ≡ true → Contains sets set
+pub in_if : (sets : List ℕ) (set : ℕ) → is_in sets set ≡ true → Contains sets set
 in_if [] set e = cc
 in_if (s ∷ sets) set e = elim (either (s == set) (list_any (λ t. t == set) sets) e) [
   | inl same ↦ (zero, omega arith, eq_from_true s set same)
