@@ -11,7 +11,7 @@ use Rattle.crash_model.specs.Disk.{Disk}
 use Rattle.crash_model.specs.Patches.{Place, places_of, deps_of, image_from, overlap}
 use Rattle.crash_model.specs.Replay.{image_after_replay}
 use Rattle.crash_model.specs.Checker.{Demands, IsCleanUnder, IsFailingUnder}
-use Rattle.crash_model.specs.Trace.{Emitted, Tracing, IsGraphOf, applies, depends, shares_block, groups_depend}
+use Rattle.crash_model.specs.Trace.{Emitted, Tracing, IsGraphOf, applies, depends, shares_block, groups_depend, waits_for}
 use Rattle.crash_model.specs.declared.patches.Patch.{Patch}
 use Rattle.crash_model.specs.declared.rules.Rule.{Rule}
 use Rattle.rule_laws.proofs.Closed.{get_some, length-deps}
@@ -34,11 +34,12 @@ or_right true b h = refl
 or_right false b h = h
 
 -- without any rule the patch depends on the other too, or a rule makes it wait
-depends_by : (rules others : List Rule) (whole : Bool) (links : List (List ℕ × List ℕ)) (q p : Emitted)
-    → depends rules whole links q p ≡ true
-    → (depends others whole links q p ≡ true) ⊎ ((rule : Rule) × Contains rules rule × (applies rule q p ≡ true))
-depends_by rules others whole links q p h =
-    let first = overlap q.place p.place || shares_block whole q p || groups_depend links q p in
+depends_by : (rules others : List Rule) (whole : Bool) (links : List (List ℕ × List ℕ)) (q : Emitted) (id : ℕ)
+    (p : Emitted)
+    → depends rules whole links q id p ≡ true
+    → (depends others whole links q id p ≡ true) ⊎ ((rule : Rule) × Contains rules rule × (applies rule q p ≡ true))
+depends_by rules others whole links q id p h =
+    let first = overlap q.place p.place || shares_block whole q p || groups_depend links q p || waits_for q id in
     elim (or_cases first (list_any (λ rule. applies rule q p) rules) h) [
       | inl always ↦ inl (or_left first (list_any (λ rule. applies rule q p) others) always)
       | inr any ↦
@@ -46,10 +47,11 @@ depends_by rules others whole links q p h =
           inr (found.1, (found.0, found.2, found.3), found.4)
     ]
 
-depends_from : (rules : List Rule) (whole : Bool) (links : List (List ℕ × List ℕ)) (q p : Emitted) (rule : Rule)
-    → Contains rules rule → applies rule q p ≡ true → depends rules whole links q p ≡ true
-depends_from rules whole links q p rule (at, within, is) holds =
-    or_right (overlap q.place p.place || shares_block whole q p || groups_depend links q p)
+depends_from : (rules : List Rule) (whole : Bool) (links : List (List ℕ × List ℕ)) (q : Emitted) (id : ℕ) (p : Emitted)
+    (rule : Rule)
+    → Contains rules rule → applies rule q p ≡ true → depends rules whole links q id p ≡ true
+depends_from rules whole links q id p rule (at, within, is) holds =
+    or_right (overlap q.place p.place || shares_block whole q p || groups_depend links q p || waits_for q id)
     (list_any (λ r. applies r q p) rules)
     (list_any_at (λ r. applies r q p) rules at rule within (ap (λ r. applies r q p) is ∙ holds))
 
@@ -88,7 +90,7 @@ module _ (rules : List Rule) (base : Disk) (s : Tracing) (patches : List Patch)
   pub not_excluded : IsClosed (deps_of patches) set → (rule : Rule) → Contains rules rule
       → Excludes s.emitted rule set → ⊥
   not_excluded closed rule is (q, has, (p, wait, outside)) =
-      let depends_on = depends_from rules s.whole s.links wait.later wait.before rule is wait.waits in
+      let depends_on = depends_from rules s.whole s.links wait.later p wait.before rule is wait.waits in
       outside (closed.whole q p has
       ((graph.exactly q p wait.later wait.before wait.order wait.later_at wait.before_at).1 depends_on))
 
@@ -108,7 +110,7 @@ module _ (rules : List Rule) (base : Disk) (s : Tracing) (patches : List Patch)
               let later = get_some s.emitted q (omega (arith, long, below)) in
               let earlier = get_some s.emitted p (omega (arith, long, below, before)) in
               let waits = (other.exactly q p later.0 earlier.0 before later.1 earlier.1).0 dep in
-              elim (depends_by others rules s.whole s.links later.0 earlier.0 waits) [
+              elim (depends_by others rules s.whole s.links later.0 p earlier.0 waits) [
                 | inl here ↦ closed.whole q p has
                     ((graph.exactly q p later.0 earlier.0 before later.1 earlier.1).1 here)
                 | inr it ↦ elim (eq_or_not (bit_at set p) 1) [
@@ -140,5 +142,5 @@ module _ (rules : List Rule) (base : Disk) (s : Tracing) (patches : List Patch)
         record {
           closed = closed_too failing.closed;
           unclean = λ clean. failing.unclean (subst (λ (ps : List Place).
-              IsCleanUnder demands (image_after_replay (image_from 0 base ps set))) same clean);
+              IsCleanUnder demands set (image_after_replay (image_from 0 base ps set))) same clean);
         }

@@ -74,9 +74,9 @@ module _ (deps : ℕ → ℕ) where
 -- ---- the graph
 
 -- whether one depends on the other, where both are there
-abbrev depends_if : List Rule → Bool → List (List ℕ × List ℕ) → Option Emitted → Option Emitted → Bool
-depends_if rules whole links (Some q) (Some p) = depends rules whole links q p
-depends_if rules whole links _ _ = false
+abbrev depends_if : List Rule → Bool → List (List ℕ × List ℕ) → Option Emitted → ℕ → Option Emitted → Bool
+depends_if rules whole links (Some q) id (Some p) = depends rules whole links q id p
+depends_if rules whole links _ _ _ = false
 
 pub less_or_not : (a b : ℕ) → (a < b) ⊎ (a < b → ⊥)
 less_or_not zero zero = inr (λ less. omega arith)
@@ -90,7 +90,7 @@ less_or_not (suc a) (suc b) = elim (less_or_not a b) [
 module _ (rules others : List Rule) (base : Disk) (s : Tracing) (patches : List Patch)
     (graph : IsGraphOf rules base s patches) where
   abbrev waits_at : ℕ → ℕ → Bool
-  waits_at q p = depends_if others s.whole s.links (slice_get s.emitted q) (slice_get s.emitted p)
+  waits_at q p = depends_if others s.whole s.links (slice_get s.emitted q) p (slice_get s.emitted p)
 
   abbrev deps_by : ℕ → ℕ
   deps_by q = set_below q (waits_at q)
@@ -116,14 +116,14 @@ module _ (rules others : List Rule) (base : Disk) (s : Tracing) (patches : List 
   ]
 
   waits_is : (q p : ℕ) (later before : Emitted) → slice_get s.emitted q ≡ Some later
-      → slice_get s.emitted p ≡ Some before → waits_at q p ≡ depends others s.whole s.links later before
+      → slice_get s.emitted p ≡ Some before → waits_at q p ≡ depends others s.whole s.links later p before
   waits_is q p later before is_later is_before =
-      ap (λ (o : Option Emitted). depends_if others s.whole s.links o (slice_get s.emitted p)) is_later
-      ∙ ap (λ (o : Option Emitted). depends_if others s.whole s.links (Some later) o) is_before
+      ap (λ (o : Option Emitted). depends_if others s.whole s.links o p (slice_get s.emitted p)) is_later
+      ∙ ap (λ (o : Option Emitted). depends_if others s.whole s.links (Some later) p o) is_before
 
   exactly_too : (q p : ℕ) (later before : Emitted) → p < q → slice_get s.emitted q ≡ Some later
       → slice_get s.emitted p ≡ Some before
-      → (Has (get_or (deps_of changed) q 0) p ↔ IsTrue (depends others s.whole s.links later before))
+      → (Has (get_or (deps_of changed) q 0) p ↔ IsTrue (depends others s.whole s.links later p before))
   exactly_too q p later before less is_later is_before =
       let within = slice_get_within s.emitted q later is_later in
       let here = at q (omega (arith, as_many, within)) in

@@ -34,6 +34,8 @@ pub(crate) enum Takes {
     Number(&'static str, Numbers),
     /// A number from the first to the second, and the option goes with none of the others.
     NumberWithout(&'static str, i64, i64, &'static [&'static str]),
+    /// Any word, if the option is given.
+    Word(&'static str),
     /// One of the words, else the default.
     OneOf(&'static str, &'static [&'static str], &'static str),
 }
@@ -44,9 +46,11 @@ impl Takes {
         match self {
             Takes::Nothing | Takes::NothingWithout(_) => ArgAction::SetTrue,
             Takes::Rule => ArgAction::Append,
-            Takes::Itself | Takes::Number(..) | Takes::NumberWithout(..) | Takes::OneOf(..) => {
-                ArgAction::Set
-            }
+            Takes::Itself
+            | Takes::Number(..)
+            | Takes::NumberWithout(..)
+            | Takes::Word(_)
+            | Takes::OneOf(..) => ArgAction::Set,
         }
     }
 
@@ -54,7 +58,8 @@ impl Takes {
     pub(crate) fn symbol(&self) -> Option<&'static str> {
         match self {
             Takes::Rule => Some("RULE"),
-            Takes::Number(symbol, _)
+            Takes::Word(symbol)
+            | Takes::Number(symbol, _)
             | Takes::NumberWithout(symbol, ..)
             | Takes::OneOf(symbol, ..) => Some(symbol),
             Takes::Nothing | Takes::NothingWithout(_) | Takes::Itself => None,
@@ -65,9 +70,12 @@ impl Takes {
     pub(crate) fn conflicts(&self) -> &'static [&'static str] {
         match self {
             Takes::NothingWithout(others) | Takes::NumberWithout(_, _, _, others) => others,
-            Takes::Nothing | Takes::Itself | Takes::Rule | Takes::Number(..) | Takes::OneOf(..) => {
-                &[]
-            }
+            Takes::Nothing
+            | Takes::Itself
+            | Takes::Rule
+            | Takes::Number(..)
+            | Takes::Word(_)
+            | Takes::OneOf(..) => &[],
         }
     }
 }
@@ -174,6 +182,17 @@ pub(crate) static HEADS: [Head; 5] = [
                 takes: Takes::Nothing,
                 help: "Also fail if a crash leaves an operation half done: the disk is not the one after some number \
                        of whole operations",
+            },
+            Entry {
+                name: "durable",
+                takes: Takes::Nothing,
+                help: "Also fail if a path does not show what an fsync of it made durable, until a later operation \
+                       touches it",
+            },
+            Entry {
+                name: "faults",
+                takes: Takes::Word("K,.."),
+                help: "Count only faults of these numbers, 1 to 10, in ascending order",
             },
         ],
     },
@@ -310,6 +329,7 @@ fn taking<'a>(option: Arg<'a>, takes: &'static Takes) -> Arg<'a> {
     match takes {
         Takes::Nothing | Takes::NothingWithout(_) | Takes::Itself => option,
         Takes::Rule => option.value_name("RULE"),
+        Takes::Word(symbol) => option.value_name(symbol),
         Takes::Number(symbol, numbers) => {
             let (least, most) = (i64::from(numbers.least), i64::from(numbers.most));
             let among = value_parser!(usize).range(least..=most);

@@ -19,6 +19,8 @@ pub(crate) enum Value<'a> {
     Word(&'a str),
     Rule(Rule),
     Limit(usize),
+    /// A word in the place of numbers of faults.
+    Numbers(&'a str),
 }
 
 impl Value<'_> {
@@ -26,6 +28,7 @@ impl Value<'_> {
     fn symbol(&self) -> &'static str {
         match self {
             Value::Limit(_) => "L",
+            Value::Numbers(_) => "K,..",
             _ => "RULE",
         }
     }
@@ -37,6 +40,7 @@ impl fmt::Display for Value<'_> {
             Value::Word(word) => word.fmt(f),
             Value::Rule(rule) => rule.fmt(f),
             Value::Limit(limit) => limit.fmt(f),
+            Value::Numbers(word) => word.fmt(f),
         }
     }
 }

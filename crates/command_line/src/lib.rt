@@ -23,7 +23,7 @@ pub use crate::hints::Hints;
 use crate::numbers::{BLOCKS, JOURNAL, WORKERS};
 use crate::option_list::option_list;
 use crate::rule_words::rules_page;
-use crate::values::{hints_of, module_of, number_of, question_of};
+use crate::values::{counted_of, hints_of, module_of, number_of, question_of};
 use clap::error::ErrorKind;
 use clap::{ArgMatches, Command, Error};
 use crash_model::modules::Module;
@@ -137,6 +137,8 @@ fn call_of<'a>(
         generations: matches.get_flag("generations"),
         strict: matches.get_flag("strict"),
         atomic: matches.get_flag("atomic"),
+        durable: matches.get_flag("durable"),
+        counted: counted_of(matches)?,
     };
     Ok(Call {
         script: matches.get_str("SCRIPT"),

@@ -201,6 +201,7 @@ pub(crate) enum Why<'a> {
     NotOf(Module),
     TakenOut,
     BoardIsSmaller,
+    NoFaultNumbers,
 }
 
 /// Why the word is no rule.
@@ -263,6 +264,11 @@ impl fmt::Display for Why<'_> {
             Why::NotOf(module) => write_rules_of(f, module),
             Why::TakenOut => f.write_str("'--without' takes it out"),
             Why::BoardIsSmaller => f.write_str("the board holds at most 32768 sets"),
+            Why::NoFaultNumbers => {
+                f.write_str(
+                    "numbers from 1 to 10, each above the one before, with a comma between two",
+                )
+            }
         }
     }
 }

@@ -26,6 +26,51 @@ pub(crate) fn number_of(matches: &ArgMatches<'_>, name: &str, numbers: Numbers) 
     }
 }
 
+/// The numbers of the faults that count, as a set, if they are given.
+pub(crate) fn counted_of<'a>(matches: &ArgMatches<'a>) -> Result<Option<u16>, WordFault<'a>> {
+    let Some(word) = matches.get_str("faults") else {
+        return Ok(None);
+    };
+    match fault_numbers(word) {
+        Some(counted) => Ok(Some(counted)),
+        None => Err(WordFault {
+            option: "faults",
+            value: Value::Numbers(word),
+            why: Why::NoFaultNumbers,
+        }),
+    }
+}
+
+/// The set of the numbers in a word: from 1 to 10, each above the one before, with a comma between two.
+fn fault_numbers(word: &str) -> Option<u16> {
+    let mut counted: u16 = 0;
+    for piece in word.split(',') {
+        let bit = fault_bit(piece)?;
+        if counted >= bit {
+            return None;
+        }
+        counted |= bit;
+    }
+    Some(counted)
+}
+
+/// The set that has only the number of a kind of fault.
+fn fault_bit(word: &str) -> Option<u16> {
+    match word {
+        "1" => Some(1 << 1),
+        "2" => Some(1 << 2),
+        "3" => Some(1 << 3),
+        "4" => Some(1 << 4),
+        "5" => Some(1 << 5),
+        "6" => Some(1 << 6),
+        "7" => Some(1 << 7),
+        "8" => Some(1 << 8),
+        "9" => Some(1 << 9),
+        "10" => Some(1 << 10),
+        _ => None,
+    }
+}
+
 /// The module given, else soft updates.
 pub(crate) fn module_of(matches: &ArgMatches<'_>) -> Module {
     match matches.get_str("module") {

@@ -60,7 +60,7 @@ pub record Crashes : Type 0 where
 
 -- the image that a set leaves is clean after replay
 abbrev pub IsGood : Crashes → ℕ → Type 0
-IsGood crashes set = IsCleanUnder crashes.demands (image_after_replay (image_of crashes.base crashes.patches set))
+IsGood crashes set = IsCleanUnder crashes.demands set (image_after_replay (image_of crashes.base crashes.patches set))
 
 -- a set of blocks has that of each patch of a set
 pub record HasBlocks (patches : List Patch) (set blocks : ℕ) : Type 0 where

@@ -60,7 +60,7 @@ impl<A: Allocator + Copy> Scratch<'_, A> {
         ensures kept { self.new ≡ self.old }
     {
         self.replayer.move_to(set);
-        is_clean_under(self.replayer.image(), self.demands)
+        is_clean_under(self.replayer.image(), set, self.demands)
     }
 }
 

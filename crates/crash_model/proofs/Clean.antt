@@ -64,24 +64,24 @@ module _ (test : ℕ → Bool) (make : ℕ → Fault) where
   none_some n h = some_below-none n _ (λ k below. rw (h k below) refl)
 
 module _ (test : ℕ → ℕ → Bool) (make : ℕ → ℕ → Fault) where
-  slots_none : each_slot (λ i s. when (test i s) (make i s)) ≡ [] → (i : ℕ) → i < 16 → (s : ℕ) → s < 4
+  pub slots_none : each_slot (λ i s. when (test i s) (make i s)) ≡ [] → (i : ℕ) → i < 16 → (s : ℕ) → s < 4
       → test i s ≡ false
   unfolding each_slot
   slots_none e i a = some_none (test i) (make i) 4 (each_none 16 (λ j. some_below 4 (λ s. when (test j s) (make j s))) e
       i a)
 
-  none_slots : ((i : ℕ) → i < 16 → (s : ℕ) → s < 4 → test i s ≡ false)
+  pub none_slots : ((i : ℕ) → i < 16 → (s : ℕ) → s < 4 → test i s ≡ false)
       → each_slot (λ i s. when (test i s) (make i s)) ≡ []
   unfolding each_slot
   none_slots h = each_below-none 16 _ (λ i a. none_some (test i) (make i) 4 (h i a))
 
-  entries_none : each_entry (λ dir k. when (test dir k) (make dir k)) ≡ [] → (dir : ℕ) → dir < 16 → (k : ℕ) → k < 10
+  pub entries_none : each_entry (λ dir k. when (test dir k) (make dir k)) ≡ [] → (dir : ℕ) → dir < 16 → (k : ℕ) → k < 10
       → test dir k ≡ false
   unfolding each_entry
   entries_none e dir a = some_none (test dir) (make dir) 10
       (each_none 16 (λ j. some_below 10 (λ k. when (test j k) (make j k))) e dir a)
 
-  none_entries : ((dir : ℕ) → dir < 16 → (k : ℕ) → k < 10 → test dir k ≡ false)
+  pub none_entries : ((dir : ℕ) → dir < 16 → (k : ℕ) → k < 10 → test dir k ≡ false)
       → each_entry (λ dir k. when (test dir k) (make dir k)) ≡ []
   unfolding each_entry
   none_entries h = each_below-none 16 _ (λ dir a. none_some (test dir) (make dir) 10 (h dir a))

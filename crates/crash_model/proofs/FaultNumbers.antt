@@ -3,7 +3,7 @@ use Rattle.std.proofs.Common.{◌≡◌, ℕ, zero, suc, List, [], ◌∷◌, re
 use Rattle.crash_model.specs.FaultRows.{numbers_of}
 use Rattle.crash_model.specs.declared.fault.Fault.{Fault}
 use Rattle.crash_model.specs.declared.fault.Fault.TheVariants.{Dangling, Twice, Unwritten, LowLinks, MarkedFree, Wild}
-use Rattle.crash_model.specs.declared.fault.Fault.TheVariants.{Lost, NoBlock, HalfDone}
+use Rattle.crash_model.specs.declared.fault.Fault.TheVariants.{Lost, NoBlock, HalfDone, BrokenPromise}
 
 fault_with : List ℕ → Fault
 fault_with (suc zero ∷ d ∷ k ∷ i ∷ []) = Dangling d k i
@@ -14,6 +14,7 @@ fault_with (suc (suc (suc (suc (suc (suc zero))))) ∷ i ∷ s ∷ b ∷ []) = W
 fault_with (suc (suc (suc (suc (suc (suc (suc zero)))))) ∷ i ∷ _) = Lost i
 fault_with (suc (suc (suc (suc (suc (suc (suc (suc zero))))))) ∷ i ∷ _) = NoBlock i
 fault_with (suc (suc (suc (suc (suc (suc (suc (suc (suc zero)))))))) ∷ i ∷ _) = HalfDone
+fault_with (suc (suc (suc (suc (suc (suc (suc (suc (suc (suc zero))))))))) ∷ line ∷ _) = BrokenPromise line
 fault_with (n ∷ b ∷ _) = Twice b
 fault_with _ = Twice 0
 
@@ -28,6 +29,7 @@ back (Wild i s b) = refl
 back (Lost i) = refl
 back (NoBlock i) = refl
 back HalfDone = refl
+back (BrokenPromise line) = refl
 
 pub same_fault : (f g : Fault) → numbers_of f ≡ numbers_of g → f ≡ g
 same_fault f g same = sym (back f) ∙ (ap fault_with same ∙ back g)

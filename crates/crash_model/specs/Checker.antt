@@ -1,5 +1,7 @@
 -- The checker: what is demanded of an image, and all faults that it has.
-use Rattle.std.specs.Prelude.{◌≡◌, ℕ, List, [], ◌++◌, Bool, Option, Some, None}
+use Rattle.std.specs.Prelude.{◌≡◌, ℕ, List, [], ◌++◌, filter, Bool, Option, Some, None}
+use Rattle.std.specs.List.{list_any}
+use Rattle.patch_sets.specs.Sets.{has}
 use Rattle.patch_sets.specs.Closed.{IsClosed}
 use Rattle.crash_model.specs.Disk.{Disk}
 use Rattle.crash_model.specs.Lists.{when}
@@ -8,20 +10,48 @@ use Rattle.crash_model.specs.Replay.{image_after_replay}
 use Rattle.crash_model.specs.Faults.{faults}
 use Rattle.crash_model.specs.Strict.{IsToldKept, strict_faults}
 use Rattle.crash_model.specs.Atomic.{disks_of, atomic_faults}
+use Rattle.crash_model.specs.FaultKinds.{fault_number}
+use Rattle.crash_model.specs.Promises.{Promise, waits_or_promises, promises_of, broken_lines}
 use Rattle.crash_model.specs.declared.fault.Fault.{Fault}
+use Rattle.crash_model.specs.declared.modules.Module.{Module}
 use Rattle.crash_model.specs.declared.patches.Patch.{Patch}
 use Rattle.crash_model.specs.declared.steps.Step.{Step}
 
 -- what is demanded besides that none of the six faults holds: that no path to these inodes is lost, if the checker is
--- strict, and that the image shows one of these disks, if operations are to be atomic
+-- strict; that the image shows one of these disks, if operations are to be atomic; and that no promise is broken, if a
+-- line of the script waits or promises
 pub record Demands : Type 0 where
   pub kept : Option ℕ
   pub disks : Option (List Disk)
+  pub promises : Option (List Promise)
+  -- the numbers of the faults that count, as a set, if not all count
+  pub counted : Option ℕ
 
--- what a script demands of an image of it
-pub record AreDemands (strict atomic : Bool) (base : Disk) (steps : List Step) (demands : Demands) : Type 0 where
-  pub kept : IsToldKept strict base steps demands.kept
-  pub disks : demands.disks ≡ when atomic (disks_of base steps)
+-- what a checker is asked for: whether it is strict, whether operations are to be atomic, whether each fsync promises,
+-- and which faults count; `tells` says whether a line of the script waits or promises, and the module what fsyncs force
+pub record Asked : Type 0 where
+  pub strict : Bool
+  pub atomic : Bool
+  pub durable : Bool
+  pub counted : Option ℕ
+  pub tells : Bool
+  pub kind : Module
+
+-- a line of the script waits or promises
+abbrev pub has_promises : List Step → Bool
+has_promises steps = list_any (λ x. waits_or_promises x.act) steps
+
+-- what a script demands of the sets that a crash leaves of it
+pub record AreDemands (asked : Asked) (base : Disk) (steps : List Step) (demands : Demands) : Type 0 where
+  pub kept : IsToldKept asked.strict base steps demands.kept
+  pub disks : demands.disks ≡ when asked.atomic (disks_of base steps)
+  pub promises : demands.promises ≡ when asked.tells (promises_of asked.kind asked.durable base steps)
+  pub counted : demands.counted ≡ asked.counted
+
+-- the promises that there are
+abbrev pub promised : Option (List Promise) → List Promise
+promised None = []
+promised (Some promises) = promises
 
 -- ---- the faults, in order
 
@@ -35,8 +65,18 @@ abbrev pub faults_showing : Option (List Disk) → Disk → List Fault → List 
 faults_showing None d found = found
 faults_showing (Some disks) d found = found ++ atomic_faults disks d
 
-abbrev pub faults_under : Demands → Disk → List Fault
-faults_under demands d = faults_showing demands.disks d (faults_keeping demands.kept d)
+-- all faults of a set, whose image after replay this is
+abbrev pub all_faults : Demands → ℕ → Disk → List Fault
+all_faults demands set d =
+    faults_showing demands.disks d (faults_keeping demands.kept d) ++ broken_lines (promised demands.promises) set d
+
+-- those that count
+abbrev pub counted_among : Option ℕ → List Fault → List Fault
+counted_among None found = found
+counted_among (Some counted) found = filter (λ f. has counted (fault_number f)) found
+
+abbrev pub faults_under : Demands → ℕ → Disk → List Fault
+faults_under demands set d = counted_among demands.counted (all_faults demands set d)
 
 -- ---- what fails
 
@@ -44,11 +84,11 @@ faults_under demands d = faults_showing demands.disks d (faults_keeping demands.
 pub record IsCleanKeeping (kept : Option ℕ) (d : Disk) : Type 0 where
   pub faultless : faults_keeping kept d ≡ []
 
--- no fault holds
-pub record IsCleanUnder (demands : Demands) (d : Disk) : Type 0 where
-  pub faultless : faults_under demands d ≡ []
+-- no fault holds of a set, whose image after replay this is
+pub record IsCleanUnder (demands : Demands) (set : ℕ) (d : Disk) : Type 0 where
+  pub faultless : faults_under demands set d ≡ []
 
--- a closed set whose image is not clean after replay
+-- a closed set that is not clean after replay
 pub record IsFailingUnder (demands : Demands) (base : Disk) (patches : List Patch) (set : ℕ) : Type 0 where
   pub closed : IsClosed (deps_of patches) set
-  pub unclean : ¬ (IsCleanUnder demands (image_after_replay (image_of base patches set)))
+  pub unclean : ¬ (IsCleanUnder demands set (image_after_replay (image_of base patches set)))

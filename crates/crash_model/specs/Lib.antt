@@ -13,6 +13,9 @@ pub mod View
 pub mod Sound
 pub mod Meaning
 pub mod Patches
+pub mod Emitted
+pub mod Paths
+pub mod Waiting
 pub mod Replay
 pub mod Rules
 pub mod RuleFacts
@@ -20,10 +23,13 @@ pub mod Trace
 pub mod Failing
 pub mod Strict
 pub mod Atomic
+pub mod Promises
+pub mod FaultKinds
 pub mod Checker
 pub mod FaultRows
 pub mod Script
 pub mod Texts
+pub mod ShownTexts
 pub mod Reasons
 pub mod RuleUse
 pub mod Visits

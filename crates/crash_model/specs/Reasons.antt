@@ -6,7 +6,8 @@ use Rattle.crash_model.specs.Lists.{some_below, when}
 use Rattle.crash_model.specs.Disk.{Disk, block_of}
 use Rattle.crash_model.specs.Patches.{overlap}
 use Rattle.crash_model.specs.Rules.{rule_text}
-use Rattle.crash_model.specs.Trace.{Emitted, Tracing, shares_block, groups_depend, rules_between, depends}
+use Rattle.crash_model.specs.Trace.{Emitted, Tracing, shares_block, groups_depend, waits_for, rules_between, depends}
+use Rattle.crash_model.specs.Waiting.{Wait}
 use Rattle.crash_model.specs.declared.patches.Patch.{Patch}
 use Rattle.crash_model.specs.declared.rules.Rule.{Rule}
 
@@ -22,18 +23,19 @@ pub record ToldPatch : Type 0 where
   pub undo : List ℕ
   pub after : List Dependency
 
--- why a patch depends on an earlier one
-abbrev pub reasons : List Rule → Bool → List (List ℕ × List ℕ) → Emitted → Emitted → List (List ℕ)
-reasons rules whole links q p =
+-- why a patch depends on an earlier one, of this id
+abbrev pub reasons : List Rule → Bool → List (List ℕ × List ℕ) → Emitted → ℕ → Emitted → List (List ℕ)
+reasons rules whole links q id p =
     (if overlap q.place p.place then codes "overlap" ∷ [] else [])
     ++ (if shares_block whole q p then codes "block" ∷ [] else [])
     ++ (if groups_depend links q p then codes "group" ∷ [] else [])
+    ++ (if waits_for q id then codes "wait" ∷ [] else [])
     ++ map rule_text (rules_between rules q p)
 
 -- the patch of an id, where q depends on it
 abbrev pub dependency : List Rule → Bool → List (List ℕ × List ℕ) → List Emitted → Emitted → ℕ → Option Dependency
 dependency rules whole links emitted q id = elim (slice_get emitted id) [
-  | Some p ↦ when (depends rules whole links q p) (record { id = id; reasons = reasons rules whole links q p })
+  | Some p ↦ when (depends rules whole links q id p) (record { id = id; reasons = reasons rules whole links q id p })
   | None ↦ None
 ]
 
@@ -60,11 +62,16 @@ told_patches rules whole links emitted patches =
 abbrev pub blocks_of : Disk → List (List ℕ)
 blocks_of disk = map (block_of disk) (range_with_len 0 disk.blocks)
 
--- the base's blocks, and the explanation of each patch
+-- the base's blocks, the explanation of each patch, and the lines that wait
 pub record Explanation : Type 0 where
   pub base : List (List ℕ)
   pub patches : List ToldPatch
+  pub waits : List Wait
 
 abbrev pub explanation : List Rule → Disk → Tracing → List Patch → Explanation
 explanation rules base s patches =
-    record { base = blocks_of base; patches = told_patches rules s.whole s.links s.emitted patches }
+    record {
+      base = blocks_of base;
+      patches = told_patches rules s.whole s.links s.emitted patches;
+      waits = s.waits;
+    }

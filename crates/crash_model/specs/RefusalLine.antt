@@ -18,6 +18,7 @@ line_of (run.FileFull line) = Some line
 line_of (run.LinksFull line) = Some line
 line_of (run.JournalFull line) = Some line
 line_of (run.GroupFault line) = Some line
+line_of (run.OnlyAfterStart line) = Some line
 line_of (run.BadUtf8 line) = Some line
 line_of (run.BadLine line) = Some line
 line_of (run.BadPath line) = Some line

@@ -36,6 +36,7 @@ run_of_trace (trace.FileFull line) = run.FileFull line
 run_of_trace (trace.LinksFull line) = run.LinksFull line
 run_of_trace (trace.JournalFull line) = run.JournalFull line
 run_of_trace (trace.GroupFault line) = run.GroupFault line
+run_of_trace (trace.OnlyAfterStart line) = run.OnlyAfterStart line
 run_of_trace trace.OutOfMemory = run.OutOfMemory
 
 abbrev pub run_of_script : ScriptFault → RunFault

@@ -1,5 +1,5 @@
 -- Scripts: their lines, what a line says, and which line is refused first.
-use Rattle.std.specs.Prelude.{◌≡◌, ◌≢◌, ℕ, ◌+◌, ◌≤◌, ◌⊎◌, List, [], ◌∷◌, ◌++◌, length, codes, IsUtf8, Some, map}
+use Rattle.std.specs.Prelude.{◌≡◌, ◌≢◌, ℕ, ◌+◌, ◌<◌, ◌≤◌, ◌⊎◌, List, [], ◌∷◌, ◌++◌, length, codes, IsUtf8, Some, map}
 use Rattle.std.specs.Prelude.{flat_map, slice_get, All, Contains, Option, None, option_to_list}
 use Rattle.crash_model.specs.declared.separators.TheConstants.{LINE_FEED, SPACE, SLASH}
 use Rattle.crash_model.specs.Lists.{join_of}
@@ -11,8 +11,11 @@ use Rattle.crash_model.specs.declared.operations.Op.TheVariants.{Overwrite, Trun
 use Rattle.crash_model.specs.declared.operations.Slot.{Slot}
 use Rattle.crash_model.specs.declared.refusals.ScriptFault.{ScriptFault}
 use Rattle.crash_model.specs.declared.refusals.ScriptFault.TheVariants.{BadUtf8, BadLine, BadPath, NoStart, OutOfMemory}
+use Rattle.crash_model.specs.declared.promises.TheConstants.{MOST_PATHS}
+use Rattle.crash_model.specs.declared.steps.Target.{Target}
+use Rattle.crash_model.specs.declared.steps.Target.TheVariants.{Root, At}
 use Rattle.crash_model.specs.declared.steps.Act.{Act}
-use Rattle.crash_model.specs.declared.steps.Act.TheVariants.{Do, Group, End, Depend}
+use Rattle.crash_model.specs.declared.steps.Act.TheVariants.{Do, Group, End, Depend, Sync, Fsync, Keep, Hold, Spare}
 use Rattle.crash_model.specs.declared.steps.Step.{Step}
 
 -- ---- lines
@@ -53,9 +56,24 @@ pub record IsPath (path : Path) : Type 0 where
 abbrev pub IsPathWord : List ℕ → Type 0
 IsPathWord word = (path : Path) × IsPath path × (word ≡ path_text path)
 
--- what follows a line's first word: a path, the name of a group, or a slot, which may be left out
+-- a path, or a slash for the root directory
+abbrev pub target_text : Target → List ℕ
+target_text Root = SLASH ∷ []
+target_text (At path) = path_text path
+
+abbrev pub IsTarget : Target → Type 0
+IsTarget Root = Unit {0}
+IsTarget (At path) = IsPath path
+
+abbrev pub IsTargetWord : List ℕ → Type 0
+IsTargetWord word = (word ≡ SLASH ∷ []) ⊎ IsPathWord word
+
+-- what follows a line's first word: a path, a path or the root directory, one to four paths, the name of a group, or a
+-- slot, which may be left out
 pub data Operand : Type 0 where
   PathOperand : Path → Operand
+  TargetOperand : Target → Operand
+  PathsOperand : List Path → Operand
   GroupOperand : List ℕ → Operand
   SlotOperand : Option Slot → Operand
 
@@ -74,10 +92,17 @@ said (Do (Replace p q)) = (codes "replace", PathOperand p ∷ PathOperand q ∷ 
 said (Group a) = (codes "group", GroupOperand a ∷ [])
 said End = (codes "end", [])
 said (Depend b a) = (codes "depend", GroupOperand b ∷ GroupOperand a ∷ [])
+said Sync = (codes "sync", [])
+said (Fsync target) = (codes "fsync", TargetOperand target ∷ [])
+said (Keep paths) = (codes "keep", PathsOperand paths.items ∷ [])
+said (Hold path) = (codes "hold", PathOperand path ∷ [])
+said (Spare p q) = (codes "spare", PathOperand p ∷ PathOperand q ∷ [])
 
--- its word, or none for a slot that is left out
+-- its words: those of paths, or none for a slot that is left out
 abbrev pub operand_words : Operand → List (List ℕ)
 operand_words (PathOperand path) = path_text path ∷ []
+operand_words (TargetOperand target) = target_text target ∷ []
+operand_words (PathsOperand paths) = map path_text paths
 operand_words (GroupOperand name) = name ∷ []
 operand_words (SlotOperand slot) = map slot_text (option_to_list slot)
 
@@ -88,6 +113,9 @@ words_of act = (said act).0 ∷ flat_map operand_words (said act).1
 abbrev pub AreLawful : List Operand → Type 0
 AreLawful [] = Unit {0}
 AreLawful (PathOperand path ∷ operands) = IsPath path × AreLawful operands
+AreLawful (TargetOperand target ∷ operands) = IsTarget target × AreLawful operands
+AreLawful (PathsOperand paths ∷ operands) =
+    (0 < length paths) × (length paths ≤ MOST_PATHS) × All IsPath paths × AreLawful operands
 AreLawful (GroupOperand name ∷ operands) = IsGroupName name × AreLawful operands
 AreLawful (SlotOperand slot ∷ operands) = AreLawful operands
 
@@ -99,6 +127,8 @@ IsAct act = AreLawful (said act).1
 abbrev pub Fits : List Operand → List (List ℕ) → Type 0
 Fits [] [] = Unit {0}
 Fits (PathOperand _ ∷ operands) (word ∷ words) = (word ≢ []) × Fits operands words
+Fits (TargetOperand _ ∷ operands) (word ∷ words) = (word ≢ []) × Fits operands words
+Fits (PathsOperand _ ∷ []) words = (0 < length words) × (length words ≤ MOST_PATHS) × All (λ word. word ≢ []) words
 Fits (GroupOperand _ ∷ operands) (word ∷ words) = IsGroupName word × Fits operands words
 Fits (SlotOperand _ ∷ []) [] = Unit {0}
 Fits (SlotOperand _ ∷ operands) (word ∷ words) = (word ≢ []) × Fits operands words
@@ -107,6 +137,8 @@ Fits _ _ = ⊥
 -- paths where they belong
 abbrev pub HasPaths : List Operand → List (List ℕ) → Type 0
 HasPaths (PathOperand _ ∷ operands) (word ∷ words) = IsPathWord word × HasPaths operands words
+HasPaths (TargetOperand _ ∷ operands) (word ∷ words) = IsTargetWord word × HasPaths operands words
+HasPaths (PathsOperand _ ∷ operands) words = All IsPathWord words
 HasPaths (GroupOperand _ ∷ operands) (word ∷ words) = HasPaths operands words
 HasPaths (SlotOperand _ ∷ operands) (word ∷ words) = HasPaths operands words
 HasPaths _ _ = Unit {0}

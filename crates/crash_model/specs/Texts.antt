@@ -4,11 +4,12 @@ use Rattle.crash_model.specs.declared.separators.TheConstants.{SPACE}
 use Rattle.crash_model.specs.Lists.{join_of}
 use Rattle.crash_model.specs.declared.fault.Fault.{Fault}
 use Rattle.crash_model.specs.declared.fault.Fault.TheVariants.{Dangling, Twice, Unwritten, LowLinks, MarkedFree, Wild}
-use Rattle.crash_model.specs.declared.fault.Fault.TheVariants.{Lost, NoBlock, HalfDone}
+use Rattle.crash_model.specs.declared.fault.Fault.TheVariants.{Lost, NoBlock, HalfDone, BrokenPromise}
 use Rattle.crash_model.specs.declared.modules.Module.{Module}
 use Rattle.crash_model.specs.declared.modules.Module.TheVariants.{Async, Soft, Meta, Full}
 use Rattle.crash_model.specs.Script.{words_of}
 use Rattle.crash_model.specs.declared.operations.Op.{Op}
+use Rattle.crash_model.specs.declared.steps.Act.{Act}
 use Rattle.crash_model.specs.declared.steps.Act.TheVariants.{Do}
 
 unfoldable pub fault_text : Fault → List ℕ
@@ -26,12 +27,17 @@ fault_text (Wild i s b) =
 fault_text (Lost i) = codes "7 lost inode: inode " ++ decimal i
 fault_text (NoBlock i) = codes "8 directory without a block: inode " ++ decimal i
 fault_text HalfDone = codes "9 half-done operation"
+fault_text (BrokenPromise line) = codes "10 broken promise: line " ++ decimal line
 
 abbrev pub module_text : Module → List ℕ
 module_text Async = codes "async"
 module_text Soft = codes "soft"
 module_text Meta = codes "meta"
 module_text Full = codes "full"
+
+-- the words of an act's line
+abbrev pub act_text : Act → List ℕ
+act_text act = join_of SPACE (words_of act)
 
 -- the words of an operation's line
 abbrev pub op_text : Op → List ℕ

@@ -1,16 +1,19 @@
 -- The patches of a script's steps, and which depends on which.
 use Rattle.std.specs.Prelude.{◌≡◌, ℕ, ◌+◌, ◌<◌, List, [], ◌∷◌, ◌++◌, length, map, filter, Bool, true, false, ◌&&◌, ◌||◌}
 use Rattle.std.specs.Prelude.{◌==◌, not, nat_lt, Option, Some, None, is_some, Result, Ok, Err, bytes_eq}
-use Rattle.std.specs.Prelude.{◌↔◌, slice_get, slice_index, IsTrue}
+use Rattle.std.specs.Prelude.{◌↔◌, slice_get, slice_index, IsTrue, bit_or, if◌then◌else◌}
 use Rattle.std.specs.List.{range_with_len, list_any}
 use Rattle.crash_model.specs.declared.patches.TheConstants.{MAX_PATCHES}
 use Rattle.crash_model.specs.declared.disk_bytes.TheConstants.{JOURNAL_AT, COMMITTED_MARK, DONE_MARK}
-use Rattle.patch_sets.specs.Sets.{Has}
+use Rattle.patch_sets.specs.Sets.{Has, has}
 use Rattle.patch_sets.specs.Closed.{AreEarlier}
 use Rattle.crash_model.specs.Disk.{Disk, block_of}
-use Rattle.crash_model.specs.Plan.{then_ok, unless, with_found, plan_of, with_changes}
+use Rattle.crash_model.specs.Plan.{then_ok, unless, with_found, plan_of, with_changes, at_entry}
 use Rattle.crash_model.specs.Patches.{Place, place, places_of, deps_of, overlap, AreUndo}
 use Rattle.crash_model.specs.Refusals.{trace_fault}
+use Rattle.crash_model.specs.Waiting.{Wait, forced_by_sync, forced_by_fsync}
+use Rattle.crash_model.specs.Paths.{is_same_path}
+pub use Rattle.crash_model.specs.Emitted.{Origin, origin_at, Emitted}
 use Rattle.crash_model.specs.Rules.{has_part, are_scoped}
 use Rattle.crash_model.specs.declared.refusals.FsFault.{FsFault}
 use Rattle.crash_model.specs.declared.refusals.TraceFault.{TraceFault}
@@ -26,26 +29,11 @@ use Rattle.crash_model.specs.declared.rules.Rule.{Rule}
 use Rattle.crash_model.specs.declared.patches.Patch.{Patch}
 use Rattle.crash_model.specs.declared.modules.Module.{Module}
 use Rattle.crash_model.specs.declared.modules.Module.TheVariants.{Meta, Full}
+use Rattle.crash_model.specs.declared.steps.Target.{Target}
+use Rattle.crash_model.specs.declared.steps.Target.TheVariants.{Root, At}
 use Rattle.crash_model.specs.declared.steps.Act.{Act}
-use Rattle.crash_model.specs.declared.steps.Act.TheVariants.{Do, Group, End, Depend}
+use Rattle.crash_model.specs.declared.steps.Act.TheVariants.{Do, Group, End, Depend, Sync, Fsync, Keep, Hold, Spare}
 use Rattle.crash_model.specs.declared.steps.Step.{Step}
-
--- where a patch comes from: its operation, with the line that has it in the script, and the group that was open
-pub record Origin : Type 0 where
-  pub line : ℕ
-  pub op : Op
-  pub group : Option (List ℕ)
-
-abbrev pub origin_at : ℕ → Op → Option (List ℕ) → Origin
-origin_at line op group = record { line = line; op = op; group = group }
-
--- a patch without its dependencies: its place and bytes, what it is of its operation, and that operation's number,
--- from 1
-pub record Emitted : Type 0 where
-  pub place : Place
-  pub part : Part
-  pub turn : ℕ
-  pub origin : Origin
 
 -- ---- which patch depends on which
 
@@ -66,10 +54,14 @@ applies rule q p = has_part rule.later q.part && (has_part rule.earlier p.part &
 abbrev pub shares_block : Bool → Emitted → Emitted → Bool
 shares_block whole q p = whole && q.place.block == p.place.block
 
--- a patch depends on an earlier one
-abbrev pub depends : List Rule → Bool → List (List ℕ × List ℕ) → Emitted → Emitted → Bool
-depends rules whole links q p =
-    overlap q.place p.place || shares_block whole q p || groups_depend links q p
+-- a line before the patch waits for the patch of an id
+abbrev pub waits_for : Emitted → ℕ → Bool
+waits_for q id = has q.origin.waits_for id
+
+-- a patch depends on an earlier one, of this id
+abbrev pub depends : List Rule → Bool → List (List ℕ × List ℕ) → Emitted → ℕ → Emitted → Bool
+depends rules whole links q id p =
+    overlap q.place p.place || shares_block whole q p || groups_depend links q p || waits_for q id
     || list_any (λ rule. applies rule q p) rules
 
 -- the rules that make it wait
@@ -141,6 +133,9 @@ pub record Tracing : Type 0 where
   pub opened : List (List ℕ)
   pub ended : List (List ℕ)
   pub links : List (List ℕ × List ℕ)
+  -- the ids that lines so far wait for, as a set, and these lines
+  pub forced : ℕ
+  pub waits : List Wait
 
 abbrev pub trace_start : Bool → Disk → Tracing
 trace_start whole base = record {
@@ -153,6 +148,8 @@ trace_start whole base = record {
   opened = [];
   ended = [];
   links = [];
+  forced = 0;
+  waits = [];
 }
 
 -- how many journal blocks an operation takes, and its patches
@@ -171,7 +168,7 @@ abbrev pub trace_of_plan : Module → ℕ → Op → Tracing → Result (List Ch
 trace_of_plan kind line op s (Err e) = Err (trace_fault line e)
 trace_of_plan kind line op s (Ok changes) =
     let after = with_changes s.disk changes in
-    let more = patches_by kind after s.turn s.journal (origin_at line op s.current) changes in
+    let more = patches_by kind after s.turn s.journal (origin_at line op s.current s.forced) changes in
     let next = s.journal + journal_blocks kind s.disk.blocks changes in
     unless (nat_lt (JOURNAL_AT + s.disk.journal) next) (no.JournalFull line)
     (unless (nat_lt MAX_PATCHES (length s.emitted + length more)) (no.TooManyPatches line)
@@ -179,6 +176,23 @@ trace_of_plan kind line op s (Ok changes) =
 
 abbrev pub is_among : List ℕ → List (List ℕ) → Bool
 is_among name names = list_any (bytes_eq name) names
+
+-- the inode of a target, or how the walk to it is refused
+abbrev pub target_found : Disk → Target → Result ℕ FsFault
+target_found d Root = Ok 0
+target_found d (At path) = at_entry d path (λ dir k inode. Ok inode)
+
+-- the trace after a line, unless a walk is refused
+abbrev pub when_found : ℕ → Result ℕ FsFault → Tracing → Result Tracing TraceFault
+when_found line (Err e) next = Err (trace_fault line e)
+when_found line (Ok _) next = Ok next
+
+-- with a line that waits for ids
+abbrev pub with_wait : ℕ → Act → ℕ → Tracing → Tracing
+with_wait line act ids s = record s {
+  forced = bit_or s.forced ids;
+  waits = s.waits ++ record { line = line; act = act; ids = ids } ∷ [];
+}
 
 abbrev pub step : Module → Tracing → ℕ → Act → Result Tracing TraceFault
 step kind s line (Do op) = trace_of_plan kind line op s (plan_of s.disk op)
@@ -191,6 +205,14 @@ step kind s line (Depend b a) =
     unless (not (is_among a s.ended) || bytes_eq b a
     || list_any (λ e. is_same_group e.origin.group b) s.emitted) (no.GroupFault line)
     (Ok (record s { links = s.links ++ (b, a) ∷ [] }))
+step kind s line Sync = Ok (with_wait line Sync (forced_by_sync kind s.emitted) s)
+step kind s line (Fsync target) =
+    when_found line (target_found s.disk target)
+    (with_wait line (Fsync target) (forced_by_fsync kind s.disk target s.emitted) s)
+step kind s line (Keep _) = Ok s
+step kind s line (Hold _) = Ok s
+step kind s line (Spare of other) =
+    if is_same_path of other then Ok s else when_found line (target_found s.disk (At other)) s
 
 -- all steps, up to the first refused one
 abbrev pub trace_from : Module → Tracing → List Step → Result Tracing TraceFault
@@ -199,7 +221,7 @@ trace_from kind s (x ∷ xs) = then_ok (step kind s x.line x.act) (λ next. trac
 
 -- ---- the base
 
--- the disk after the operations of the steps; a group has no place there
+-- the disk after the operations of the steps; a group has no place there, nor has a line that waits or promises
 abbrev pub base_from : Disk → List Step → Result Disk TraceFault
 base_from d [] = Ok d
 base_from d (x ∷ xs) = elim x.act [
@@ -207,7 +229,10 @@ base_from d (x ∷ xs) = elim x.act [
     | Err e ↦ Err (trace_fault x.line e)
     | Ok changes ↦ base_from (with_changes d changes) xs
   ]
-  | _ ↦ Err (no.GroupFault x.line)
+  | Group _ ↦ Err (no.GroupFault x.line)
+  | End ↦ Err (no.GroupFault x.line)
+  | Depend _ _ ↦ Err (no.GroupFault x.line)
+  | _ ↦ Err (no.OnlyAfterStart x.line)
 ]
 
 -- ---- the graph
@@ -220,4 +245,4 @@ pub record IsGraphOf (rules : List Rule) (base : Disk) (s : Tracing) (patches : 
   pub earlier : AreEarlier (deps_of patches)
   pub exactly : (q p : ℕ) (later before : Emitted) → p < q → slice_get s.emitted q ≡ Some later
       → slice_get s.emitted p ≡ Some before
-      → (Has (slice_index (deps_of patches) q) p ↔ IsTrue (depends rules s.whole s.links later before))
+      → (Has (slice_index (deps_of patches) q) p ↔ IsTrue (depends rules s.whole s.links later p before))

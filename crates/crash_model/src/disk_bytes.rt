@@ -18,6 +18,9 @@ pub const OTHER_BLOCKS: usize = 6;
 /// Where the allocation map begins on the disk: it is block 1.
 pub const MAP_AT: usize = BLOCK_SIZE;
 
+/// The block of the allocation map.
+pub const MAP_BLOCK: u8 = 1;
+
 /// The first of the two blocks of inodes.
 pub const INODE_BLOCK: u8 = 2;
 
@@ -80,6 +83,9 @@ pub const MOST_CHANGES: usize = 9;
 
 /// The most blocks that the header of a transaction names.
 pub const MOST_TARGETS: usize = 8;
+
+/// How many bytes of a file's block a path shows: its mark, its inode and its counters.
+pub const SHOWN_BYTES: usize = 4;
 
 /// Byte 0 of an inode that is in no use: its kind.
 pub const FREE_KIND: u8 = 0;

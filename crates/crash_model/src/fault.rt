@@ -1,6 +1,6 @@
 //! What a checker can find wrong with an image.
 
-ghost use Rattle.std.specs.Prelude.{◌≡◌};
+ghost use Rattle.std.specs.Prelude.{◌≡◌, [], ◌∷◌};
 ghost use Rattle.crash_model.specs.FaultRows.{numbers_of};
 
 use std::fmt;
@@ -30,6 +30,8 @@ pub enum Fault {
     NoBlock { inode: u8 },
     /// An image that shows the disk after no number of whole operations.
     HalfDone,
+    /// A set of patches that breaks a promise of the script. `line` is the number of the promise's line.
+    BrokenPromise { line: usize },
 }
 
 impl fmt::Display for Fault {
@@ -68,6 +70,7 @@ impl fmt::Display for Fault {
             Fault::Lost { inode } => write!(f, "7 lost inode: inode {inode}"),
             Fault::NoBlock { inode } => write!(f, "8 directory without a block: inode {inode}"),
             Fault::HalfDone => write!(f, "9 half-done operation"),
+            Fault::BrokenPromise { line } => write!(f, "10 broken promise: line {line}"),
         }
     }
 }
@@ -80,25 +83,38 @@ impl fmt::Debug for Fault {
 
 impl Fault {
     /// The sort key of a fault: its number, then the numbers in its text, padded with zeros.
-    pub fn numbers(self) -> [u8; 4]
+    pub fn numbers(self) -> [usize; 4]
         ensures { result ≡ numbers_of self }
     {
         match self {
-            Fault::Dangling { dir, entry, inode } => [1, dir, entry, inode],
-            Fault::Twice { block } => [2, block, 0, 0],
-            Fault::Unwritten { inode, slot, block } => [3, inode, slot, block],
+            Fault::Dangling { dir, entry, inode } => numbers(1, dir, entry, inode),
+            Fault::Twice { block } => numbers(2, block, 0, 0),
+            Fault::Unwritten { inode, slot, block } => numbers(3, inode, slot, block),
             Fault::LowLinks {
                 inode,
                 entries,
                 links,
-            } => [4, inode, entries, links],
-            Fault::MarkedFree { inode, slot, block } => [5, inode, slot, block],
-            Fault::Wild { inode, slot, block } => [6, inode, slot, block],
-            Fault::Lost { inode } => [7, inode, 0, 0],
-            Fault::NoBlock { inode } => [8, inode, 0, 0],
-            Fault::HalfDone => [9, 0, 0, 0],
+            } => numbers(4, inode, entries, links),
+            Fault::MarkedFree { inode, slot, block } => numbers(5, inode, slot, block),
+            Fault::Wild { inode, slot, block } => numbers(6, inode, slot, block),
+            Fault::Lost { inode } => numbers(7, inode, 0, 0),
+            Fault::NoBlock { inode } => numbers(8, inode, 0, 0),
+            Fault::HalfDone => numbers(9, 0, 0, 0),
+            Fault::BrokenPromise { line } => [10, line, 0, 0],
         }
     }
+}
+
+/// Four small numbers.
+fn numbers(kind: u8, first: u8, second: u8, third: u8) -> [usize; 4]
+    ensures { result ≡ kind ∷ first ∷ second ∷ third ∷ [] }
+{
+    [
+        usize::from(kind),
+        usize::from(first),
+        usize::from(second),
+        usize::from(third),
+    ]
 }
 
 /// A fault in a summary: how many failing sets have it, and which of them is the first in canonical order.

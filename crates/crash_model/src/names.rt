@@ -1,7 +1,7 @@
 //! Names and paths.
 
 ghost use Rattle.std.specs.Prelude.{◌≡◌, ℕ, ◌-◌, ◌≤◌, ◌<◌, ◌++◌, ◌↔◌, replicate, length, IsTrue, MatchOption};
-ghost use Rattle.std.specs.Prelude.{slice_index, ◌≢◌};
+ghost use Rattle.std.specs.Prelude.{slice_index, ◌≢◌, bytes_eq};
 ghost use Rattle.std.specs.List.{list_all};
 ghost use Rattle.crash_model.specs.Names.{IsName, IsGroupName, is_name_byte, is_group_byte};
 ghost use Rattle.crash_model.specs.FirstNames.{IsShort, BeginsWith, HasFirstName};
@@ -62,6 +62,24 @@ impl Name {
         text
     }
 
+    /// Whether it is the same name.
+    fn is_same(&self, other: &Name) -> bool
+        ensures { result ≡ bytes_eq self.now other.now }
+    {
+        self.bytes.as_slice() == other.bytes.as_slice()
+    }
+
+    /// A copy.
+    pub fn copy(&self) -> Name
+        ensures { result ≡ self.now }
+    {
+        let mut bytes = ArrayVec::new();
+        for c in self.bytes.as_slice() {
+            bytes.push(*c);
+        }
+        Name { bytes }
+    }
+
     /// Bytes 1 to 11 of a directory entry of this name: its length, the name, and zeros.
     pub fn spelled(&self) -> ArrayVec<u8, 11>
         ensures bytes { result.items ≡ name_spelling self.now }
@@ -86,8 +104,19 @@ pub struct Path {
     pub last: Name,
 }
 
+impl Default for Path {
+    /// The path `/a`.
+    fn default() -> Path {
+        Path {
+            through: ArrayVec::new(),
+            last: Name::default(),
+        }
+    }
+}
+
 impl Path {
     ghost use Rattle.crash_model.specs.Script.{IsPath, IsPathWord, path_text};
+    ghost use Rattle.crash_model.specs.Paths.{is_same_path};
 
     /// The path with this text: a slash and a name, one to four times. `None` for any other text.
     pub fn read(text: &str) -> Option<Path>
@@ -104,6 +133,33 @@ impl Path {
             rest = after;
         }
         Some(Path { through, last })
+    }
+
+    /// A copy.
+    pub fn copy(&self) -> Path
+        ensures { result ≡ self.now }
+    {
+        let mut through = ArrayVec::new();
+        for name in self.through.as_slice() {
+            through.push(name.copy());
+        }
+        let last = self.last.copy();
+        Path { through, last }
+    }
+
+    /// Whether it has the same names as another path.
+    pub fn is_same(&self, other: &Path) -> bool
+        ensures { result ≡ is_same_path self.now other.now }
+    {
+        if self.through.len() != other.through.len() {
+            return false;
+        }
+        for (at, name) in self.through.as_slice().iter().enumerate() {
+            if !name.is_same(&other.through[at]) {
+                return false;
+            }
+        }
+        self.last.is_same(&other.last)
     }
 
     /// Its names are names. This reads them, and changes nothing.
@@ -208,6 +264,16 @@ impl GroupName {
         }
         let bytes = word(text.as_bytes())?;
         Some(GroupName { bytes })
+    }
+
+    /// Its text.
+    pub fn as_str(&self) -> &str
+        ensures { result.now ≡ self.now }
+    {
+        let Ok(text) = str::from_utf8(self.bytes.as_slice()) else {
+            unreachable!();
+        };
+        text
     }
 
     /// Whether it is the same name.

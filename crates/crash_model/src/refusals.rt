@@ -69,6 +69,7 @@ pub enum TraceFault {
     LinksFull { line: usize },
     JournalFull { line: usize },
     GroupFault { line: usize },
+    OnlyAfterStart { line: usize },
     OutOfMemory,
 }
 
@@ -125,6 +126,7 @@ pub enum RunFault {
     LinksFull { line: usize },
     JournalFull { line: usize },
     GroupFault { line: usize },
+    OnlyAfterStart { line: usize },
     TooMany,
     BadUtf8 { line: usize },
     BadLine { line: usize },
@@ -154,6 +156,7 @@ impl RunFault {
             RunFault::LinksFull { .. } => "19 too many links",
             RunFault::JournalFull { .. } => "20 journal full",
             RunFault::GroupFault { .. } => "21 group fault",
+            RunFault::OnlyAfterStart { .. } => "22 only after start",
             RunFault::TooMany => ExploreFault::TooMany.text(),
             RunFault::BadUtf8 { .. } => "40 not UTF-8",
             RunFault::BadLine { .. } => "41 bad line",
@@ -184,6 +187,7 @@ impl RunFault {
             | RunFault::LinksFull { line }
             | RunFault::JournalFull { line }
             | RunFault::GroupFault { line }
+            | RunFault::OnlyAfterStart { line }
             | RunFault::BadUtf8 { line }
             | RunFault::BadLine { line }
             | RunFault::BadPath { line }
@@ -258,6 +262,7 @@ impl From<TraceFault> for RunFault {
             TraceFault::LinksFull { line } => RunFault::LinksFull { line },
             TraceFault::JournalFull { line } => RunFault::JournalFull { line },
             TraceFault::GroupFault { line } => RunFault::GroupFault { line },
+            TraceFault::OnlyAfterStart { line } => RunFault::OnlyAfterStart { line },
             TraceFault::OutOfMemory => RunFault::OutOfMemory,
         }
     }

@@ -15,6 +15,8 @@ use crate::rule_lists::RuleList;
 /// with all changes that it has in memory, so a patch depends on each earlier one of its block. With `generations` the
 /// inodes and the marks of blocks on the disk have generations. With `strict` the checker also requires of each image
 /// that nothing the script keeps is lost; with `atomic`, that it shows the disk after some number of whole operations.
+/// With `durable` each fsync of a path promises that the path shows what it showed, until a later operation touches it.
+/// With `counted` only faults of these numbers count, which are given as a set.
 #[derive(Debug, PartialEq, Eq, Drop)]
 pub struct Settings {
     pub module: Module,
@@ -28,6 +30,18 @@ pub struct Settings {
     pub generations: bool,
     pub strict: bool,
     pub atomic: bool,
+    pub durable: bool,
+    pub counted: Option<u16>,
+}
+
+/// What a checker is asked for besides the six faults: whether it is strict, whether operations are to be atomic,
+/// whether each fsync promises, and which faults count: their numbers, as a set, if not all do.
+#[derive(Clone, Copy, Debug, PartialEq, Eq)]
+pub struct Asked {
+    pub strict: bool,
+    pub atomic: bool,
+    pub durable: bool,
+    pub counted: Option<u16>,
 }
 
 impl Settings {

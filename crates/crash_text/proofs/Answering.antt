@@ -1,7 +1,7 @@
 -- What the parts of a run find makes its answer.
-use Rattle.std.proofs.Common.{◌≡◌, ℕ, List, Ok, Err, subst, sym, inl, inr}
+use Rattle.std.proofs.Common.{◌≡◌, ℕ, List, Ok, Err, ap, subst, sym, inl, inr, ◌∙◌}
 use Rattle.report_model.specs.Answer.{Refused, Reported, HasBase, HasGraph, IsReport, IsReported, IsUntraced, untraced}
-use Rattle.report_model.specs.Answer.{bad_script, bad_geometry, bad_base, bad_trace, too_many, reported}
+use Rattle.report_model.specs.Answer.{asked_by, bad_script, bad_geometry, bad_base, bad_trace, too_many, reported}
 use Rattle.crash_model.specs.Checker.{Demands}
 use Rattle.crash_model.specs.Disk.{Disk, IsGeometry, new_disk}
 use Rattle.crash_model.specs.Refusals.{run_of_script, run_of_trace}
@@ -10,7 +10,7 @@ use Rattle.crash_model.specs.Trace.{Tracing, base_from}
 use Rattle.crash_model.specs.Patches.{ExceedsLimit}
 use Rattle.crash_model.specs.declared.patches.Patch.{Patch}
 use Rattle.crash_model.specs.declared.refusals.RunFault.{RunFault}
-use Rattle.crash_model.specs.declared.refusals.RunFault.TheVariants.{BadGeometry, TooMany}
+use Rattle.crash_model.specs.declared.refusals.RunFault.TheVariants.{BadGeometry, GroupFault, TooMany}
 use Rattle.crash_model.specs.declared.refusals.ScriptFault.{ScriptFault}
 use Rattle.crash_model.specs.declared.refusals.TraceFault.{TraceFault}
 use Rattle.crash_model.specs.declared.settings.Settings.{Settings}
@@ -24,9 +24,10 @@ use Rattle.question_model.specs.declared.length.WorkloadLength.{WorkloadLength}
 use Rattle.question_model.specs.SearchReport.{IsSearchRefusal, before_the_pool, no_operation}
 use Rattle.uniqueness_laws.proofs.Scripts.{read_or_refused, script_one}
 use Rattle.crash_text.specs.BaseRefusal.{IsBaseRefusal}
-use Rattle.crash_text.specs.Searching.{IsNoPool, IsSearchOf}
+use Rattle.crash_text.specs.Searching.{IsPoolRefusal, IsSearchOf}
 use Rattle.crash_text.specs.SearchingRules.{IsRuleSearchOf}
-use Rattle.crash_text.specs.Traced.{IsTraced, IsTraceRefusal, IsReportOn}
+use Rattle.full_journal_laws.specs.Full.{MakeNoPromise}
+use Rattle.crash_text.specs.Traced.{IsTraced, IsTraceRefusal, IsReportOn, PromisesNothing}
 use Rattle.crash_text.specs.declared.traced_script.TracedScript.{TracedScript}
 
 module _ (bytes : List ℕ) (settings : Settings) where
@@ -43,6 +44,12 @@ module _ (bytes : List ℕ) (settings : Settings) where
     geometry = geometry;
     built = subst (λ (s : List Step). base_from formatted s ≡ Ok base) same is;
   }
+
+  -- no promise of its steps counts
+  pub nothing_counts : (base : Disk) (steps seen : List Step) → HasBase bytes settings base steps → seen ≡ steps
+      → PromisesNothing bytes settings → MakeNoPromise (asked_by settings seen) seen
+  nothing_counts base steps seen start same nothing =
+      subst (λ (s : List Step). MakeNoPromise (asked_by settings s) s) (sym same) (nothing base steps start)
 
   -- there is no base, so no step after the start line is asked about
   abbrev HasNone : Type 0
@@ -133,9 +140,10 @@ module _ (bytes : List ℕ) (settings : Settings) where
 
   -- what refuses a search refuses one for rules too
   pub refused_pool : (base : Disk) (steps : List Step) (fault : RunFault) → HasBase bytes settings base steps
-      → IsNoPool steps fault → IsSearchRefusal bytes settings fault
-  refused_pool base steps fault start is = subst (IsSearchRefusal bytes settings) (sym is.told)
-      (no_operation base is.front is.rest is.step (subst (HasBase bytes settings base) is.whole start) is.operations
+      → IsPoolRefusal steps fault → IsSearchRefusal bytes settings fault
+  refused_pool base steps fault start (line, is, same) =
+      subst (IsSearchRefusal bytes settings) (sym (same ∙ ap GroupFault is.of_it))
+      (no_operation base is.front is.rest is.step (subst (HasBase bytes settings base) is.whole start) is.before
       is.first)
 
   pub reported_pool : (longest : WorkloadLength) (base : Disk) (steps : List Step) (text : List ℕ) (number : ℕ)

@@ -43,8 +43,8 @@ all_of P f ys all k d within = subst P (get_or-map f ys k d) (all k (f d) (omega
 abbrev IsTextOn : Settings → ReportBy → ℕ → Demands → Disk → Tracing → List Patch → ℕ → List ℕ → List ℕ → Type 0
 IsTextOn settings kind limit demands base last patches total sets text =
     (body : Body) × IsBody settings kind limit demands base last patches sets body
-    × (text ≡ report settings (whole settings (explanation (ordering_rules settings) base last patches) patches total
-    (length sets) body))
+    × (text ≡ report settings (whole settings demands.promises
+    (explanation (ordering_rules settings) base last patches) patches total (length sets) body))
 
 -- ---- a report's data, which are those of the findings
 
@@ -85,7 +85,7 @@ firsts_closed demands base patches rows are = All-map (IsClosed (deps_of patches
 
 pub same_explanation : (settings : Settings) (base : Disk) (t : TracedPatches) (last : Tracing)
     → IsTraceOf settings base t last → explanation_by base t ≡ explanation (ordering_rules settings) base last t.patches
-same_explanation settings base t last is = rw (is.rules, is.whole, is.links, is.emitted) refl
+same_explanation settings base t last is = rw (is.rules, is.whole, is.links, is.emitted, is.waits) refl
 
 module _ (settings : Settings) (kind : ReportBy) (limit : ℕ) (demands : Demands) (base : Disk) (t : TracedPatches)
     (last : Tracing) (is : IsTraceOf settings base t last) where
@@ -111,19 +111,21 @@ module _ (settings : Settings) (kind : ReportBy) (limit : ℕ) (demands : Demand
 
   -- a text with a body of this kind
   text_on : (total : ℕ) (sets text : List ℕ) (body : Body) → IsBody settings kind limit demands base last t.patches sets body
-      → text ≡ report settings (whole settings (explanation_by base t) t.patches total (length sets) body)
+      → text ≡ report settings
+      (whole settings demands.promises (explanation_by base t) t.patches total (length sets) body)
       → IsTextOn settings kind limit demands base last t.patches total sets text
   text_on total sets text body told whole_text = (
     body,
     told,
     whole_text ∙ ap (λ (e : Explanation). report settings
-        (whole settings e t.patches total (length sets) body)) (same_explanation settings base t last is),
+        (whole settings demands.promises e t.patches total (length sets) body)) (same_explanation settings base t last is),
   )
 
   told_sets : (total : ℕ) (sets text : List ℕ) (body : Body) (sections : List Section) → kind ≡ BySet
       → AreAllInOrder (IsFailingUnder demands base t.patches) sets
       → AreSections (detail_of settings demands) base t.patches sets sections → body ≡ Sets sections
-      → text ≡ report settings (whole settings (explanation_by base t) t.patches total (length sets) body)
+      → text ≡ report settings
+      (whole settings demands.promises (explanation_by base t) t.patches total (length sets) body)
       → IsTextOn settings kind limit demands base last t.patches total sets text
   told_sets total sets text body sections by exactly are same whole_text =
       let closed = failing_closed demands base t.patches sets exactly in
@@ -136,7 +138,8 @@ module _ (settings : Settings) (kind : ReportBy) (limit : ℕ) (demands : Demand
       → AreRows (HasFault demands base t.patches) rows → map (λ f. f.row) told ≡ rows
       → AreSections (detail_of settings demands) base t.patches (map (λ row. row.first) rows) (map (λ f. f.first) told)
       → body ≡ Faults told
-      → text ≡ report settings (whole settings (explanation_by base t) t.patches total (length sets) body)
+      → text ≡ report settings
+      (whole settings demands.promises (explanation_by base t) t.patches total (length sets) body)
       → IsTextOn settings kind limit demands base last t.patches total sets text
   told_faults total sets text body rows told by are_rows of_rows are same whole_text =
       text_on total sets text body (subst (IsBody settings kind limit demands base last t.patches sets) (sym same)
@@ -163,7 +166,8 @@ module _ (settings : Settings) (kind : ReportBy) (limit : ℕ) (demands : Demand
   told_rules : (total : ℕ) (sets text : List ℕ) (body : Body) (told : List ToldRule) → kind ≡ ByRule
       → AreToldRules (detail_of settings demands) limit (ordering_rules settings) base last t.patches
       (ordering_rules settings) told → body ≡ Rules told
-      → text ≡ report settings (whole settings (explanation_by base t) t.patches total (length sets) body)
+      → text ≡ report settings
+      (whole settings demands.promises (explanation_by base t) t.patches total (length sets) body)
       → IsTextOn settings kind limit demands base last t.patches total sets text
   told_rules total sets text body told by are same whole_text =
       text_on total sets text body (subst (IsBody settings kind limit demands base last t.patches sets) (sym same) (by, are))

@@ -1,5 +1,6 @@
 -- What a decision reports makes it the report that is asked for.
 use Rattle.std.proofs.Common.{◌≡◌, ℕ, List, length, map, All, sym, subst, ap, ◌∙◌}
+use Rattle.std.specs.Prelude.{None, if◌then◌else◌}
 use Rattle.std.proofs.lemmas.List.{length-map}
 use Rattle.std.proofs.lemmas.Simd.{map-map}
 use Rattle.std.proofs.lemmas.List.Elements.{All-map}
@@ -41,6 +42,7 @@ pub is_decision : (settings : Settings) (demands : Demands) (base : Disk) (t : T
       patches = length t.patches;
       closed = total;
       explanation = when settings.explain (explanation_by base t);
+      promises = if settings.explain then demands.promises else None;
       faults = told;
     })
     → IsDecision settings demands base last t.patches text (length faults)
@@ -56,6 +58,7 @@ is_decision settings demands base t last total faults told text is counted decid
     patches = length t.patches;
     closed = total;
     explanation = when settings.explain e;
+    promises = if settings.explain then demands.promises else None;
     faults = told;
   })) (same_explanation settings base t last is);
 }

@@ -6,53 +6,47 @@ use Rattle.std.proofs.lemmas.List.Elements.{All-push}
 use Rattle.std.specs.Prelude.{All, not, if◌then◌else◌}
 use Rattle.std.specs.Int.{from_bool}
 use Rattle.crash_model.specs.Disk.{Disk}
-use Rattle.report_model.specs.Report.{Section}
+use Rattle.report_model.specs.Answer.{ordering_rules}
 use Rattle.crash_model.specs.declared.modules.Module.{Module}
 use Rattle.crash_model.specs.declared.rules.Rule.{Rule}
+use Rattle.crash_model.specs.declared.settings.Asked.{Asked}
 use Rattle.crash_model.specs.declared.settings.Settings.{Settings}
 use Rattle.crash_model.specs.declared.steps.Step.{Step}
-use Rattle.question_model.specs.SearchReport.{IsToldKind}
-use Rattle.question_model.specs.Workloads.{Search, steps_at}
+use Rattle.question_model.specs.SearchReport.{search_of}
+use Rattle.question_model.specs.Workloads.{Search, IsOfPool, keeps_of, places_of}
+use Rattle.kept_promises.specs.Asking.{asked_of}
+use Rattle.pool_judging.proofs.Pools.{tells_lines}
 use Rattle.question_model.specs.declared.found.ShownKind.{ShownKind}
 use Rattle.question_reports.specs.SearchFindings.{told_kind}
 use Rattle.question_reports.specs.declared.search.findings.KindCrash.{KindCrash}
+use Rattle.crash_text.specs.Traced.{asks_of}
 
 -- a search under this ordering
-abbrev pub search_under : Settings → ℕ → Disk → List Step → Module → Bool → List Rule → Search
-search_under settings most base pool ordering whole rules = record {
-  ordering = ordering;
-  whole = whole;
+abbrev pub search_under : Asked → ℕ → Disk → List Step → List Step → Module → Bool → List Rule → Search
+search_under asked most base keeps places kind whole rules = record {
+  ordering = kind;
   rules = rules;
-  strict = settings.strict;
-  atomic = settings.atomic;
+  whole = whole;
+  asked = asked_of asked kind (keeps ++ places);
   base = base;
-  pool = pool;
+  keeps = keeps;
+  pool = places;
   most = most;
 }
 
--- two searches under the same ordering are one
-pub same_search : (settings : Settings) (base : Disk) (pool : List Step) (m n : ℕ) (a b : Module) (v w : Bool)
-    (qs rs : List Rule) → m ≡ n → a ≡ b → v ≡ w → qs ≡ rs
-    → search_under settings m base pool a v qs ≡ search_under settings n base pool b w rs
-same_search settings base pool m n a b v w qs rs most ordering whole rules =
-    ap (λ (k : ℕ). search_under settings k base pool a v qs) most
-    ∙ (ap (λ (o : Module). search_under settings n base pool o v qs) ordering
-    ∙ (ap (λ (x : Bool). search_under settings n base pool b x qs) whole
-    ∙ ap (λ (ls : List Rule). search_under settings n base pool b w ls) rules))
+-- is the one that the settings ask for
+pub same_search : (settings : Settings) (base : Disk) (lines : List Step) (most : ℕ) (asked : Asked)
+    (keeps places : List Step) (kind : Module) (whole : Bool) (rules : List Rule) → All IsOfPool lines
+    → asked ≡ asks_of settings → keeps ≡ keeps_of lines → places ≡ places_of lines → kind ≡ settings.module
+    → whole ≡ settings.whole_blocks → rules ≡ ordering_rules settings
+    → search_under asked most base keeps places kind whole rules ≡ search_of settings most base lines
+same_search settings base lines most asked keeps places kind whole rules all asks are_keeps are_places of_kind is_whole
+    are_rules = rw (asks, are_keeps, are_places, of_kind, is_whole, are_rules, tells_lines lines all) refl
 
 -- the number of a search is 1 where a workload fails
 pub number_of_failing : (none : Bool) → from_bool (not none) ≡ (if none then 0 else 1)
 number_of_failing true = refl
 number_of_failing false = refl
-
--- a kind in the report, with the steps at the places of its workload
-pub with_steps : (s : Search) (explain : Bool) (shown : ShownKind) (steps : List Step) (patches : ℕ) (first : Section)
-    → IsToldKind s explain (record { shown = shown; steps = steps; patches = patches; first = first })
-    → IsToldKind s explain
-    (record { shown = shown; steps = steps_at s.pool shown.places.items; patches = patches; first = first })
-with_steps s explain shown steps patches first is = subst
-    (λ (xs : List Step).
-    IsToldKind s explain (record { shown = shown; steps = xs; patches = patches; first = first })) is.steps is
 
 -- the crash of one kind more
 pub shown_more : {A : Type 0} (kinds : List ShownKind) (i : ℕ) (d : ShownKind) (crashes after : List (KindCrash A))

@@ -1,42 +1,25 @@
--- Steps that are a pool of operations, and the acts of a script's steps.
-use Rattle.std.proofs.Common.{◌≡◌, ℕ, ◌+◌, ◌<◌, List, [], ◌∷◌, ◌++◌, length, take, drop, get_or, sym, subst, ap, ◌∙◌}
-use Rattle.std.proofs.Common.{append_assoc, inl, inr}
-use Rattle.std.specs.Prelude.{All}
-use Rattle.std.proofs.lemmas.List.{take_more, take-append-drop}
-use Rattle.std.proofs.lemmas.List.Elements.{All-append, All-cons, All-nil}
+-- The steps of a script, and of a pool among them.
+use Rattle.std.proofs.Common.{◌≡◌, ℕ, ◌+◌, List, [], ◌∷◌, length, inl, inr, refl, sym, subst, ap, ◌∙◌}
+use Rattle.std.specs.Prelude.{All, ◌==◌, if◌then◌else◌}
+use Rattle.std.proofs.lemmas.List.Elements.{All-cons, All-filter, All-nil}
+use Rattle.crash_model.specs.Disk.{Disk, IsDisk}
 use Rattle.crash_model.specs.Script.{IsAct, AreSteps, IsScript}
-use Rattle.crash_model.specs.declared.refusals.RunFault.{RunFault}
-use Rattle.crash_model.specs.declared.refusals.RunFault.TheVariants.{GroupFault}
+use Rattle.crash_model.specs.Sound.{IsSound, HasZeroJournal}
+use Rattle.crash_model.specs.declared.modules.Module.TheVariants.{Full}
+use Rattle.crash_model.specs.declared.settings.Settings.{Settings}
 use Rattle.crash_model.specs.declared.steps.Step.{Step}
-use Rattle.question_model.specs.Workloads.{IsOperation}
-use Rattle.crash_text.specs.Searching.{IsNoPool}
+use Rattle.full_journal_laws.specs.Full.{MakeNoPromise}
+use Rattle.report_model.specs.Answer.{asked_by, ordering_rules}
+use Rattle.question_model.specs.Found.{AreFound}
+use Rattle.question_model.specs.SearchReport.{search_of}
+use Rattle.question_model.specs.Workloads.{Search, is_keep, is_place}
+use Rattle.question_model.specs.declared.found.Found.{Found}
+use Rattle.pool_judging.specs.Judging.{IsFullJournal}
+use Rattle.pool_judging.proofs.Demanded.{makes_none_apart}
+use Rattle.pool_judging.proofs.Full.{nothing_fails, none_failing}
+use Rattle.crash_text.proofs.Safe.{full_rules}
 
--- ---- operations
-
-module _ (steps : List Step) (i : ℕ) (x : Step) (inside : i < length steps) (read : x ≡ get_or steps i x)
-    (are : All IsOperation (take i steps)) where
-  with_next : take (i + 1) steps ≡ take i steps ++ x ∷ []
-  with_next = take_more steps i x inside ∙ ap (λ (y : Step). take i steps ++ y ∷ []) (sym read)
-
-  -- one operation more
-  pub operation_more : IsOperation x → All IsOperation (take (i + 1) steps)
-  operation_more is = subst (λ (xs : List Step). All IsOperation xs) (sym with_next)
-      (All-append IsOperation (take i steps) (x ∷ []) are (All-cons IsOperation x [] is (All-nil IsOperation)))
-
-  -- the first step that is no operation
-  pub no_pool : (fault : RunFault) → ¬ (IsOperation x) → fault ≡ GroupFault x.line → IsNoPool steps fault
-  no_pool fault other told = record {
-    front = take i steps;
-    step = x;
-    rest = drop (i + 1) steps;
-    whole = sym (take-append-drop (i + 1) steps) ∙ ap (λ (xs : List Step). xs ++ drop (i + 1) steps) with_next
-        ∙ append_assoc (take i steps) (x ∷ []) (drop (i + 1) steps);
-    operations = are;
-    first = other;
-    told = told;
-  }
-
--- ---- the acts of steps
+-- ---- acts
 
 acts_of : (n : ℕ) (lines : List (List ℕ)) (steps : List Step) → AreSteps n lines steps
     → All (λ step. IsAct step.act) steps
@@ -53,3 +36,21 @@ pub are_acts : (bytes : List ℕ) (before steps : List Step) → IsScript bytes 
     → All (λ step. IsAct step.act) steps
 are_acts bytes before steps script =
     acts_of (length script.before + 2) script.after steps script.traced_steps
+
+-- under the full journal no workload of such a pool fails, so the number that a search reports is 0
+pub none_reported : (settings : Settings) (most : ℕ) (base : Disk) (lines : List Step) (found : Found) (number : ℕ)
+    → settings.module ≡ Full → settings.without.items ≡ [] → MakeNoPromise (asked_by settings lines) lines
+    → IsDisk base → IsSound base → HasZeroJournal base → All (λ step. IsAct step.act) lines
+    → AreFound (search_of settings most base lines) found
+    → number ≡ (if found.failing == 0 then 0 else 1) → number ≡ 0
+none_reported settings most base lines found number full none nothing disk sound zeros acts exactly is =
+    is ∙ ap (λ (n : ℕ). if n == 0 then 0 else 1) (none_failing s found exactly (nothing_fails s is_full
+    (makes_none_apart (asked_by settings lines) lines nothing) disk sound zeros
+    (All-filter (λ (step : Step). is_place step.act) (λ step. IsAct step.act) lines acts)
+    (All-filter (λ (step : Step). is_keep step.act) (λ step. IsAct step.act) lines acts)))
+  where
+    s : Search
+    s = search_of settings most base lines
+
+    is_full : IsFullJournal (search_of settings most base lines)
+    is_full = record { full = full; all = full_rules settings (ordering_rules settings) full none refl }

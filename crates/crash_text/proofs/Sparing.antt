@@ -1,7 +1,7 @@
 -- What is found of an ordering's rules makes it the report that is asked for.
 use Rattle.std.proofs.Common.{◌≡◌, ℕ, List, Option, length, map, All, refl, sym, subst, ap, ◌∙◌}
 use Rattle.std.specs.Int.{from_bool}
-use Rattle.std.specs.Prelude.{Some, None, is_some, option_map, option_to_list}
+use Rattle.std.specs.Prelude.{Some, None, is_some, option_map, option_to_list, if◌then◌else◌}
 use Rattle.std.proofs.lemmas.Simd.{map-map}
 use Rattle.patch_sets.specs.Sets.{AreAllInOrder}
 use Rattle.crash_model.specs.Checker.{Demands}
@@ -37,6 +37,7 @@ pub is_enough_report : {A : Type 0} (settings : Settings) (demands : Demands) (b
       patches = length t.patches;
       closed = total;
       explanation = when settings.explain (explanation_by base t);
+      promises = if settings.explain then demands.promises else None;
       enough = enough;
       needs = map told_group needs;
       first = option_map told_first first;
@@ -61,6 +62,7 @@ is_enough_report {A = A} settings demands base t last total enough groups needs 
         patches = length t.patches;
         closed = total;
         explanation = when settings.explain e;
+        promises = if settings.explain then demands.promises else None;
         enough = enough;
         needs = map told_group needs;
         first = option_map told_first first;

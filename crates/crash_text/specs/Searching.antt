@@ -8,29 +8,24 @@ use Rattle.crash_model.specs.declared.settings.Settings.{Settings}
 use Rattle.crash_model.specs.declared.steps.Step.{Step}
 use Rattle.question_model.specs.Lengths.{operations_of}
 use Rattle.question_model.specs.SearchReport.{IsSearchReport, IsToldKind, ToldKind, search_bytes}
-use Rattle.question_model.specs.Workloads.{Search, IsOperation}
+use Rattle.question_model.specs.Workloads.{Search, IsOfPool}
 use Rattle.question_model.specs.declared.found.Found.{Found}
 use Rattle.question_model.specs.declared.found.ShownKind.{ShownKind}
 use Rattle.question_model.specs.declared.length.WorkloadLength.{WorkloadLength}
 use Rattle.pool_judging.specs.Judging.{search_by}
+use Rattle.pool_judging.specs.Pools.{IsNoPool}
 use Rattle.pool_judging.specs.declared.judge.PoolJudge.{PoolJudge}
 use Rattle.question_reports.specs.SearchFindings.{told_kind}
 use Rattle.question_reports.specs.declared.search.findings.KindCrash.{KindCrash}
 
--- the steps are a pool of operations, and the text is the report on it
+-- the steps are a pool, and the text is the report on it
 abbrev pub IsSearchOf : Settings → WorkloadLength → Disk → List Step → List ℕ → ℕ → Type 0
 IsSearchOf settings longest base steps text number =
-    All IsOperation steps × IsSearchReport settings (operations_of longest) base steps text number
+    All IsOfPool steps × IsSearchReport settings (operations_of longest) base steps text number
 
--- the steps are no pool, and the fault has the line of the first that is no operation
-pub record IsNoPool (steps : List Step) (fault : RunFault) : Type 0 where
-  pub front : List Step
-  pub step : Step
-  pub rest : List Step
-  pub whole : steps ≡ front ++ step ∷ rest
-  pub operations : All IsOperation front
-  pub first : ¬ (IsOperation step)
-  pub told : fault ≡ GroupFault step.line
+-- the steps are no pool, and the fault has the line of the first step that no pool has
+abbrev pub IsPoolRefusal : List Step → RunFault → Type 0
+IsPoolRefusal steps fault = (line : ℕ) × IsNoPool steps line × (fault ≡ GroupFault line)
 
 -- the crashes of the kinds, in order, as the report has them
 pub record AreToldKinds {A : Type 0} (s : Search) (explain : Bool) (kinds : List ShownKind)

@@ -6,7 +6,7 @@ use Rattle.crash_model.specs.Disk.{Disk}
 use Rattle.crash_model.specs.declared.settings.Settings.{Settings}
 use Rattle.crash_model.specs.declared.steps.Step.{Step}
 use Rattle.question_model.specs.Lengths.{operations_of}
-use Rattle.question_model.specs.Workloads.{IsOperation}
+use Rattle.question_model.specs.Workloads.{IsOfPool}
 use Rattle.question_model.specs.declared.found.Found.{Found}
 use Rattle.question_model.specs.declared.length.WorkloadLength.{WorkloadLength}
 use Rattle.question_model.specs.EnoughFor.{IsMinimalInSearch, IsNeededInSearch}
@@ -14,10 +14,10 @@ use Rattle.question_model.specs.SearchRulesReport.{IsSearchRulesReport, IsToldNe
 use Rattle.pool_judging.specs.Judging.{search_by}
 use Rattle.pool_judging.specs.declared.judge.PoolJudge.{PoolJudge}
 
--- the steps are a pool of operations, and the text is the report on the rules that its workloads need
+-- the steps are a pool, and the text is the report on the rules that its workloads need
 abbrev pub IsRuleSearchOf : Settings → WorkloadLength → Disk → List Step → List ℕ → ℕ → Type 0
 IsRuleSearchOf settings longest base steps text number =
-    All IsOperation steps × IsSearchRulesReport settings (operations_of longest) base steps text number
+    All IsOfPool steps × IsSearchRulesReport settings (operations_of longest) base steps text number
 
 -- the text is the report on what a judge's search finds and the rules that its workloads need
 pub record IsRuleReportBy {A : Type 0} (settings : Settings) (judge : PoolJudge A) (found : Found)

@@ -1,11 +1,12 @@
 -- What the report of a run says.
-use Rattle.std.specs.Prelude.{◌≡◌, ℕ, List, length}
+use Rattle.std.specs.Prelude.{◌≡◌, ℕ, List, length, Option, None, if◌then◌else◌}
 use Rattle.report_model.specs.Report.{Detail}
 use Rattle.report_model.specs.Answer.{IsReport}
 use Rattle.crash_model.specs.Disk.{Disk}
 use Rattle.crash_model.specs.Reasons.{Explanation}
 use Rattle.crash_model.specs.Patches.{ExceedsLimit}
 use Rattle.crash_model.specs.Lists.{when}
+use Rattle.crash_model.specs.Promises.{Promise}
 use Rattle.report_model.specs.Needs.{IsWithout, RuleUsage, Unused, TooMany as PastLimit, Used}
 use Rattle.crash_model.specs.Trace.{Tracing}
 use Rattle.report_model.specs.Whole.{Body, Report, report}
@@ -31,12 +32,13 @@ IsReportOf f text =
     f.found.failing
 
 -- the report with this body as the definition sees it
-abbrev pub whole : Settings → Explanation → List Patch → ℕ → ℕ → Body → Report
-whole settings told patches total failing body = record {
+abbrev pub whole : Settings → Option (List Promise) → Explanation → List Patch → ℕ → ℕ → Body → Report
+whole settings promises told patches total failing body = record {
   patches = length patches;
   closed = total;
   failing = failing;
   explanation = when settings.explain told;
+  promises = if settings.explain then promises else None;
   body = body;
 }
 
@@ -44,7 +46,8 @@ whole settings told patches total failing body = record {
 abbrev pub Tells : {A : Type 0} → Settings → Detail → Disk → TracedPatches → ℕ → ℕ → code.Body A → List ℕ → Type 0
 Tells settings detail base t closed failing chosen text =
     (body : Body) × TellsBody detail base t.patches chosen body
-    × (text ≡ report settings (whole settings (explanation_by base t) t.patches closed failing body))
+    × (text ≡ report settings
+    (whole settings detail.demands.promises (explanation_by base t) t.patches closed failing body))
 
 -- what there is where the patches have other dependencies, as without a rule that applies to this many pairs
 abbrev pub IsUsageBy : Detail → ℕ → Disk → List Patch → List Patch → ℕ → RuleUsage → Type 0

@@ -1,6 +1,6 @@
 -- Traced scripts, and the reports on them.
 use Rattle.std.specs.Prelude.{◌≡◌, ℕ, List, Ok, Err}
-use Rattle.report_model.specs.Answer.{ordering_rules}
+use Rattle.report_model.specs.Answer.{HasBase, asked_by, ordering_rules}
 use Rattle.crash_model.specs.Checker.{Demands, AreDemands, IsFailingUnder}
 use Rattle.crash_model.specs.Disk.{Disk}
 use Rattle.crash_model.specs.Refusals.{run_of_trace}
@@ -9,9 +9,11 @@ use Rattle.crash_model.specs.declared.orderings.Ordering.{Ordering}
 use Rattle.crash_model.specs.declared.patches.Patch.{Patch}
 use Rattle.crash_model.specs.declared.refusals.RunFault.{RunFault}
 use Rattle.crash_model.specs.declared.refusals.TraceFault.{TraceFault}
+use Rattle.crash_model.specs.declared.settings.Asked.{Asked}
 use Rattle.crash_model.specs.declared.settings.Settings.{Settings}
 use Rattle.crash_model.specs.declared.steps.Step.{Step}
 use Rattle.traced_patches.specs.Traced.{TracedPatches}
+use Rattle.full_journal_laws.specs.Full.{MakeNoPromise}
 use Rattle.crash_text.specs.declared.traced_script.TracedScript.{TracedScript}
 
 -- the ordering that the settings ask for
@@ -20,11 +22,21 @@ pub record IsOrderingOf (settings : Settings) (ordering : Ordering) : Type 0 whe
   pub whole : ordering.whole_blocks ≡ settings.whole_blocks
   pub rules : ordering.rules.items ≡ ordering_rules settings
 
+-- what the settings ask of the checker, as the program has it
+abbrev pub asks_of : Settings → Asked
+asks_of settings = record {
+  strict = settings.strict;
+  atomic = settings.atomic;
+  durable = settings.durable;
+  counted = settings.counted;
+}
+
 -- traced patches, with the state in which tracing ended
 pub record IsTraceOf (settings : Settings) (base : Disk) (t : TracedPatches) (last : Tracing) : Type 0 where
   pub emitted : t.emitted ≡ last.emitted
   pub links : t.links ≡ last.links
   pub whole : t.whole ≡ last.whole
+  pub waits : t.waits ≡ last.waits
   pub rules : t.rules ≡ ordering_rules settings
   pub graph : IsGraphOf (ordering_rules settings) base last t.patches
 
@@ -35,7 +47,7 @@ pub record IsTraced {A : Type 0} (settings : Settings) (base : Disk) (steps : Li
   pub last : Tracing
   pub run : trace_from settings.module (trace_start settings.whole_blocks s.base.now) steps ≡ Ok last
   pub trace : IsTraceOf settings s.base.now s.traced last
-  pub demanded : AreDemands settings.strict settings.atomic s.base.now steps s.demands
+  pub demanded : AreDemands (asked_by settings steps) s.base.now steps s.demands
 
 -- a step is refused
 abbrev pub IsTraceRefusal : Settings → Disk → List Step → RunFault → Type 0
@@ -46,6 +58,12 @@ IsTraceRefusal settings base steps fault =
 -- no set that a crash can leave fails
 abbrev pub NoneFails : {A : Type 0} → TracedScript A → Type 0
 NoneFails s = (set : ℕ) → ¬ (IsFailingUnder s.demands s.base.now s.traced.patches set)
+
+-- no promise of the steps behind the start line counts
+abbrev pub PromisesNothing : List ℕ → Settings → Type 0
+PromisesNothing bytes settings =
+    (base : Disk) (steps : List Step) → HasBase bytes settings base steps
+    → MakeNoPromise (asked_by settings steps) steps
 
 -- the text and the number are those of such a report on a traced script, whatever state traced its patches
 abbrev pub IsReportOn : {A : Type 0} → (Demands → Disk → Tracing → List Patch → List ℕ → ℕ → Type 0) → Settings

@@ -30,7 +30,7 @@ where
         outcome.number) }
     ensures safe { NoneFails script.now → IfOk result (λ outcome. outcome.number ≡ 0) }
 {
-    host.notes.note_patches(&script.traced);
+    host.notes.note_script(&script.traced, &script.demands);
     let demands = &script.demands;
     let decider = Decider {
         alloc: host.alloc,

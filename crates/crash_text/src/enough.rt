@@ -27,7 +27,7 @@ pub(crate) fn enough<R, A: Allocator + Copy>(
         outcome.number) }
     ensures safe { NoneFails script.now → IfOk result (λ outcome. outcome.number ≡ 0) }
 {
-    host.notes.note_patches(&script.traced);
+    host.notes.note_script(&script.traced, &script.demands);
     let oracle = RuleOracle {
         alloc: host.alloc,
         base: script.base,
@@ -47,6 +47,7 @@ pub(crate) fn enough<R, A: Allocator + Copy>(
         host.notes.shown.set(Some(first.decided));
     }
     let findings = EnoughFindings {
+        demands: &script.demands,
         base: script.base,
         traced: &script.traced,
         settings,

@@ -4,6 +4,8 @@ use arrayvec::ArrayVec;
 use crash_model::patches::MAX_PATCHES;
 use crash_model::refusals::RunFault;
 use crash_model::rules::Part;
+use crash_model::showing::Shown;
+use disk_image::{Demands, Promise};
 use fault_deciding::closed_number;
 use patch_sets::order::is_before;
 use question_model::DecidedFault;
@@ -14,6 +16,12 @@ use traced_patches::Traced;
 /// What each patch of a script is, by its id: its part, and the number of its operation, from 1.
 pub type PatchParts = ArrayVec<(Part, usize), MAX_PATCHES>;
 
+/// How many lines are noted of each kind.
+pub const MOST_LINES: usize = 8;
+
+/// Numbers of lines of a script, in their order.
+pub type LineNumbers = ArrayVec<usize, MOST_LINES>;
+
 /// What a run notes beside its report, for hints. No answer depends on it.
 #[derive(Drop)]
 pub struct Notes {
@@ -21,6 +29,10 @@ pub struct Notes {
     is_wanted: bool,
     /// The parts of the patches, if the script was traced.
     pub parts: RefCell<PatchParts>,
+    /// The first lines that wait and force nothing.
+    pub idle: RefCell<LineNumbers>,
+    /// The first lines that keep a path which is never there.
+    pub absent: RefCell<LineNumbers>,
     /// How many closed sets the script has, if there are more than the limit.
     pub closed: Cell<Option<u128>>,
     /// A fault with the crash to point out: of a decision the smallest crash, and if no rules are enough the crash that
@@ -36,20 +48,57 @@ impl Notes {
         Notes {
             is_wanted,
             parts: RefCell::new(ArrayVec::new()),
+            idle: RefCell::new(ArrayVec::new()),
+            absent: RefCell::new(ArrayVec::new()),
             closed: Cell::new(None),
             shown: Cell::new(None),
             left_out: Cell::new(0),
         }
     }
 
+    /// Notes a script's patches, its lines that wait and its promises.
+    pub(crate) fn note_script<A: Allocator + Copy>(
+        &self,
+        traced: &Traced<'_, A>,
+        demands: &Demands<A>,
+    ) {
+        self.note_patches(traced);
+        self.note_waits(traced);
+        self.note_promises(demands);
+    }
+
     /// Notes the patches of a script.
-    pub(crate) fn note_patches<A: Allocator + Copy>(&self, traced: &Traced<'_, A>) {
+    fn note_patches<A: Allocator + Copy>(&self, traced: &Traced<'_, A>) {
         let Ok(mut parts) = self.parts.try_borrow_mut() else {
             return;
         };
         for label in traced.labels() {
             if !parts.is_full() {
                 parts.push((label.part, label.turn));
+            }
+        }
+    }
+
+    /// Notes the lines that wait and force nothing.
+    fn note_waits<A: Allocator + Copy>(&self, traced: &Traced<'_, A>) {
+        let Ok(mut idle) = self.idle.try_borrow_mut() else {
+            return;
+        };
+        for wait in traced.waits() {
+            if wait.ids == 0 && !idle.is_full() {
+                idle.push(wait.step.line);
+            }
+        }
+    }
+
+    /// Notes the lines that keep a path which is never there.
+    fn note_promises<A: Allocator + Copy>(&self, demands: &Demands<A>) {
+        let Ok(mut absent) = self.absent.try_borrow_mut() else {
+            return;
+        };
+        for promise in demands.promises() {
+            if promise.keeps && is_for_nothing(promise) && !absent.is_full() {
+                absent.push(promise.line);
             }
         }
     }
@@ -80,4 +129,16 @@ impl Notes {
             }
         }
     }
+}
+
+/// Whether a path of the promise is not there in all that is allowed.
+fn is_for_nothing<A: Allocator + Copy>(promise: &Promise<A>) -> bool {
+    for place in 0..promise.paths.len() {
+        if promise.allowed.iter().all(|allowed| allowed.shows.as_slice().get(place)
+            == Some(&Shown::Nothing))
+        {
+            return true;
+        }
+    }
+    false
 }

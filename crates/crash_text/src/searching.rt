@@ -5,21 +5,24 @@ ghost use Rattle.std.specs.Prelude.{OnOk, ◌==◌, if◌then◌else◌};
 ghost use Rattle.crash_model.specs.Script.{IsAct};
 ghost use Rattle.crash_model.specs.Sound.{IsSound, HasZeroJournal};
 ghost use Rattle.crash_model.specs.declared.modules.Module.TheVariants.{Full};
+ghost use Rattle.full_journal_laws.specs.Full.{MakeNoPromise};
 ghost use Rattle.question_model.specs.Found.{AreFound, IsShown};
-ghost use Rattle.question_model.specs.Workloads.{IsOperation};
 ghost use Rattle.pool_judging.specs.Judging.{search_by};
-ghost use Rattle.crash_text.specs.Searching.{IsNoPool, IsSearchOf, IsReportBy, AreToldKinds};
+ghost use Rattle.pool_judging.specs.Pools.{IsPoolOf};
+ghost use Rattle.report_model.specs.Answer.{asked_by};
+ghost use Rattle.crash_text.specs.Searching.{IsPoolRefusal, IsSearchOf, IsReportBy, AreToldKinds};
 
 use crate::host::Host;
 use crate::run::Outcome;
+use crate::traced_script::asked_of;
 use crash_model::refusals::RunFault;
 use crash_model::settings::Settings;
-use crash_model::steps::{Act, Step};
+use crash_model::steps::Step;
 use disk_image::Image;
 use explorers::Gate;
 use failing_sets::GateWatch;
 use first_crashes::kind_section;
-use pool_judging::PoolJudge;
+use pool_judging::{PoolJudge, PoolSteps, pool_of};
 use question_model::{Found, Request, ShownKind, WorkloadLength};
 use question_reports::{KindCrash, SearchFindings, search_report};
 use set_sweep::Workers;
@@ -36,7 +39,7 @@ pub(crate) struct Pool<'script, A: Allocator + Copy> {
     pub longest: WorkloadLength,
 }
 
-/// Judges each workload of the pool, and reports. The first step that is no operation is refused.
+/// Judges each workload of the pool, and reports. The first step that no pool has is refused.
 pub(crate) fn searched<R, A, G>(
     host: &Host<'_, R, A>,
     request: &Request,
@@ -53,22 +56,24 @@ where
     requires sound { IsSound pool.now.base.now × HasZeroJournal pool.now.base.now }
     ensures reported { IfOk result (λ outcome. IsSearchOf request.now.settings pool.now.longest pool.now.base.now
         pool.now.steps.now (string_bytes outcome.text) outcome.number) }
-    ensures refused { IfErr result (λ fault. (fault ≢ RunFault.OutOfMemory) → IsNoPool pool.now.steps.now fault) }
+    ensures refused { IfErr result (λ fault. (fault ≢ RunFault.OutOfMemory)
+        → IsPoolRefusal pool.now.steps.now fault) }
     ensures full { request.now.settings.module ≡ Full → request.now.settings.without.items ≡ []
+        → MakeNoPromise (asked_by request.now.settings pool.now.steps.now) pool.now.steps.now
         → IfOk result (λ outcome. outcome.number ≡ 0) }
 {
-    check_operations(pool.steps)?;
+    let steps = steps_of(host.alloc, pool.steps)?;
     let ordering = request.settings.ordering();
     // For the proof: what holds of every image.
     let _blocks = pool.base.blocks();
     let judge = PoolJudge {
         alloc: host.alloc,
         base: pool.base,
-        pool: pool.steps,
+        pool: &steps.places,
+        keeps: &steps.keeps,
         longest: pool.longest,
         ordering: &ordering,
-        strict: request.settings.strict,
-        atomic: request.settings.atomic,
+        asked: asked_of(&request.settings),
     };
     let found = search_pool(host.rt, request.workers, gate, &judge)?;
     let outcome = report_on(host, &request.settings, &judge, &found)?;
@@ -112,7 +117,6 @@ fn report_on<R, A: Allocator + Copy>(
     judge: &PoolJudge<'_, A>,
     found: &Found,
 ) -> Result<Outcome<A>, AllocError>
-    requires operations { All IsOperation judge.now.pool.now }
     requires found { AreFound (search_by judge.now) found.now }
     ensures report { IfOk result (λ outcome. IsReportBy settings.now judge.now found.now (string_bytes outcome.text)) }
     ensures number { IfOk result (λ outcome. outcome.number ≡ (if found.now.failing == 0 then 0 else 1)) }
@@ -152,26 +156,16 @@ fn kind_crashes<'found, A: Allocator + Copy>(
     Ok(crashes)
 }
 
-/// Refuses the first step that is no operation.
-pub(crate) fn check_operations(steps: &[Step]) -> Result<(), RunFault>
-    ensures ok { OnOk result (All IsOperation steps.now) }
-    ensures refused { IfErr result (IsNoPool steps.now) }
+/// The steps as a pool. The first step that no pool has is refused.
+pub(crate) fn steps_of<A: Allocator + Copy>(
+    alloc: A,
+    steps: &[Step],
+) -> Result<PoolSteps<A>, RunFault>
+    ensures pool { IfOk result (IsPoolOf steps.now) }
+    ensures refused { IfErr result (λ fault. (fault ≢ RunFault.OutOfMemory) → IsPoolRefusal steps.now fault) }
 {
-    for step in steps {
-        if !is_operation(step) {
-            return Err(RunFault::GroupFault { line: step.line });
-        }
-    }
-    Ok(())
-}
-
-/// Whether the step is an operation.
-fn is_operation(step: &Step) -> bool
-    ensures yes { result ≡ true → IsOperation step.now }
-    ensures no { result ≡ false → ¬ (IsOperation step.now) }
-{
-    match &step.act {
-        Act::Do(_) => true,
-        Act::Group(_) | Act::End | Act::Depend(_, _) => false,
+    match pool_of(alloc, steps)? {
+        Ok(pool) => Ok(pool),
+        Err(line) => Err(RunFault::GroupFault { line }),
     }
 }

@@ -8,17 +8,19 @@ ghost use Rattle.crash_model.specs.Sound.{IsSound, HasZeroJournal};
 ghost use Rattle.crash_model.specs.declared.modules.Module.TheVariants.{Full};
 ghost use Rattle.question_model.specs.Found.{AreFound};
 ghost use Rattle.question_model.specs.Sequences.{AreAllSequences};
-ghost use Rattle.question_model.specs.Workloads.{IsOperation};
 ghost use Rattle.question_model.specs.EnoughFor.{IsPassing, IsMinimalInSearch, IsNeededInSearch};
 ghost use Rattle.workload_search.specs.Passing.{AreAllPassing};
 ghost use Rattle.workload_search.specs.Tries.{items_of};
 ghost use Rattle.pool_judging.specs.Judging.{search_by};
-ghost use Rattle.crash_text.specs.Searching.{IsNoPool};
+ghost use Rattle.crash_text.specs.Searching.{IsPoolRefusal};
+ghost use Rattle.full_journal_laws.specs.Full.{MakeNoPromise};
+ghost use Rattle.report_model.specs.Answer.{asked_by};
 ghost use Rattle.crash_text.specs.SearchingRules.{IsRuleSearchOf, IsRuleReportBy};
 
 use crate::host::Host;
 use crate::run::Outcome;
-use crate::searching::{Pool, check_operations};
+use crate::searching::{Pool, steps_of};
+use crate::traced_script::asked_of;
 use crash_model::refusals::RunFault;
 use enough_rules::EnoughSets;
 use explorers::Gate;
@@ -51,22 +53,24 @@ where
     requires sound { IsSound pool.now.base.now × HasZeroJournal pool.now.base.now }
     ensures reported { IfOk result (λ outcome. IsRuleSearchOf request.now.settings pool.now.longest pool.now.base.now
         pool.now.steps.now (string_bytes outcome.text) outcome.number) }
-    ensures refused { IfErr result (λ fault. (fault ≢ RunFault.OutOfMemory) → IsNoPool pool.now.steps.now fault) }
+    ensures refused { IfErr result (λ fault. (fault ≢ RunFault.OutOfMemory)
+        → IsPoolRefusal pool.now.steps.now fault) }
     ensures full { request.now.settings.module ≡ Full → request.now.settings.without.items ≡ []
+        → MakeNoPromise (asked_by request.now.settings pool.now.steps.now) pool.now.steps.now
         → IfOk result (λ outcome. outcome.number ≡ 0) }
 {
-    check_operations(pool.steps)?;
+    let steps = steps_of(host.alloc, pool.steps)?;
     let ordering = request.settings.ordering();
     // For the proof: what holds of every image.
     let _blocks = pool.base.blocks();
     let judge = PoolJudge {
         alloc: host.alloc,
         base: pool.base,
-        pool: pool.steps,
+        pool: &steps.places,
+        keeps: &steps.keeps,
         longest: pool.longest,
         ordering: &ordering,
-        strict: request.settings.strict,
-        atomic: request.settings.atomic,
+        asked: asked_of(&request.settings),
     };
     let searched = search_pool_passing(host.rt, request.workers, gate, &judge)?;
     host.notes.left_out.set(searched.found.failing);
@@ -118,7 +122,6 @@ where
     R: Threads + Sync,
     A: Allocator + Copy + Send + Sync,
     requires workers { (1 ≤ request.now.workers) × (request.now.workers ≤ 16) }
-    requires operations { All IsOperation judge.now.pool.now }
     requires found { AreFound (search_by judge.now) searched.now.found }
     requires passing { AreAllPassing (search_by judge.now) (map items_of searched.now.passing.items) }
     ensures report { IfOk result (λ outcome.

@@ -3,15 +3,17 @@
 ghost use Rattle.std.specs.Prelude.{◌≡◌, ◌≢◌, [], IfOk, IfErr};
 ghost use Rattle.crash_model.specs.Sound.{IsSound, HasZeroJournal};
 ghost use Rattle.crash_model.specs.declared.modules.Module.TheVariants.{Full};
+ghost use Rattle.full_journal_laws.specs.Full.{MakeNoPromise};
+ghost use Rattle.report_model.specs.Answer.{asked_by};
 ghost use Rattle.report_sections.specs.Bodies.{AreOnBase};
-ghost use Rattle.crash_text.specs.Traced.{IsOrderingOf, IsTraced, IsTraceRefusal, NoneFails};
+ghost use Rattle.crash_text.specs.Traced.{asks_of, IsOrderingOf, IsTraced, IsTraceRefusal, NoneFails};
 
 use crash_model::orderings::Ordering;
 use crash_model::refusals::RunFault;
-use crash_model::settings::Settings;
+use crash_model::settings::{Asked, Settings};
 use crash_model::steps::Step;
 use disk_image::{Demands, Image};
-use inode_fs::demands;
+use kept_promises::demands_under;
 use recoverable_traces::trace;
 use std::alloc::Allocator;
 use traced_patches::Traced;
@@ -26,7 +28,7 @@ pub(crate) struct TracedScript<'steps, A: Allocator + Copy> {
 
 /// Traces the steps over the base, under the ordering that the settings ask for.
 ///
-/// Under the full journal with no rule taken out no set that a crash can leave fails.
+/// Under the full journal with no rule taken out no set that a crash can leave fails, if no promise counts.
 pub(crate) fn trace_script<'steps, A: Allocator + Copy>(
     alloc: A,
     base: &'steps Image<A>,
@@ -40,15 +42,28 @@ pub(crate) fn trace_script<'steps, A: Allocator + Copy>(
     ensures on_base { IfOk result (λ script. AreOnBase script.base.now script.traced.patches) }
     ensures refused { IfErr result (λ fault. (fault ≢ RunFault.OutOfMemory)
         → IsTraceRefusal settings.now base.now steps.now fault) }
-    ensures full { settings.now.module ≡ Full → settings.now.without.items ≡ [] → IfOk result NoneFails }
+    ensures full { settings.now.module ≡ Full → settings.now.without.items ≡ []
+        → MakeNoPromise (asked_by settings.now steps.now) steps.now → IfOk result NoneFails }
 {
     // For the proof: what holds of every image.
     let _blocks = base.blocks();
     let traced = trace(alloc, base, steps, ordering)?;
-    let demands = demands(alloc, base, steps, settings.strict, settings.atomic)?;
+    let demands = demands_under(alloc, base, steps, ordering, asked_of(settings))?;
     Ok(TracedScript {
         base,
         traced,
         demands,
     })
+}
+
+/// What the settings ask of the checker.
+pub(crate) fn asked_of(settings: &Settings) -> Asked
+    ensures { result ≡ asks_of settings.now }
+{
+    Asked {
+        strict: settings.strict,
+        atomic: settings.atomic,
+        durable: settings.durable,
+        counted: settings.counted,
+    }
 }

@@ -43,7 +43,7 @@ where
     ensures too_many { IfErr result (SaysTooMany script.now.traced.patches visit.limit) }
     ensures safe { NoneFails script.now → IfOk result (λ outcome. outcome.number ≡ 0) }
 {
-    host.notes.note_patches(&script.traced);
+    host.notes.note_script(&script.traced, &script.demands);
     let finder = Finder {
         rt: host.rt,
         alloc: host.alloc,

@@ -90,7 +90,11 @@ fn give_hints(
     notes: &Notes,
     err: &mut Stderr,
 ) {
-    let Ok(parts) = notes.parts.try_borrow() else {
+    let (Ok(parts), Ok(idle), Ok(absent)) = (
+        notes.parts.try_borrow(),
+        notes.idle.try_borrow(),
+        notes.absent.try_borrow(),
+    ) else {
         return;
     };
     let answer = Answer {
@@ -100,6 +104,8 @@ fn give_hints(
         refusal: answered.ended.refusal,
         reason: answered.reason.as_ref(),
         parts: parts.as_slice(),
+        idle: idle.as_slice(),
+        absent: absent.as_slice(),
         closed: notes.closed.get(),
         shown: notes.shown.get(),
         left_out: notes.left_out.get(),

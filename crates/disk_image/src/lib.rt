@@ -9,9 +9,11 @@ mod format;
 mod image;
 mod inodes;
 mod layout;
+mod promises;
 
 pub use demands::Demands;
 pub use format::ImageFault;
 pub use image::Image;
 pub use inodes::with_inode;
 pub use layout::{entry_offset, inode_place};
+pub use promises::Promise;

@@ -29,8 +29,8 @@ module _ (demands : Demands) (base : Disk) (t : TracedPatches) where
         earlier = is.earlier;
         exactly = λ q p later before less at_q at_p.
             subst (λ (w : Bool). Has (slice_index (deps_of patches) q) p
-            ↔ IsTrue (depends rules w other.links later before)) whole
-            (subst (λ ls. Has (slice_index (deps_of patches) q) p ↔ IsTrue (depends rules s.whole ls later before))
+            ↔ IsTrue (depends rules w other.links later p before)) whole
+            (subst (λ ls. Has (slice_index (deps_of patches) q) p ↔ IsTrue (depends rules s.whole ls later p before))
             links
             (is.exactly q p later before less (ap (λ (es : List Emitted). slice_get es q) emitted ∙ at_q)
             (ap (λ (es : List Emitted). slice_get es p) emitted ∙ at_p)));

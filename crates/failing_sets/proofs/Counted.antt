@@ -15,9 +15,9 @@ use Rattle.failing_sets.specs.Prevented.{IsEarlierOf, JoinsCounts}
 use Rattle.failing_sets.proofs.Summed.{Either, order_of_sets, same_numbers, both_numbers}
 use Rattle.failing_sets.proofs.Tallied.{left_apart, right_apart, parts_apart, last_is, one_word, few_fail}
 
--- the image that a set leaves is clean after replay
+-- the set is clean after replay
 abbrev pub IsWell : Compared → ℕ → Type 0
-IsWell v set = IsCleanUnder v.demands (image_after_replay (image_of v.base v.patches set))
+IsWell v set = IsCleanUnder v.demands set (image_after_replay (image_of v.base v.patches set))
 
 module _ (fails allowed : ℕ → Type 0) where
   abbrev Among : List ℕ → ℕ → Type 0

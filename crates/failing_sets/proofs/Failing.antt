@@ -35,17 +35,17 @@ still_sized base patches set built after made is = ap (λ (d : Disk). d.blocks) 
 
 pub found_faults : (demands : Demands) (base : Disk) (patches : List Patch) (set : ℕ) (built after : Disk)
     (found : List Fault) → built ≡ image_of base patches set → after ≡ image_after_replay built
-    → found ≡ faults_under demands after → found ≡ faults_after demands base patches set
+    → found ≡ faults_under demands set after → found ≡ faults_after demands base patches set
 found_faults demands base patches set built after found made is listed = listed
-    ∙ ap (faults_under demands) (is ∙ ap image_after_replay made)
+    ∙ ap (faults_under demands set) (is ∙ ap image_after_replay made)
 
 -- the same of an image that was moved to the set, by what is demanded of it
 pub moved_faults : (told demands : Demands) (base : Disk) (patches : List Patch) (before after : Applied) (set : ℕ)
     (image : Disk) → told ≡ demands → (before.base ≡ base) × (before.patches ≡ patches)
     → after ≡ record before { set = set } → image ≡ image_after_replay (image_of after.base after.patches after.set)
-    → faults_under told image ≡ faults_after demands base patches set
+    → faults_under told set image ≡ faults_after demands base patches set
 moved_faults told demands base patches before after set image same own moved is =
-    ap (λ (k : Demands). faults_under k image) same ∙ ap (faults_under demands)
+    ap (λ (k : Demands). faults_under k set image) same ∙ ap (faults_under demands set)
     (is ∙ (ap (λ (a : Applied). image_after_replay (image_of a.base a.patches a.set)) moved
     ∙ (ap (λ (d : Disk). image_after_replay (image_of d before.patches set)) own.0
     ∙ ap (λ (ps : List Patch). image_after_replay (image_of base ps set)) own.1)))

@@ -11,16 +11,16 @@ use Rattle.crash_model.specs.Checker.{Demands, IsCleanUnder}
 use Rattle.crash_model.specs.declared.patches.Patch.{Patch}
 use Rattle.failing_sets.specs.Summed.{IsEarlier}
 
--- a base and patches over it, what is demanded of images, and the patches of another graph
+-- a base and patches over it, what is demanded of sets, and the patches of another graph
 pub record Compared : Type 0 where
   pub base : Disk
   pub patches : List Patch
   pub demands : Demands
   pub others : List Patch
 
--- the image that a set leaves is not clean after replay
+-- the set is not clean after replay
 abbrev pub IsBad : Compared → ℕ → Type 0
-IsBad v set = ¬ (IsCleanUnder v.demands (image_after_replay (image_of v.base v.patches set)))
+IsBad v set = ¬ (IsCleanUnder v.demands set (image_after_replay (image_of v.base v.patches set)))
 
 -- a crash can leave the set under the other graph
 abbrev pub IsAllowed : Compared → ℕ → Type 0

@@ -37,7 +37,7 @@ IsRetained by demands base patches sets (Faults rows) =
     (by ≡ ByFault) × AreRows (HasFault demands base patches) rows.items
 IsRetained by demands base patches sets Number = by ≡ ByRule
 
--- what is found of the sets that a crash can leave, by what is demanded of their images
+-- what is found of the sets that a crash can leave, by what is demanded of them
 pub record AreFound {A : Type 0} (visit : Visit) (demands : Demands) (base : Disk) (patches : List Patch)
     (found : Found A)
     : Type 0 where

@@ -70,6 +70,6 @@ pub record AddsFaults (old : List FaultRow) (set : ℕ) (faults : List Fault) (n
 abbrev pub HasAmong : (ℕ → List Fault) → List ℕ → Fault → ℕ → Type 0
 HasAmong faults_of sets fault set = Contains sets set × Contains (faults_of set) fault
 
--- the faults that the image of a set has after replay, with what is demanded of it
+-- the faults of a set, whose image is that after replay, with what is demanded of it
 abbrev pub faults_after : Demands → Disk → List Patch → ℕ → List Fault
-faults_after demands base patches set = faults_under demands (image_after_replay (image_of base patches set))
+faults_after demands base patches set = faults_under demands set (image_after_replay (image_of base patches set))

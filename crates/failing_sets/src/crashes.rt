@@ -9,7 +9,7 @@ use disk_image::{Demands, Image};
 use patch_graph::Graph;
 use std::alloc::Allocator;
 
-/// A graph of patches over a base, of which a crash can leave some, and what is demanded of the images that it leaves.
+/// A graph of patches over a base, of which a crash can leave some, and what is demanded of the sets that it leaves.
 /// The patches change blocks of the base, and their undo data are the bytes that they replace there.
 #[derive(Drop)]
 pub struct Crashes<'a, A: Allocator + Copy> {

@@ -18,9 +18,8 @@ use std::alloc::{AllocError, Allocator};
 /// Each fault that a failing set of the graph has, in the order of faults: how many failing sets have it, and which of
 /// them is the first in canonical order.
 ///
-/// `sets` are the sets whose images fail by what is demanded of them; the patches change blocks of the base. Besides
-/// the rows it takes memory for one image and for one list of faults, which serves all sets. It fails only when out of
-/// memory.
+/// `sets` are the sets that fail by what is demanded of them; the patches change blocks of the base. Besides the rows it
+/// takes memory for one image and for one list of faults, which serves all sets. It fails only when out of memory.
 pub fn fault_rows<A: Allocator + Copy>(
     alloc: A,
     base: &Image<A>,
@@ -38,7 +37,7 @@ pub fn fault_rows<A: Allocator + Copy>(
     for set in sets {
         rebuild(&mut image, base, graph, *set);
         replay(&mut image);
-        list_faults_under(&mut found, &image, demands)?;
+        list_faults_under(&mut found, &image, *set, demands)?;
         summary.add(*set, &found)?;
     }
     Ok(summary.into_rows())

@@ -82,7 +82,7 @@ pub struct FaultScratch<'a, A: Allocator + Copy> {
     pub found: Vec<Fault, A>,
 }
 
-/// Tallies the faults of the sets of a graph that a crash can leave on a base, with what is demanded of their images.
+/// Tallies the faults of the sets of a graph that a crash can leave on a base, with what is demanded of them.
 /// No list of the sets is kept.
 ///
 /// Contracts see the base, the patches and the demands.
@@ -105,7 +105,7 @@ impl<'a, A: Allocator + Copy> Model for FaultVisitor<'a, A> {
 }
 
 impl<'a, A: Allocator + Copy> FaultVisitor<'a, A> {
-    /// Tallies the faults of sets of a graph over a base, with what is demanded of their images.
+    /// Tallies the faults of sets of a graph over a base, with what is demanded of them.
     ///
     /// The patches change blocks of the base, and their undo data are the bytes that they replace there.
     pub fn new(
@@ -169,10 +169,15 @@ impl<'a, A: Allocator + Copy> Visitor for FaultVisitor<'a, A> {
         set: u128,
     ) -> Result<(), AllocError> {
         scratch.images.move_to(set);
-        if is_clean_under(scratch.images.image(), self.demands) {
+        if is_clean_under(scratch.images.image(), set, self.demands) {
             return Ok(());
         }
-        list_faults_under(&mut scratch.found, scratch.images.image(), self.demands)?;
+        list_faults_under(
+            &mut scratch.found,
+            scratch.images.image(),
+            set,
+            self.demands,
+        )?;
         tally.failing = tally.failing.wrapping_add(1);
         tally.summary.add(set, &scratch.found)?;
         Ok(())

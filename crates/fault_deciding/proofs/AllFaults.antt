@@ -1,22 +1,26 @@
 -- The lists of the kinds hold all faults.
 use Rattle.std.proofs.Common.{◌≡◌, ℕ, ◌<◌, ◌≤◌, List, length, Bool, true, false, ◌&&◌, not, Option, Some, None}
-use Rattle.std.proofs.Common.{arith, tests, sym, ap, subst, ◌∙◌}
+use Rattle.std.proofs.Common.{arith, tests, refl, sym, ap, subst, ◌∙◌, ◌⊎◌, inl, inr, ◌||◌, [], ◌∷◌}
 use Rattle.std.specs.Prelude.{◌==◌, nat_lt, slice_index}
 use Rattle.std.specs.List.{Contains}
+use Rattle.std.proofs.lemmas.List.Elements.{Contains-append_cases, All-head, All-tail}
 use Rattle.patch_sets.specs.Sets.{has}
 use Rattle.patch_sets.proofs.Ids.{eq_from_true, from_has}
 use Rattle.crash_model.specs.Disk.{Disk}
 use Rattle.crash_model.specs.Layout.{target_of, links_of, pointer_of, is_data, is_live}
 use Rattle.crash_model.specs.Faults.{entries_to}
-use Rattle.crash_model.specs.Checker.{Demands, faults_under}
+use Rattle.crash_model.specs.Checker.{Demands, promised, all_faults, faults_under, counted_among}
+use Rattle.crash_model.specs.Promises.{Promise, broken_lines, breaks_line, is_broken}
 use Rattle.crash_model.specs.Faults.{is_dangling, has_low_links}
 use Rattle.crash_model.specs.declared.fault.Fault.{Fault}
 use Rattle.crash_model.specs.declared.fault.Fault.TheVariants.{Dangling, Twice, Unwritten, LowLinks, MarkedFree, Wild}
-use Rattle.crash_model.specs.declared.fault.Fault.TheVariants.{Lost, NoBlock, HalfDone}
+use Rattle.crash_model.specs.declared.fault.Fault.TheVariants.{Lost, NoBlock, HalfDone, BrokenPromise}
 use Rattle.known_bytes.specs.Texts.{lost_there, bare_there, half_done_there, has_fault}
-use Rattle.known_bytes.proofs.ToldFaults.{HasSmallTargets, all_there_of, twice_data}
+use Rattle.known_bytes.specs.SetFaults.{set_has_fault}
+use Rattle.known_bytes.proofs.ToldFaults.{HasSmallTargets, disk_faults, disk_there, twice_data}
+use Rattle.known_bytes.proofs.ToldSets.{all_there_of, from_broken, in_counted, from_counted}
 use Rattle.fault_deciding.specs.Listed.{IsWithin, HasDangling, AreMost, HasFaultsOf, HasSlot, HasTwice, HasLow}
-use Rattle.fault_deciding.specs.Listed.{HasStrictUnder, HasHalfDone}
+use Rattle.fault_deciding.specs.Listed.{HasStrictUnder, HasHalfDone, HasPromised}
 use Rattle.fault_deciding.proofs.Pushed.{then_within, dangling_more, twice_more, slots_more, low_more}
 use Rattle.fault_deciding.proofs.Tests.{below_is, left_of, right_of, not_of, some_of}
 
@@ -31,6 +35,7 @@ pub record IsListed (demands : Demands) (faults : List Fault) (named : List ℕ)
   pub low : (inode : ℕ) → inode < 16 → HasLow faults inode (slice_index named inode) d
   pub strict : HasStrictUnder demands.kept faults
   pub half_done : HasHalfDone demands.disks faults
+  pub promises : HasPromised (promised demands.promises) faults
 
 -- what a list has of the two faults of a strict checker a longer one has
 strict_more : (kept : Option ℕ) (g h : List Fault) → IsWithin g h → HasStrictUnder kept g → HasStrictUnder kept h
@@ -40,37 +45,47 @@ strict_more (Some kept) g h within strict = λ inode few. record {
   bare = within (NoBlock inode) (strict inode few).bare;
 }
 
+-- what a list has of whole operations a longer one has
+half_done_more : (disks : Option (List Disk)) (h j : List Fault) → IsWithin h j → HasHalfDone disks h
+    → HasHalfDone disks j
+half_done_more None h j within half_done = tt
+half_done_more (Some disks) h j within half_done = within HalfDone half_done
+
 -- lists, each within the next, that have the faults of a kind more
-pub listed_by_parts : (demands : Demands) (most : List ℕ) (d : Disk) (a b c e g h : List Fault)
+pub listed_by_parts : (demands : Demands) (most : List ℕ) (d : Disk) (a b c e g h j : List Fault)
     → ((dir k : ℕ) → dir < 16 → k < 10 → HasDangling a dir k d) → AreMost most d
     → IsWithin a b → HasTwice b d
     → IsWithin b c → ((inode slot : ℕ) → inode < 16 → slot < 4 → HasFaultsOf c inode slot d)
     → IsWithin c e → ((inode : ℕ) → inode < 16 → HasLow e inode (slice_index most inode) d)
     → IsWithin e g → HasStrictUnder demands.kept g
     → IsWithin g h → HasHalfDone demands.disks h
-    → IsListed demands h most d
-listed_by_parts demands most d a b c e g h dangling count ab twice bc slots ce low eg strict gh half_done =
-    let eh : IsWithin e h = then_within e g h gh eg in
-    let ch : IsWithin c h = then_within c e h eh ce in
-    let bh : IsWithin b h = then_within b c h ch bc in
-    let ah : IsWithin a h = then_within a b h bh ab in
+    → IsWithin h j → HasPromised (promised demands.promises) j
+    → IsListed demands j most d
+listed_by_parts demands most d a b c e g h j dangling count ab twice bc slots ce low eg strict gh half_done hj promises
+    =
+    let gj : IsWithin g j = then_within g h j hj gh in
+    let ej : IsWithin e j = then_within e g j gj eg in
+    let cj : IsWithin c j = then_within c e j ej ce in
+    let bj : IsWithin b j = then_within b c j cj bc in
+    let aj : IsWithin a j = then_within a b j bj ab in
     record {
-      dangling = λ dir k few less. dangling_more a h ah dir k d (dangling dir k few less);
+      dangling = λ dir k few less. dangling_more a j aj dir k d (dangling dir k few less);
       most = count;
-      twice = twice_more b h bh d twice;
-      slots = λ inode slot few less. slots_more c h ch inode slot d (slots inode slot few less);
-      low = λ inode few. low_more e h eh inode (slice_index most inode) d (low inode few);
-      strict = strict_more demands.kept g h gh strict;
-      half_done = half_done;
+      twice = twice_more b j bj d twice;
+      slots = λ inode slot few less. slots_more c j cj inode slot d (slots inode slot few less);
+      low = λ inode few. low_more e j ej inode (slice_index most inode) d (low inode few);
+      strict = strict_more demands.kept g j gj strict;
+      half_done = half_done_more demands.disks h j hj half_done;
+      promises = promises;
     }
 
--- where the entries that dangle are listed each fault of the disk is found by its text
-pub found_by_text : (demands : Demands) (faults : List Fault) (d : Disk)
+-- where the entries that dangle are listed each fault of a set is found by its text
+pub found_by_text : (demands : Demands) (faults : List Fault) (set : ℕ) (d : Disk)
     → ((dir k : ℕ) → dir < 16 → k < 10 → HasDangling faults dir k d)
-    → (fault : Fault) → Contains (faults_under demands d) fault → has_fault demands d fault ≡ true
-found_by_text demands faults d dangling fault h =
+    → (fault : Fault) → Contains (faults_under demands set d) fault → set_has_fault demands set d fault ≡ true
+found_by_text demands faults set d dangling fault h =
     let small : HasSmallTargets d = λ dir k few less is. (dangling dir k few less is).0 in
-    all_there_of demands d fault small h
+    all_there_of demands set d fault small h
 
 -- ---- faults that are demanded not to hold
 
@@ -189,6 +204,41 @@ module _ (demands : Demands) (faults : List Fault) (most : List ℕ) (d : Disk) 
     by_text (Lost inode) h = lost_in demands.kept faults d inode l.strict h
     by_text (NoBlock inode) h = bare_in demands.kept faults d inode l.strict h
     by_text HalfDone h = half_done_in demands.disks faults d l.half_done h
+    by_text (BrokenPromise line) h = absurd (cc)
 
-    pub all_listed : (fault : Fault) → Contains (faults_under demands d) fault → Contains faults fault
-    all_listed fault h = by_text fault (found_by_text demands faults d l.dangling fault h)
+    -- a line of which a promise is broken is one of a promise
+    promised_in : (set : ℕ) (promises : List Promise) (line : ℕ) → breaks_line promises set d line ≡ true
+        → HasPromised promises faults → Contains faults (BrokenPromise line)
+    promised_in set [] line is all = absurd (cc)
+    promised_in set (p ∷ ps) line is all = elim (or_cases (p.line == line && is_broken p set d) _ is) [
+      | inl here ↦ subst (λ (n : ℕ). Contains faults (BrokenPromise n))
+          (eq_from_true p.line line (left_of (p.line == line) _ here))
+          (All-head (λ (q : Promise). Contains faults (BrokenPromise q.line)) p ps all)
+      | inr there ↦ promised_in set ps line there
+          (All-tail (λ (q : Promise). Contains faults (BrokenPromise q.line)) p ps all)
+    ]
+      where
+        or_cases : (a b : Bool) → (a || b) ≡ true → (a ≡ true) ⊎ (b ≡ true)
+        or_cases true b h = inl refl
+        or_cases false b h = inr h
+
+    pub all_listed : (set : ℕ) (fault : Fault) → Contains (all_faults demands set d) fault → Contains faults fault
+    all_listed set fault h =
+        elim (Contains-append_cases (disk_faults demands d) (broken_lines (promised demands.promises) set d) fault h) [
+          | inl disk ↦ by_text fault
+              (disk_there demands d fault (λ dir k few less is. (l.dangling dir k few less is).0) disk)
+          | inr promise ↦
+              let it = from_broken (promised demands.promises) set d fault promise in
+              subst (Contains faults) it.same (promised_in set (promised demands.promises) it.line it.breaks l.promises)
+        ]
+
+-- ---- those that count
+
+pub counted_listed : (demands : Demands) (faults kept : List Fault) (set : ℕ) (d : Disk)
+    → kept ≡ counted_among demands.counted faults
+    → ((fault : Fault) → Contains (all_faults demands set d) fault → Contains faults fault)
+    → (fault : Fault) → Contains (faults_under demands set d) fault → Contains kept fault
+counted_listed demands faults kept set d is all fault h =
+    let parts = from_counted fault (all_faults demands set d) demands.counted h in
+    subst (λ (fs : List Fault). Contains fs fault) (sym is)
+    (in_counted fault faults demands.counted parts.0 (all fault parts.1))

@@ -13,7 +13,7 @@ use Rattle.crash_model.specs.Checker.{Demands, faults_under, IsFailingUnder}
 use Rattle.crash_model.specs.FaultRows.{IsFirst}
 use Rattle.crash_model.specs.declared.fault.Fault.{Fault}
 use Rattle.known_bytes.specs.Chains.{Change}
-use Rattle.known_bytes.proofs.ToldFaults.{all_told}
+use Rattle.known_bytes.proofs.ToldSets.{all_told}
 use Rattle.set_families.specs.Firsts.{IsFirst as ComesFirst, IsFirstIfAny}
 use Rattle.fault_deciding.specs.Asked.{LeavesFault, HasFaultOf, AreFoundByTest, IsFirstWith}
 
@@ -45,8 +45,8 @@ fails_by_test demands c fault set closed leaves = record {
   found = there;
 }
   where
-    there : Contains (faults_under demands (image_after_replay (image_of c.base c.patches set))) fault
-    there = all_told demands (image_after_replay (image_of c.base c.patches set)) fault leaves
+    there : Contains (faults_under demands set (image_after_replay (image_of c.base c.patches set))) fault
+    there = all_told demands set (image_after_replay (image_of c.base c.patches set)) fault leaves
 
 module _ (demands : Demands) (c : Change) (fault : Fault) (deps : List ℕ) (about : deps ≡ deps_of c.patches)
     (tested : AreFoundByTest demands c) where
@@ -76,9 +76,9 @@ module _ (demands : Demands) (c : Change) (fault : Fault) (deps : List ℕ) (abo
 -- a failing set has a fault
 pub some_fault : (demands : Demands) (c : Change) (set : ℕ) → IsFailingUnder demands c.base c.patches set
     → (fault : Fault) × HasFaultOf demands c fault set
-some_fault demands c set fails = by (faults_under demands (image_after_replay (image_of c.base c.patches set))) refl
+some_fault demands c set fails = by (faults_under demands set (image_after_replay (image_of c.base c.patches set))) refl
   where
-    by : (fs : List Fault) → faults_under demands (image_after_replay (image_of c.base c.patches set)) ≡ fs
+    by : (fs : List Fault) → faults_under demands set (image_after_replay (image_of c.base c.patches set)) ≡ fs
         → (fault : Fault) × HasFaultOf demands c fault set
     by [] e = absurd (fails.unclean record { faultless = e })
     by (f ∷ fs) e = (

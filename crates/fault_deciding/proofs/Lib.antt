@@ -10,3 +10,9 @@ pub mod Listed
 pub mod Orders
 pub mod Taken
 pub mod Whole
+pub mod SetQuestions
+pub mod Promised
+pub mod PromisedLines
+pub mod Excusing
+pub mod LeastSets
+pub mod PathsShown

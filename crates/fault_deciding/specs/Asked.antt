@@ -8,11 +8,18 @@ use Rattle.crash_model.specs.FaultRows.{IsFaultBefore, HasFault, IsFirst}
 use Rattle.crash_model.specs.declared.fault.Fault.{Fault}
 use Rattle.question_model.specs.declared.decided_fault.DecidedFault.{DecidedFault}
 use Rattle.known_bytes.specs.Chains.{Change}
-use Rattle.known_bytes.specs.Texts.{has_fault}
+use Rattle.known_bytes.specs.Family.{Family}
+use Rattle.known_bytes.specs.SetFaults.{set_has_fault}
+use Rattle.set_families.specs.declared.family.Family.{Family as Held}
 
--- the test finds the fault in the image that a set leaves, after replay
+-- the sets of a change that hold and bar what a family says
+abbrev pub family_of : Change → Held → Family
+family_of c family = record { base = c.base; patches = c.patches; held = family.held; barred = family.barred }
+
+-- the test finds the fault in a set, with the image that it leaves after replay
 abbrev pub LeavesFault : Demands → Change → Fault → ℕ → Type 0
-LeavesFault demands c fault set = has_fault demands (image_after_replay (image_of c.base c.patches set)) fault ≡ true
+LeavesFault demands c fault set =
+    set_has_fault demands set (image_after_replay (image_of c.base c.patches set)) fault ≡ true
 
 -- a failing set of the patches has the fault
 abbrev pub HasFaultOf : Demands → Change → Fault → ℕ → Type 0

@@ -1,3 +1,4 @@
 pub mod Listed
+pub mod OfSets
 pub mod Asked
 pub mod Trials

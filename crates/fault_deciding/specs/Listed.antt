@@ -1,19 +1,21 @@
 -- Lists that have the faults which the disks of a family can have after replay.
 use Rattle.std.specs.Prelude.{◌≡◌, ◌≢◌, ℕ, ◌+◌, ◌<◌, ◌≤◌, List, length, slice_index, true, false, Option, Some, None}
-use Rattle.std.specs.List.{Contains}
+use Rattle.std.specs.List.{All, Contains}
 use Rattle.crash_model.specs.declared.disk_bytes.TheConstants.{INODES}
 use Rattle.crash_model.specs.Disk.{Disk}
 use Rattle.crash_model.specs.Layout.{pointer_of, links_of, target_of, is_data}
 use Rattle.crash_model.specs.Faults.{is_dangling, entries_to}
 use Rattle.crash_model.specs.Replay.{image_after_replay}
-use Rattle.crash_model.specs.Checker.{Demands, faults_under}
+use Rattle.crash_model.specs.Checker.{Demands, all_faults, faults_under}
+use Rattle.crash_model.specs.Promises.{Promise}
 use Rattle.crash_model.specs.declared.fault.Fault.{Fault}
 use Rattle.crash_model.specs.declared.fault.Fault.TheVariants.{Dangling, Twice, Unwritten, LowLinks, MarkedFree, Wild}
-use Rattle.crash_model.specs.declared.fault.Fault.TheVariants.{Lost, NoBlock, HalfDone}
+use Rattle.crash_model.specs.declared.fault.Fault.TheVariants.{Lost, NoBlock, HalfDone, BrokenPromise}
 use Rattle.patch_sets.specs.Sets.{Has}
 use Rattle.known_bytes.specs.Counts.{entries_in}
 use Rattle.known_bytes.specs.Family.{Family, InEach, HasValue}
-use Rattle.known_bytes.specs.Texts.{has_fault}
+use Rattle.known_bytes.specs.SetFaults.{set_has_fault}
+use Rattle.fault_deciding.specs.OfSets.{InEachSet}
 
 -- the property holds of each disk of a family after replay
 abbrev pub InEachReplayed : Family → (Disk → Type 0) → Type 0
@@ -93,14 +95,24 @@ abbrev pub HasHalfDone : Option (List Disk) → List Fault → Type 0
 HasHalfDone None faults = Unit {0}
 HasHalfDone (Some disks) faults = Contains faults HalfDone
 
+-- each line of a promise is listed
+abbrev pub HasPromised : List Promise → List Fault → Type 0
+HasPromised promises faults = All (λ promise. Contains faults (BrokenPromise promise.line)) promises
+
 -- ---- all faults
 
--- the list has each fault that any disk of the family has after replay
+-- the list has each fault that any set of the family has, whether it counts or not
+abbrev pub HasEach : Demands → Family → List Fault → Type 0
+HasEach demands f faults =
+    InEachSet f (λ set d. (fault : Fault) → Contains (all_faults demands set d) fault → Contains faults fault)
+
+-- the list has each that counts
 abbrev pub HasAllFaults : Demands → Family → List Fault → Type 0
 HasAllFaults demands f faults =
-    InEachReplayed f (λ d. (fault : Fault) → Contains (faults_under demands d) fault → Contains faults fault)
+    InEachSet f (λ set d. (fault : Fault) → Contains (faults_under demands set d) fault → Contains faults fault)
 
--- the test of a text finds each fault that any disk of the family has after replay
+-- the test of a text finds each fault that any set of the family has
 abbrev pub AreFoundByText : Demands → Family → Type 0
 AreFoundByText demands f =
-    InEachReplayed f (λ d. (fault : Fault) → Contains (faults_under demands d) fault → has_fault demands d fault ≡ true)
+    InEachSet f (λ set d. (fault : Fault) → Contains (faults_under demands set d) fault
+    → set_has_fault demands set d fault ≡ true)

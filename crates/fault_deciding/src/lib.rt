@@ -11,7 +11,9 @@ mod decider;
 pub mod dependencies;
 mod listing;
 mod ordering;
+mod promise;
 mod question;
+mod sets;
 mod sharing;
 
 pub use counting::closed_number;

@@ -44,7 +44,8 @@ pub(crate) fn spread<A: Allocator>(trials: &mut Vec<Trial, A>, workers: usize)
 
 /// A number that says little about a fault's place in the order of faults.
 fn mixed(fault: Fault) -> u32 {
-    u32::from_le_bytes(fault.numbers()).wrapping_mul(0x9E37_79B1)
+    let bytes = fault.numbers().map(|number| (number % 256) as u8);
+    u32::from_le_bytes(bytes).wrapping_mul(0x9E37_79B1)
 }
 
 impl<A: Allocator + Copy> Asking<'_, A> {

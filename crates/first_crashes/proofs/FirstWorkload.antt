@@ -17,7 +17,7 @@ use Rattle.pool_judging.proofs.Verdicts.{of_each}
 use Rattle.pool_judging.specs.Traces.{IsTraceOf, IsTraced}
 use Rattle.pool_judging.proofs.Workloads.{patches_but}
 use Rattle.question_model.specs.Sequences.{IsFirstSequence}
-use Rattle.question_model.specs.Workloads.{Search, Fails, HasPatches, steps_at}
+use Rattle.question_model.specs.Workloads.{Search, Fails, HasPatches, workload_at}
 use Rattle.question_model.specs.EnoughFor.{FailsBy}
 use Rattle.question_model.specs.SearchRulesReport.{IsToldNeed, search_but}
 use Rattle.question_reports.specs.SearchRulesFindings.{told_need}
@@ -25,18 +25,18 @@ use Rattle.traced_patches.specs.Traced.{TracedPatches}
 
 module _ (s : Search) (group : ℕ) (places : List ℕ)
     (first : IsFirstSequence (FailsBy s (rules_but s.rules group)) places) where
-  -- its operations are those of the pool
+  -- its steps are those of the pool
   pub below : All (λ place. place < length s.pool) places
   below = first.among.0.0.among
 
   -- none of its steps is refused
-  pub traced : (made steps : List Step) → made ≡ steps_at s.pool places → steps ≡ made → ∥ IsTraced s steps ∥₁
+  pub traced : (made steps : List Step) → made ≡ workload_at s places → steps ≡ made → ∥ IsTraced s steps ∥₁
   traced made steps are same = ∣ subst (IsTraced s) (sym (same ∙ are)) first.among.0.0.accepted ∣₁
 
   -- its patches without the group
   pub patches_of : (made steps others : List Step) (t : TracedPatches) (demands : Demands) (patches : List Patch)
-      → made ≡ steps_at s.pool places → steps ≡ made → others ≡ made → IsTraceOf s steps t
-      → AreDemands s.strict s.atomic s.base others demands → IsGraphBy (rules_but t.rules group) s.base t patches
+      → made ≡ workload_at s places → steps ≡ made → others ≡ made → IsTraceOf s steps t
+      → AreDemands s.asked s.base others demands → IsGraphBy (rules_but t.rules group) s.base t patches
       → HasPatches (search_but s group) places demands patches
   patches_of made steps others t demands patches are same also is told by =
       patches_but s places steps others t demands (same ∙ are) (also ∙ are) is told group patches by

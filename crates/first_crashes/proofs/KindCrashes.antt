@@ -1,5 +1,5 @@
 -- A kind of fault in the report.
-use Rattle.std.proofs.Common.{◌≡◌, ℕ, ◌<◌, List, [], ◌∷◌, Bool, length, subst, sym, ◌∙◌}
+use Rattle.std.proofs.Common.{◌≡◌, ℕ, ◌<◌, List, [], ◌∷◌, Bool, length, refl, subst, sym, ◌∙◌}
 use Rattle.std.specs.List.{All}
 use Rattle.std.proofs.lemmas.List.Elements.{All-nil, All-cons, All-head}
 use Rattle.patch_sets.specs.Closed.{IsClosed}
@@ -14,7 +14,7 @@ use Rattle.report_sections.specs.declared.section.Section.{Section}
 use Rattle.report_sections.proofs.Pushed.{is_told}
 use Rattle.question_model.specs.Found.{IsShown}
 use Rattle.question_model.specs.SearchReport.{IsToldKind}
-use Rattle.question_model.specs.Workloads.{Search, HasPatches, steps_at}
+use Rattle.question_model.specs.Workloads.{Search, HasPatches, steps_at, workload_at}
 use Rattle.question_model.specs.declared.found.ShownKind.{ShownKind}
 use Rattle.pool_judging.specs.Traces.{IsTraced}
 use Rattle.first_crashes.specs.Kinds.{HaveGraph}
@@ -27,20 +27,20 @@ module _ (s : Search) (shown : ShownKind) (is : IsShown s shown) where
   below = is.earliest.among.workload.among
 
   -- none of its steps is refused
-  pub traced : (made steps : List Step) → made ≡ steps_at s.pool places → steps ≡ made → IsTraced s steps
+  pub traced : (made steps : List Step) → made ≡ workload_at s places → steps ≡ made → IsTraced s steps
   traced made steps are same = subst (IsTraced s) (sym (same ∙ are)) is.earliest.among.workload.accepted
 
   pub patches_of : (made steps others : List Step) (demands : Demands) (patches : List Patch)
-      → made ≡ steps_at s.pool places → steps ≡ made → others ≡ made
-      → HaveGraph s steps patches → AreDemands s.strict s.atomic s.base others demands
+      → made ≡ workload_at s places → steps ≡ made → others ≡ made
+      → HaveGraph s steps patches → AreDemands s.asked s.base others demands
       → HasPatches s places demands patches
   patches_of made steps others demands patches are same also graph told =
-      let at : HaveGraph s (steps_at s.pool places) patches = subst (λ xs. HaveGraph s xs patches) (same ∙ are) graph in
+      let at : HaveGraph s (workload_at s places) patches = subst (λ xs. HaveGraph s xs patches) (same ∙ are) graph in
       record {
         last = at.0;
         traced = at.1;
         graph = at.2;
-        told = subst (λ xs. AreDemands s.strict s.atomic s.base xs demands) (also ∙ are) told;
+        told = subst (λ xs. AreDemands s.asked s.base xs demands) (also ∙ are) told;
       }
 
   -- a crash can leave its first set
@@ -48,13 +48,17 @@ module _ (s : Search) (shown : ShownKind) (is : IsShown s shown) where
       → IsClosed (deps_of patches) shown.first
   first_closed demands patches has = (is.first demands patches has).among.1.failing.closed
 
-  pub kind_told : {A : Type 0} (explain : Bool) (demands : Demands) (patches : List Patch) (steps : List Step)
-      (number : ℕ) (section : Section A) → steps ≡ steps_at s.pool places → number ≡ length patches
-      → HasPatches s places demands patches
+  pub kind_told : {A : Type 0} (explain : Bool) (demands : Demands) (patches : List Patch) (number : ℕ)
+      (section : Section A) → number ≡ length patches → HasPatches s places demands patches
       → IsSection (record { explain = explain; demands = demands }) s.base patches shown.first section
-      → IsToldKind s explain (record { shown = shown; steps = steps; patches = number; first = section_of section })
-  kind_told explain demands patches steps number section are same has of_set = record {
-    steps = are;
+      → IsToldKind s explain (record {
+        shown = shown;
+        steps = steps_at s.pool places;
+        patches = number;
+        first = section_of section;
+      })
+  kind_told explain demands patches number section same has of_set = record {
+    steps = refl;
     demands = demands;
     patches = patches;
     traced = has;

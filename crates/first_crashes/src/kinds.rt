@@ -16,11 +16,10 @@ use report_sections::Section;
 use section_maker::SectionMaker;
 use std::alloc::{AllocError, Allocator};
 
-/// The crash that shows a kind of fault first: the steps of the first workload that shows it, how many patches they
-/// have, and the section of the first set that has such a fault.
+/// The crash that shows a kind of fault first: how many patches the first workload has that shows it, and the section
+/// of the first set that has such a fault.
 #[derive(Drop)]
 pub struct KindSection<A: Allocator> {
-    pub steps: Vec<Step, A>,
     pub patches: usize,
     pub section: Section<A>,
 }
@@ -33,15 +32,15 @@ pub fn kind_section<A: Allocator + Copy>(
     shown: &ShownKind,
 ) -> Result<KindSection<A>, AllocError>
     requires { IsShown (search_by judge.now) shown.now }
-    ensures { IfOk result (λ told. IsToldKind (search_by judge.now) explain (told_kind shown.now told)) }
+    ensures { IfOk result (λ told. IsToldKind (search_by judge.now) explain
+        (told_kind judge.now.pool.now shown.now told)) }
 {
-    let steps = judge.steps_at(&shown.places)?;
+    let steps = judge.workload_at(&shown.places)?;
     let graph = graph_of(judge, &steps)?;
     let demands = judge.demands(&steps)?;
     let mut maker = SectionMaker::new(judge.alloc, judge.base, &graph, explain, &demands)?;
     let section = maker.section(shown.first)?;
     Ok(KindSection {
-        steps,
         patches: graph.len(),
         section,
     })

@@ -63,7 +63,7 @@ pub fn needed_workload<A: Allocator + Copy>(
 {
     let judge = rules.judge;
     let places = first_without(rules, passing, group)?;
-    let steps = judge.steps_at(places)?;
+    let steps = judge.workload_at(places)?;
     let traced = traced_of(judge, &steps)?;
     let graph = graph_but(judge, &traced, group)?;
     let demands = judge.demands(&steps)?;

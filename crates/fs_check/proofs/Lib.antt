@@ -5,6 +5,12 @@ pub mod Slots
 pub mod Entries
 pub mod Halves
 pub mod Found
-pub mod Counted
+pub mod Tallied
 pub mod Reaching
 pub mod HalfDone
+pub mod EachMade
+pub mod NoneFound
+pub mod NumbersCounted
+pub mod BrokenLines
+pub mod FirstFound
+pub mod PointersPass

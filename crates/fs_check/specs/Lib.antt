@@ -3,3 +3,5 @@ pub mod Passed
 pub mod References
 pub mod Strict
 pub mod Compared
+pub mod Counted
+pub mod Broken

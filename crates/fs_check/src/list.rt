@@ -10,6 +10,8 @@ ghost use Rattle.fs_check.specs.References.{named_at, led_at, fault_of, twice_at
 
 use crate::atomic::push_half_done;
 use crate::clean::is_marked;
+use crate::counted::keep_counted;
+use crate::promises::push_broken;
 use crate::references::{Pointer, push_dangling, read_pointers};
 use crate::strict::push_strict;
 use arrayvec::ArrayVec;
@@ -51,17 +53,19 @@ fn list_faults<A: Allocator + Copy>(
     Ok(())
 }
 
-/// The faults of an image, with what is demanded of it besides the six: those of [`faults`], then the two of the strict
-/// checker, by inode, then the one of half-done operations. It fails only when out of memory.
+/// The faults of the image of a set, with what is demanded of it besides the six: those of [`faults`], then the two of
+/// the strict checker, by inode, then the one of half-done operations, then broken promises, by line. It fails only when
+/// out of memory.
 pub fn faults_under<A: Allocator + Copy>(
     alloc: A,
     image: &Image<A>,
+    set: u128,
     demands: &Demands<A>,
 ) -> Result<Vec<Fault, A>, AllocError>
-    ensures { IfOk result (λ found. found.items ≡ faults_under demands.now image.now) }
+    ensures { IfOk result (λ found. found.items ≡ faults_under demands.now set image.now) }
 {
     let mut found = Vec::new(alloc);
-    list_faults_under(&mut found, image, demands)?;
+    list_faults_under(&mut found, image, set, demands)?;
     Ok(found)
 }
 
@@ -71,12 +75,17 @@ pub fn faults_under<A: Allocator + Copy>(
 pub fn list_faults_under<A: Allocator + Copy>(
     found: &mut Vec<Fault, A>,
     image: &Image<A>,
+    set: u128,
     demands: &Demands<A>,
 ) -> Result<(), AllocError>
-    ensures { OnOk result (found.new.items ≡ faults_under demands.now image.now) }
+    ensures { OnOk result (found.new.items ≡ faults_under demands.now set image.now) }
 {
     list_faults_keeping(found, image, demands.kept())?;
     push_half_done(found, image, demands)?;
+    push_broken(found, image, set, demands.promises())?;
+    if let Some(counted) = demands.counted() {
+        keep_counted(found, counted);
+    }
     Ok(())
 }
 
@@ -97,7 +106,7 @@ fn list_faults_keeping<A: Allocator + Copy>(
 
 /// The tests of one pointer by itself.
 #[derive(Clone, Copy)]
-enum Test {
+pub(crate) enum Test {
     /// Whether it names a block of the data area that is not marked as the inode's.
     IsUnwritten,
     /// Whether it names a block of the data area that the allocation map has as free.
@@ -107,7 +116,11 @@ enum Test {
 }
 
 /// The fault that a test finds of a pointer.
-fn fault_of<A: Allocator + Copy>(image: &Image<A>, test: Test, pointer: Pointer) -> Option<Fault>
+pub(crate) fn fault_of<A: Allocator + Copy>(
+    image: &Image<A>,
+    test: Test,
+    pointer: Pointer,
+) -> Option<Fault>
     requires { pointer.inode < INODES }
     ensures { result ≡ fault_of image.now test pointer }
 {

@@ -4,12 +4,15 @@ ghost use Rattle.std.specs.Prelude.{◌≡◌, ◌<◌, ◌↔◌, ◌++◌, IsT
 ghost use Rattle.crash_model.specs.Lists.{some_below};
 ghost use Rattle.crash_model.specs.Checker.{IsCleanKeeping, IsCleanUnder};
 ghost use Rattle.crash_model.specs.Strict.{LosesNothing, strict_faults};
+ghost use Rattle.fs_check.specs.Counted.{IsCleanOfAll};
 ghost use Rattle.fs_check.specs.Passed.{HasCleanEntries};
 ghost use Rattle.fs_check.specs.Strict.{lost_at, bare_at, IsReachOf, IsNamedBy, AreDirectories};
 
 use crate::atomic::shows_some;
 use crate::clean::{Directories, clean_directories, has_clean_pointers, is_clean};
+use crate::counted::is_clean_counting;
 use crate::list::push_some;
+use crate::promises::keeps_promises;
 use crash_model::disk_bytes::{DIRECTORY_KIND, ENTRIES, INODES};
 use crash_model::fault::Fault;
 use disk_image::{Demands, Image};
@@ -17,13 +20,29 @@ use patch_sets::ends::{lowest, without};
 use patch_sets::set::{has, is_subset, with};
 use std::alloc::{AllocError, Allocator};
 
-/// Whether an image has no fault, with what is demanded of it besides the six.
+/// Whether the image of a set has no fault, with what is demanded of it besides the six.
 ///
 /// It takes no memory, and ends at the first fault that it meets.
-pub fn is_clean_under<A: Allocator + Copy>(image: &Image<A>, demands: &Demands<A>) -> bool
-    ensures { IsTrue result ↔ IsCleanUnder demands.now image.now }
+pub fn is_clean_under<A: Allocator + Copy>(
+    image: &Image<A>,
+    set: u128,
+    demands: &Demands<A>,
+) -> bool
+    ensures { IsTrue result ↔ IsCleanUnder demands.now set image.now }
 {
-    is_clean_keeping(image, demands.kept()) && shows_some(image, demands)
+    match demands.counted() {
+        Some(counted) => is_clean_counting(image, set, demands, counted),
+        None => is_clean_of_all(image, set, demands),
+    }
+}
+
+/// The same where all faults count.
+fn is_clean_of_all<A: Allocator + Copy>(image: &Image<A>, set: u128, demands: &Demands<A>) -> bool
+    ensures { IsTrue result ↔ IsCleanOfAll demands.now set image.now }
+{
+    is_clean_keeping(image, demands.kept())
+        && shows_some(image, demands)
+        && keeps_promises(image, set, demands.promises())
 }
 
 /// Whether an image has none of the six faults, and none of the two where a script keeps a set of inodes.
@@ -119,7 +138,7 @@ pub(crate) fn push_strict<A: Allocator + Copy>(
 }
 
 /// The fault of an inode, if it is kept and not reached.
-fn lost_at<A: Allocator + Copy>(
+pub(crate) fn lost_at<A: Allocator + Copy>(
     image: &Image<A>,
     kept: u16,
     reached: u128,
@@ -152,7 +171,11 @@ fn push_lost<A: Allocator + Copy>(
 }
 
 /// The fault of an inode, if it is a directory that is reached and has no block.
-fn bare_at<A: Allocator + Copy>(image: &Image<A>, reached: u128, inode: u8) -> Option<Fault>
+pub(crate) fn bare_at<A: Allocator + Copy>(
+    image: &Image<A>,
+    reached: u128,
+    inode: u8,
+) -> Option<Fault>
     requires inode { inode < INODES }
     requires reached { IsReachOf image.now reached }
     ensures { result ≡ bare_at image.now inode }

@@ -10,7 +10,7 @@ use Rattle.crash_model.specs.Patches.{Place, place, overlap}
 use Rattle.crash_model.specs.Plan.{with_changes}
 use Rattle.crash_model.specs.Rules.{has_part, are_scoped, journal_rules}
 use Rattle.crash_model.specs.Trace.{Emitted, Origin, part_of, in_place_patch, copies, journal_patches, touched_blocks}
-use Rattle.crash_model.specs.Trace.{applies, depends, shares_block, groups_depend}
+use Rattle.crash_model.specs.Trace.{applies, depends, shares_block, groups_depend, waits_for}
 use Rattle.crash_model.specs.declared.rules.Part.{Part}
 use Rattle.crash_model.specs.declared.rules.Part.TheVariants.{InPlace, Copy, Commit, Done}
 use Rattle.crash_model.specs.declared.rules.Rule.{Rule}
@@ -125,10 +125,11 @@ abbrev is_row : Part → ℕ → Part → ℕ → Bool
 is_row a s b t = list_any (λ (rule : Rule). has_part rule.later a
     && (has_part rule.earlier b && are_scoped rule.scope s t)) journal_rules
 
-pub by_row : (whole : Bool) (links : List (List ℕ × List ℕ)) (x y : Emitted) (a b : Part) (s t : ℕ) → IsPart a s x
-    → IsPart b t y → is_row a s b t ≡ true → depends journal_rules whole links x y ≡ true
-by_row whole links x y a b s t p q h =
-    or_right (overlap x.place y.place || shares_block whole x y || groups_depend links x y)
+pub by_row : (whole : Bool) (links : List (List ℕ × List ℕ)) (x : Emitted) (id : ℕ) (y : Emitted) (a b : Part) (s t : ℕ)
+    → IsPart a s x
+    → IsPart b t y → is_row a s b t ≡ true → depends journal_rules whole links x id y ≡ true
+by_row whole links x id y a b s t p q h =
+    or_right (overlap x.place y.place || shares_block whole x y || groups_depend links x y || waits_for x id)
     (list_any (λ rule. applies rule x y) journal_rules)
     (ap (λ (m : Part). is_row m x.turn y.part y.turn) p.part ∙ ap (λ (m : ℕ). is_row a m y.part y.turn) p.turn
     ∙ ap (λ (m : Part). is_row a s m y.turn) q.part ∙ ap (λ (m : ℕ). is_row a s b m) q.turn ∙ h)
@@ -139,16 +140,18 @@ shared j t k targets =
     let e : nat_lt 0 (0 + suc (suc (suc (length targets)))) ≡ true = grind (arith, tests) in
     rw (same_test j, e) refl
 
-pub by_header : (whole : Bool) (links : List (List ℕ × List ℕ)) (x y : Emitted) (j t k : ℕ) (targets : List ℕ)
+pub by_header : (whole : Bool) (links : List (List ℕ × List ℕ)) (x : Emitted) (id : ℕ) (y : Emitted) (j t k : ℕ)
+    (targets : List ℕ)
     → x.place ≡ place j 0 (0xC8 ∷ []) → y.place ≡ place j 0 (0xC7 ∷ t ∷ k ∷ targets)
-    → depends journal_rules whole links x y ≡ true
-by_header whole links x y j t k targets p q =
-    or_left (overlap x.place y.place || shares_block whole x y || groups_depend links x y)
+    → depends journal_rules whole links x id y ≡ true
+by_header whole links x id y j t k targets p q =
+    or_left (overlap x.place y.place || shares_block whole x y || groups_depend links x y || waits_for x id)
     (list_any (λ rule. applies rule x y) journal_rules)
+    (or_left (overlap x.place y.place || shares_block whole x y || groups_depend links x y) (waits_for x id)
     (or_left (overlap x.place y.place || shares_block whole x y) (groups_depend links x y)
     (or_left (overlap x.place y.place) (shares_block whole x y)
     (ap (λ (m : Place). overlap m y.place) p ∙ ap (λ (m : Place). overlap (place j 0 (0xC8 ∷ [])) m) q
-    ∙ shared j t k targets)))
+    ∙ shared j t k targets))))
 
 -- ---- a closed set
 
@@ -177,25 +180,25 @@ closed_log (o ∷ ops) n all whole links set d id t j c done closed lies before_
             let y_at : slice_get all p ≡ Some y.0 = ap (λ (m : ℕ). slice_get all m) (minus p id from)
             ∙ lie (p - id) y.0 y.1 in
             closed (id + k) p parts.commit y.0 commit_at y_at to
-            (by_row whole links parts.commit y.0 Commit Copy t t parts.commit_is y.2 (rw (same_test t) refl)) held;
+            (by_row whole links parts.commit _ y.0 Commit Copy t t parts.commit_is y.2 (rw (same_test t) refl)) held;
         chained = before_commit (id + k) parts.commit (omega arith) commit_at parts.commit_is;
         after_commit = λ p from to held.
             let y = parts.change (p - (id + k + 1)) (omega arith) in
             let y_at : slice_get all p ≡ Some y.0 = ap (λ (m : ℕ). slice_get all m) (minus_two p id k from)
             ∙ lie (k + 1 + (p - (id + k + 1))) y.0 y.2 in
             closed p (id + k) y.0 parts.commit y_at commit_at from
-            (by_row whole links y.0 parts.commit (InPlace y.1) Commit t t y.3 parts.commit_is (rw (same_test t) refl))
+            (by_row whole links y.0 _ parts.commit (InPlace y.1) Commit t t y.3 parts.commit_is (rw (same_test t) refl))
             held;
         done_last = λ held p from to. elim (here_or_after p (id + k) from) [
           | inl here ↦ subst (λ (m : ℕ). has set m ≡ true) (sym here)
               (closed (id + k + 1 + length cs) (id + k) parts.done parts.commit done_at commit_at (omega arith)
-              (by_header whole links parts.done parts.commit j t k targets parts.done_place parts.commit_place) held)
+              (by_header whole links parts.done _ parts.commit j t k targets parts.done_place parts.commit_place) held)
           | inr later ↦
               let y = parts.change (p - (id + k + 1)) (omega arith) in
               let y_at : slice_get all p ≡ Some y.0 = ap (λ (m : ℕ). slice_get all m) (minus_two p id k later)
               ∙ lie (k + 1 + (p - (id + k + 1))) y.0 y.2 in
               closed (id + k + 1 + length cs) p parts.done y.0 done_at y_at to
-              (by_row whole links parts.done y.0 Done (InPlace y.1) t t parts.done_is y.3 (rw (same_test t) refl)) held
+              (by_row whole links parts.done _ y.0 Done (InPlace y.1) t t parts.done_is y.3 (rw (same_test t) refl)) held
         ];
         done_chained = before_done (id + k + 1 + length cs) parts.done (omega arith) done_at parts.done_is;
       },
@@ -205,10 +208,10 @@ closed_log (o ∷ ops) n all whole links set d id t j c done closed lies before_
           ap (λ (m : ℕ). slice_get all m) (plus_all id k (length cs) i)
           ∙ lies (k + 1 + length cs + 1 + i) y (get-right xs rest i (k + 1 + length cs + 1 + i) (omega arith) ∙ h))
           (λ q x from at is held. closed q (id + k) x parts.commit at commit_at (omega arith)
-          (by_row whole links x parts.commit Commit Commit (t + 1) t is parts.commit_is (rw (same_test (t + 1)) refl))
+          (by_row whole links x _ parts.commit Commit Commit (t + 1) t is parts.commit_is (rw (same_test (t + 1)) refl))
           held)
           (λ q x from at is held. closed q (id + k + 1 + length cs) x parts.done at done_at (omega arith)
-          (by_row whole links x parts.done Done Done (t + 1) t is parts.done_is (rw (same_test (t + 1)) refl)) held),
+          (by_row whole links x _ parts.done Done Done (t + 1) t is parts.done_is (rw (same_test (t + 1)) refl)) held),
     )
   where
     plus : (id k m : ℕ) → id + k + 1 + m ≡ id + (k + 1 + m)

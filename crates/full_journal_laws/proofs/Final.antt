@@ -54,7 +54,7 @@ pub closed_in : (rules : List Rule) (base : Disk) (s : Tracing) (patches : List 
     → IsClosedIn s.whole s.links s.emitted set
 closed_in rules base s patches set among graph closed q p x y hx hy less dep hq =
     let mask : Has (slice_index (deps_of patches) q) p = (graph.exactly q p x y less hx hy).1
-    (depends-among journal_rules rules s.whole s.links x y among dep) in
+    (depends-among journal_rules rules s.whole s.links x p y among dep) in
     equal_test _ 1 (closed.whole q p (same_number _ 1 hq) mask)
 
 -- ---- the places of what is emitted

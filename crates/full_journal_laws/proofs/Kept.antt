@@ -20,7 +20,7 @@ use Rattle.crash_model.specs.Checker.{IsCleanKeeping}
 use Rattle.crash_model.specs.Trace.{Tracing}
 use Rattle.crash_model.specs.declared.patches.Patch.{Patch}
 use Rattle.crash_model.specs.declared.steps.Act.{Act}
-use Rattle.crash_model.specs.declared.steps.Act.TheVariants.{Do, Group, End, Depend}
+use Rattle.crash_model.specs.declared.steps.Act.TheVariants.{Do, Group, End, Depend, Sync, Fsync, Keep, Hold, Spare}
 use Rattle.crash_model.specs.declared.steps.Step.{Step}
 use Rattle.crash_model.proofs.Clean.{clean_no_fault}
 use Rattle.crash_model.proofs.Losing.{clean_keeping}
@@ -112,6 +112,11 @@ module _ (xs : List Step) (i : ℕ)
   stays_one (suc k) d (Group name) now on = rest (suc k) d on
   stays_one (suc k) d End now on = rest (suc k) d on
   stays_one (suc k) d (Depend later earlier) now on = rest (suc k) d on
+  stays_one (suc k) d Sync now on = rest (suc k) d on
+  stays_one (suc k) d (Fsync target) now on = rest (suc k) d on
+  stays_one (suc k) d (Keep paths) now on = rest (suc k) d on
+  stays_one (suc k) d (Hold path) now on = rest (suc k) d on
+  stays_one (suc k) d (Spare path other) now on = rest (suc k) d on
 
 -- it is live after the first k operations
 pub stays_after : (k : ℕ) (d : Disk) (steps : List Step) (i : ℕ) → stays_live d steps i ≡ true

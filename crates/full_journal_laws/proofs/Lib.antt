@@ -14,3 +14,4 @@ pub mod Safe
 pub mod Failing
 pub mod Kept
 pub mod Showing
+pub mod Promising

@@ -19,7 +19,7 @@ log_emitted n d t j (o ∷ ops) =
 -- a set that has what its members depend on by the rules of the journal
 abbrev pub IsClosedIn : Bool → List (List ℕ × List ℕ) → List Emitted → ℕ → Type 0
 IsClosedIn whole links emitted set = (q p : ℕ) (x y : Emitted) → slice_get emitted q ≡ Some x
-    → slice_get emitted p ≡ Some y → p < q → depends journal_rules whole links x y ≡ true → has set q ≡ true
+    → slice_get emitted p ≡ Some y → p < q → depends journal_rules whole links x p y ≡ true → has set q ≡ true
     → has set p ≡ true
 
 -- a sound disk of n blocks, jl of them the journal's

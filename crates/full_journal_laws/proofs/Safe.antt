@@ -13,7 +13,7 @@ use Rattle.crash_model.specs.declared.operations.Op.{Op}
 use Rattle.crash_model.specs.declared.patches.Patch.{Patch}
 use Rattle.crash_model.specs.declared.rules.Rule.{Rule}
 use Rattle.crash_model.specs.declared.steps.Act.{Act}
-use Rattle.crash_model.specs.declared.steps.Act.TheVariants.{Do, Group, End, Depend}
+use Rattle.crash_model.specs.declared.steps.Act.TheVariants.{Do, Group, End, Depend, Sync, Fsync, Keep, Hold, Spare}
 use Rattle.crash_model.specs.declared.steps.Step.{Step}
 use Rattle.inode_fs.specs.Inside.{GivesName}
 use Rattle.full_journal_laws.specs.Full.{ops_at, ops_of, GivesNames, IsFullSafe}
@@ -24,6 +24,11 @@ act_gives (Do op) gives = All-cons GivesName op [] (gives op refl) (All-nil Give
 act_gives (Group name) gives = All-nil GivesName
 act_gives End gives = All-nil GivesName
 act_gives (Depend b a) gives = All-nil GivesName
+act_gives Sync gives = All-nil GivesName
+act_gives (Fsync target) gives = All-nil GivesName
+act_gives (Keep paths) gives = All-nil GivesName
+act_gives (Hold path) gives = All-nil GivesName
+act_gives (Spare path other) gives = All-nil GivesName
 
 -- the names that operations of steps give are names
 steps_give : (steps : List Step) → All GivesNames steps → All GivesName (ops_of steps)

@@ -17,7 +17,7 @@ use Rattle.crash_model.specs.Sound.{IsSound}
 use Rattle.crash_model.specs.Strict.{disk_after}
 use Rattle.crash_model.specs.Atomic.{is_same_disk, with_disk, disks_from, disks_of, shows, ShowsSome}
 use Rattle.crash_model.specs.declared.steps.Act.{Act}
-use Rattle.crash_model.specs.declared.steps.Act.TheVariants.{Do, Group, End, Depend}
+use Rattle.crash_model.specs.declared.steps.Act.TheVariants.{Do, Group, End, Depend, Sync, Fsync, Keep, Hold, Spare}
 use Rattle.crash_model.specs.declared.steps.Step.{Step}
 use Rattle.crash_model.proofs.Clean.{clean_no_fault}
 use Rattle.crash_model.proofs.Shown.{IsPointedTo, compared_from, shows_to}
@@ -126,6 +126,11 @@ module _ (p : Disk → Bool) where
   one_step xs rest (suc k) disks d (Group name) holds = rest (suc k) (with_disk disks d) d holds
   one_step xs rest (suc k) disks d End holds = rest (suc k) (with_disk disks d) d holds
   one_step xs rest (suc k) disks d (Depend later earlier) holds = rest (suc k) (with_disk disks d) d holds
+  one_step xs rest (suc k) disks d Sync holds = rest (suc k) (with_disk disks d) d holds
+  one_step xs rest (suc k) disks d (Fsync target) holds = rest (suc k) (with_disk disks d) d holds
+  one_step xs rest (suc k) disks d (Keep paths) holds = rest (suc k) (with_disk disks d) d holds
+  one_step xs rest (suc k) disks d (Hold path) holds = rest (suc k) (with_disk disks d) d holds
+  one_step xs rest (suc k) disks d (Spare path other) holds = rest (suc k) (with_disk disks d) d holds
 
   pub passed_through : (k : ℕ) (disks : List Disk) (d : Disk) (steps : List Step)
       → p (after_ops d (take k (ops_of steps))) ≡ true → list_any p (disks_from disks d steps) ≡ true

@@ -2,7 +2,7 @@
 use Rattle.std.proofs.Common.{◌≡◌, ℕ, ◌+◌, ◌≤◌, inl, inr, List, [], ◌∷◌, ◌++◌, length, map, Bool, true, false, nat_lt}
 use Rattle.std.proofs.Common.{not, ◌||◌, Option, Some, None, Result, Ok, Err, append-nil, append_assoc, arith, tests}
 use Rattle.std.proofs.Common.{refl, sym, ◌∙◌, ap, subst}
-use Rattle.std.specs.Prelude.{All, is_some, bytes_eq}
+use Rattle.std.specs.Prelude.{All, is_some, bytes_eq, if◌then◌else◌}
 use Rattle.std.specs.List.{list_any}
 use Rattle.std.proofs.lemmas.List.Elements.{All-nil, All-cons, All-head, All-tail}
 use Rattle.crash_model.specs.Disk.{Disk}
@@ -16,7 +16,11 @@ use Rattle.crash_model.specs.declared.refusals.TraceFault.{TraceFault}
 use Rattle.crash_model.specs.declared.refusals.TraceFault.TheVariants as fault
 use Rattle.crash_model.specs.declared.plans.Change.{Change}
 use Rattle.crash_model.specs.declared.modules.Module.TheVariants.{Full}
-use Rattle.crash_model.specs.declared.steps.Act.TheVariants.{Do, Group, End, Depend}
+use Rattle.crash_model.specs.Paths.{is_same_path}
+use Rattle.crash_model.specs.Trace.{with_wait, when_found, target_found}
+use Rattle.crash_model.specs.Waiting.{forced_by_sync, forced_by_fsync}
+use Rattle.crash_model.specs.declared.steps.Act.TheVariants.{Do, Group, End, Depend, Sync, Fsync, Keep, Hold, Spare}
+use Rattle.crash_model.specs.declared.steps.Target.TheVariants.{At}
 use Rattle.crash_model.specs.declared.steps.Act.{Act}
 use Rattle.crash_model.specs.declared.steps.Step.{Step}
 use Rattle.inode_fs.specs.Inside.{GivesName}
@@ -57,7 +61,7 @@ operation : (n jl : ℕ) (line : ℕ) (s r : Tracing) (xs : List Step) (op : Op)
 operation n jl line s r xs op (Err e) good name is rest h = absurd (no_ok (trace_fault line e) r _ refl h)
 operation n jl line s r xs op (Ok cs) good name is rest h =
     let after : Disk = with_changes s.disk cs in
-    let origin : Origin = origin_at line op s.current in
+    let origin : Origin = origin_at line op s.current s.forced in
     let k : ℕ = length (touched_blocks n cs) in
     let size = with_changes-size s.disk cs in
     let bs : s.disk.blocks ≡ n = good.blocks in
@@ -121,6 +125,21 @@ on_test : (n jl : ℕ) (b : Bool) (e : TraceFault) (ops : List Op) (s next r : T
 on_test n jl true e ops s next r xs rest h = absurd (no_ok e r _ refl h)
 on_test n jl false e ops s next r xs rest h = rest h
 
+-- a step that refuses as a walk does
+on_found : (n jl : ℕ) (line : ℕ) (found : Result ℕ FsFault) (ops : List Op) (s next r : Tracing) (xs : List Step)
+    → (trace_from Full next xs ≡ Ok r → IsLogged n jl ops s r)
+    → then_ok (when_found line found next) (λ more. trace_from Full more xs) ≡ Ok r → IsLogged n jl ops s r
+on_found n jl line (Err e) ops s next r xs rest h = absurd (no_ok (trace_fault line e) r _ refl h)
+on_found n jl line (Ok inode) ops s next r xs rest h = rest h
+
+-- a step that changes nothing, and refuses so if a test does not hold
+on_same : (n jl : ℕ) (line : ℕ) (same : Bool) (found : Result ℕ FsFault) (ops : List Op) (s r : Tracing)
+    (xs : List Step) → (trace_from Full s xs ≡ Ok r → IsLogged n jl ops s r)
+    → then_ok (if same then Ok s else when_found line found s) (λ more. trace_from Full more xs) ≡ Ok r
+    → IsLogged n jl ops s r
+on_same n jl line true found ops s r xs rest h = rest h
+on_same n jl line false found ops s r xs rest h = on_found n jl line found ops s s r xs rest h
+
 on_end : (n jl : ℕ) (line : ℕ) (s r : Tracing) (xs : List Step) (open_group : Option (List ℕ)) → IsGood n jl s.disk
     → IsRest n jl xs r
     → then_ok (with_found open_group (fault.GroupFault line)
@@ -147,6 +166,18 @@ act_logged n jl line (Depend b a) s r xs good names rest h =
     on_test n jl (not (is_among a s.ended) || bytes_eq b a || list_any (λ e. is_same_group e.origin.group b) s.emitted)
     (fault.GroupFault line) (ops_of xs) s next r xs
     (λ e. same_log n jl (ops_of xs) s next r refl refl refl refl (rest next good e)) h
+act_logged n jl line Sync s r xs good names rest h =
+    let next : Tracing = with_wait line Sync (forced_by_sync Full s.emitted) s in
+    same_log n jl (ops_of xs) s next r refl refl refl refl (rest next good h)
+act_logged n jl line (Fsync target) s r xs good names rest h =
+    let next : Tracing = with_wait line (Fsync target) (forced_by_fsync Full s.disk target s.emitted) s in
+    on_found n jl line (target_found s.disk target) (ops_of xs) s next r xs
+    (λ e. same_log n jl (ops_of xs) s next r refl refl refl refl (rest next good e)) h
+act_logged n jl line (Keep paths) s r xs good names rest h = rest s good h
+act_logged n jl line (Hold path) s r xs good names rest h = rest s good h
+act_logged n jl line (Spare path other) s r xs good names rest h =
+    on_same n jl line (is_same_path path other) (target_found s.disk (At other)) (ops_of xs) s r xs
+    (λ e. rest s good e) h
 
 all_split : (xs ys : List Op) → All GivesName (xs ++ ys) → All GivesName xs × All GivesName ys
 all_split [] ys all = (All-nil GivesName, all)

@@ -6,7 +6,9 @@ ghost use Rattle.crash_model.specs.Disk.{Disk, IsDisk};
 ghost use Rattle.crash_model.specs.Sound.{IsSound, HasZeroJournal};
 ghost use Rattle.crash_model.specs.Patches.{deps_of, image_of};
 ghost use Rattle.crash_model.specs.Replay.{image_after_replay};
-ghost use Rattle.crash_model.specs.Checker.{Demands, AreDemands, IsCleanKeeping, IsCleanUnder};
+ghost use Rattle.crash_model.specs.Checker.{Demands, Asked, AreDemands, IsCleanKeeping, IsFailingUnder};
+ghost use Rattle.crash_model.specs.Checker.{all_faults, promised};
+ghost use Rattle.crash_model.specs.Promises.{broken_lines};
 ghost use Rattle.crash_model.specs.Strict.{IsKept};
 ghost use Rattle.crash_model.specs.Trace.{Tracing, trace_start, trace_from, IsGraphOf};
 ghost use Rattle.crash_model.specs.Rules.{rules_of};
@@ -17,7 +19,7 @@ ghost use Rattle.crash_model.specs.declared.modules.Module.{Module};
 ghost use Rattle.crash_model.specs.declared.modules.Module.TheVariants.{Full};
 ghost use Rattle.crash_model.specs.declared.steps.Step.{Step};
 ghost use Rattle.inode_fs.specs.Inside.{GivesName};
-ghost use Rattle.full_journal_laws.specs.Full.{ops_of, GivesNames, IsRecovered, IsFullSafe};
+ghost use Rattle.full_journal_laws.specs.Full.{ops_of, GivesNames, IsRecovered, IsFullSafe, CountsNoPromise};
 
 /// From a sound disk with a zero journal, and for every set of patches that a crash can leave: replay makes a sound
 /// disk, which outside the journal is the base after the first k operations, k being how many commit patches the set
@@ -55,14 +57,26 @@ pub fn nothing_that_the_script_keeps_is_lost()
         → IsCleanKeeping (Some kept) (image_after_replay (image_of base patches set)) }
 {}
 
-/// So nothing fails whatever is demanded: the image after replay has none of the nine faults, since it shows the disk
-/// after the operations that are committed.
-pub fn every_demand_is_met()
-    ensures { (rules : List Rule) → (whole strict atomic : Bool) → (base : Disk) → (steps : List Step) → (s : Tracing)
-        → (patches : List Patch) → (set : ℕ) → (demands : Demands)
+/// So a set fails only where it breaks a promise, whatever is demanded: of the image after replay none of the nine other
+/// faults holds, since it shows the disk after the operations that are committed.
+pub fn only_promises_can_be_broken()
+    ensures { (rules : List Rule) → (whole : Bool) → (asked : Asked) → (base : Disk) → (steps : List Step)
+        → (s : Tracing) → (patches : List Patch) → (set : ℕ) → (demands : Demands)
         → IsDisk base → IsSound base → HasZeroJournal base → All GivesName (ops_of steps)
         → trace_from Full (trace_start whole base) steps ≡ Ok s → AreAmong (rules_of Full) rules
         → IsGraphOf rules base s patches
-        → IsClosed (deps_of patches) set → AreDemands strict atomic base steps demands
-        → IsCleanUnder demands (image_after_replay (image_of base patches set)) }
+        → IsClosed (deps_of patches) set → AreDemands asked base steps demands
+        → all_faults demands set (image_after_replay (image_of base patches set))
+        ≡ broken_lines (promised demands.promises) set (image_after_replay (image_of base patches set)) }
+{}
+
+/// So nothing fails where no promise is made, or where broken promises do not count.
+pub fn nothing_fails_without_promises()
+    ensures { (rules : List Rule) → (whole : Bool) → (asked : Asked) → (base : Disk) → (steps : List Step)
+        → (s : Tracing) → (patches : List Patch) → (set : ℕ) → (demands : Demands)
+        → IsDisk base → IsSound base → HasZeroJournal base → All GivesNames steps
+        → trace_from Full (trace_start whole base) steps ≡ Ok s → AreAmong (rules_of Full) rules
+        → IsGraphOf rules base s patches
+        → AreDemands asked base steps demands → CountsNoPromise demands
+        → ¬ (IsFailingUnder demands base patches set) }
 {}

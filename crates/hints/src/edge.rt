@@ -23,6 +23,10 @@ pub struct Answer<'a> {
     pub reason: Option<&'a io::Error>,
     /// What each patch is, by its id: its part, and the number of its operation, from 1.
     pub parts: &'a [(Part, usize)],
+    /// The first lines that wait and force nothing.
+    pub idle: &'a [usize],
+    /// The first lines that keep a path which is never there.
+    pub absent: &'a [usize],
     /// How many closed sets the script has, if there are more than the limit.
     pub closed: Option<u128>,
     /// The crash to point out.

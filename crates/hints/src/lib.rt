@@ -10,6 +10,7 @@ mod groups;
 mod lines;
 mod operations;
 mod paths;
+mod promises;
 mod quoted;
 mod refusals;
 mod room;

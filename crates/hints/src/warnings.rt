@@ -1,6 +1,7 @@
 //! Warnings: what a run was asked for that has no effect.
 
 use crate::edge::Answer;
+use crate::promises::write_promises;
 use crate::quoted::{Quoted, line_at, word_at};
 use crate::rules::{orders_any, write_idle_rule};
 use crash_model::names::GroupName;
@@ -34,6 +35,7 @@ pub(crate) fn write_warnings<A: Allocator + Copy, E: Write>(
         err.write_all(b"warning: no operation follows `start`, so there is nothing to explore\n")?;
     }
     write_groups(answer.script, steps, err)?;
+    write_promises(answer, steps, err)?;
     if settings.strict {
         write_made_later(steps, err)?;
     }

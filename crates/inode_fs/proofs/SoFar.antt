@@ -66,8 +66,9 @@ some_when false a d next is = absurd (let none : Some a ≡ None = is in cc)
 
 pub taken : (x : Step) (old new : SoFar) (d next : Disk) → old.disk ≡ Some d → new.disk ≡ Some next
     → next ≡ disk_after d x.act → AreStillKept old.demands.kept next new.demands.kept
-    → new.demands.disks ≡ option_map (λ ds. with_disk ds next) old.demands.disks → TakesStep x old new
-taken x old new d next had has moved still added strict atomic base steps is =
+    → new.demands.disks ≡ option_map (λ ds. with_disk ds next) old.demands.disks → new.demands.promises ≡ None
+    → new.demands.counted ≡ None → TakesStep x old new
+taken x old new d next had has moved still added none all strict atomic base steps is =
     let (same, some) = some_when (strict || atomic) d (disk_after_all base steps) next (sym had ∙ is.disk) in
     let after = moved ∙ ap (λ (e : Disk). disk_after e x.act) same in
     record {
@@ -76,6 +77,8 @@ taken x old new d next had has moved still added strict atomic base steps is =
         kept = told_kept_more base steps x next after strict old.demands.kept new.demands.kept still is.demands.kept;
         disks = told_disks_more base steps x next after atomic old.demands.disks new.demands.disks added
             is.demands.disks;
+        promises = none;
+        counted = all;
       };
     }
 
@@ -100,6 +103,8 @@ passed_by x old had strict atomic base steps is = go strict atomic (neither stri
       demands = record {
         kept = told_none base steps (steps ++ x ∷ []) old.demands.kept so_far.demands.kept;
         disks = so_far.demands.disks;
+        promises = so_far.demands.promises;
+        counted = so_far.demands.counted;
       };
     }
     go true atomic (is, none) so_far = absurd (let not : true ≡ false = is in cc)

@@ -4,8 +4,9 @@ use Rattle.patch_sets.specs.Sets.{has}
 use Rattle.crash_model.specs.Disk.{Disk}
 use Rattle.crash_model.specs.Layout.{is_live}
 use Rattle.crash_model.specs.Lists.{when}
-use Rattle.crash_model.specs.Checker.{Demands, AreDemands}
-use Rattle.crash_model.specs.Strict.{disk_after}
+use Rattle.crash_model.specs.Atomic.{disks_of}
+use Rattle.crash_model.specs.Checker.{Demands}
+use Rattle.crash_model.specs.Strict.{disk_after, IsToldKept}
 use Rattle.crash_model.specs.declared.steps.Step.{Step}
 
 -- the disk after all of the steps
@@ -18,10 +19,20 @@ pub record SoFar : Type 0 where
   pub disk : Option Disk
   pub demands : Demands
 
+-- what is demanded of images alone
+abbrev pub image_demands : Option ℕ → Option (List Disk) → Demands
+image_demands kept disks = record { kept = kept; disks = disks; promises = None; counted = None }
+
+pub record AreImageDemands (strict atomic : Bool) (base : Disk) (steps : List Step) (demands : Demands) : Type 0 where
+  pub kept : IsToldKept strict base steps demands.kept
+  pub disks : demands.disks ≡ when atomic (disks_of base steps)
+  pub promises : demands.promises ≡ None
+  pub counted : demands.counted ≡ None
+
 -- that is what these steps demand, and the disk after them if anything is demanded
 pub record IsSoFar (strict atomic : Bool) (base : Disk) (steps : List Step) (so_far : SoFar) : Type 0 where
   pub disk : so_far.disk ≡ when (strict || atomic) (disk_after_all base steps)
-  pub demands : AreDemands strict atomic base steps so_far.demands
+  pub demands : AreImageDemands strict atomic base steps so_far.demands
 
 -- the new one is that of one more step, whatever the steps of the old one are
 abbrev pub TakesStep : Step → SoFar → SoFar → Type 0

@@ -3,10 +3,9 @@
 ghost use Rattle.std.specs.Prelude.{◌≡◌, [], ◌∷◌, IfOk, OnOk, option_map};
 ghost use Rattle.std.specs.List.{list_any};
 ghost use Rattle.crash_model.specs.Atomic.{is_same_disk, with_disk, disks_of};
-ghost use Rattle.crash_model.specs.Checker.{AreDemands};
 ghost use Rattle.crash_model.specs.Lists.{when};
 ghost use Rattle.crash_model.specs.Strict.{IsToldKept};
-ghost use Rattle.inode_fs.specs.Demanding.{IsSoFar, TakesStep, AreStillKept};
+ghost use Rattle.inode_fs.specs.Demanding.{IsSoFar, TakesStep, AreStillKept, AreImageDemands};
 
 use crate::applying::advance;
 use crate::live_inodes::live_inodes;
@@ -19,7 +18,7 @@ use std::marker::Model;
 /// are not lost, and if its operations are to be atomic, that the image shows the base or the disk after one of the
 /// steps.
 ///
-/// A step on groups changes nothing, nor does a refused operation. It fails only when out of memory.
+/// A step that is no operation changes nothing, nor does a refused operation. Nothing is said of promises here. It fails only when out of memory.
 pub fn demands<A: Allocator + Copy>(
     alloc: A,
     base: &Image<A>,
@@ -27,7 +26,7 @@ pub fn demands<A: Allocator + Copy>(
     is_strict: bool,
     is_atomic: bool,
 ) -> Result<Demands<A>, AllocError>
-    ensures { IfOk result (AreDemands is_strict is_atomic base.now steps.now) }
+    ensures { IfOk result (AreImageDemands is_strict is_atomic base.now steps.now) }
 {
     let mut demanding = Demanding::new(alloc, base, is_strict, is_atomic)?;
     for step in steps {
@@ -50,13 +49,13 @@ pub struct Demanding<A: Allocator + Copy> {
 
 impl<A: Allocator + Copy> Model for Demanding<A> {
     ghost use Rattle.std.specs.Prelude.{option_map};
-    ghost use Rattle.inode_fs.specs.Demanding.{SoFar};
+    ghost use Rattle.inode_fs.specs.Demanding.{SoFar, image_demands};
 
     ghost Value = { SoFar };
 
     ghost view = { λ d. record {
       disk = d.disk;
-      demands = record { kept = d.kept; disks = option_map (λ v. v.items) d.disks };
+      demands = image_demands d.kept (option_map (λ v. v.items) d.disks);
     } };
 }
 

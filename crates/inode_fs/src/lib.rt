@@ -20,4 +20,5 @@ pub use crash_model::operations::Op;
 pub use crash_model::plans::{Change, Plan, Role};
 pub use crash_model::refusals::FsFault;
 pub use demanding::{Demanding, demands};
+pub use lookup::{Entry, find};
 pub use planning::plan;

@@ -13,40 +13,8 @@ use crash_model::disk_bytes::{DIRECTORY_KIND, ENTRIES, FREE_KIND, INODES, SLOTS}
 use crash_model::names::{Name, Path};
 use crash_model::refusals::FsFault;
 use disk_image::Image;
+use path_lookup::entry_named;
 use std::alloc::Allocator;
-
-/// Whether an entry of a directory that counts has this name and leads to a live inode.
-fn is_spelled<A: Allocator + Copy>(image: &Image<A>, dir: u8, k: u8, spelled: &[u8]) -> bool
-    requires dir { dir < INODES }
-    requires k { k < ENTRIES }
-    ensures { result
-        ≡ (is_entry image.now dir k && is_live image.now (target_of image.now dir k) && bytes_eq
-        (spelling_of image.now dir k) spelled.now) }
-{
-    if !image.counts(dir) {
-        return false;
-    }
-    let entry = image.entry(dir, k);
-    entry != 0 && image.is_live(entry - 1) && image.is_spelled(dir, k, spelled)
-}
-
-/// The lowest entry of a directory that has the name and leads to a live inode.
-///
-/// A directory whose block is not marked as its own has no entries.
-pub fn entry_named<A: Allocator + Copy>(image: &Image<A>, dir: u8, name: &Name) -> Option<u8>
-    requires { dir < INODES }
-    ensures value { result ≡ entry_named image.now dir name.now }
-    ensures within { IfSome result (λ k. k < ENTRIES) }
-    ensures holds { IfSome result (λ k. IsTrue (is_named image.now dir name.now k)) }
-{
-    let spelled = name.spelled();
-    for k in 0..ENTRIES {
-        if is_spelled(image, dir, k, spelled.as_slice()) {
-            return Some(k);
-        }
-    }
-    None
-}
 
 /// The directory that a name of a directory leads to; refused with 10 if there is no such name, with 11 if it leads to
 /// something else.

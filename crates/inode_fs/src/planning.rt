@@ -20,9 +20,7 @@ use crate::changes::{
     entry_clear, entry_set, init_block, inode_free, inode_init, link_count, map_set, pointer_set,
 };
 use crate::dropping::{add_map_clear, drop_name};
-use crate::lookup::{
-    Entry, entry_named, find, free_block, free_inode, free_slot, has_entries, walk,
-};
+use crate::lookup::{Entry, find, free_block, free_inode, free_slot, has_entries, walk};
 use crate::saving::{overwrite, replace, truncate};
 use arrayvec::ArrayVec;
 use crash_model::disk_bytes::{
@@ -34,6 +32,7 @@ use crash_model::operations::Op;
 use crash_model::plans::{Plan, Role};
 use crash_model::refusals::FsFault;
 use disk_image::Image;
+use path_lookup::entry_named;
 use std::alloc::Allocator;
 
 /// The changes of an operation, in the order in which they are emitted, or the first refusal, 10 to 19.

@@ -38,6 +38,16 @@ id_written all left rest id before so_far after comma ids first more = record {
   next = sym (ap comma_before (length-append ids.done (id ∷ []) ∙ one_more (length ids.done)));
 }
 
+-- no id more, where what is left is the same
+pub none_written : (all left rest : List ℕ) (before so_far comma : List ℕ) → WritesIds all left before so_far comma
+    → left ≡ rest → WritesIds all rest before so_far comma
+none_written all left rest before so_far comma ids same = record {
+  done = ids.done;
+  whole = ap (λ (xs : List ℕ). ids.done ++ xs) (sym same) ∙ ids.whole;
+  written = ids.written;
+  next = ids.next;
+}
+
 -- all ids
 pub all_written : (all left before after comma : List ℕ) → WritesIds all left before after comma → left ≡ []
     → after ≡ before ++ join_of 44 (map decimal all)

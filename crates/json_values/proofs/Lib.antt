@@ -5,3 +5,4 @@ pub mod ListedValues
 pub mod PatchBytes
 pub mod RuleTexts
 pub mod SectionPieces
+pub mod Shown

@@ -176,8 +176,9 @@ rules_plain : (rs : List Rule) → All IsPlain (map rule_text rs)
 rules_plain [] = All-nil IsPlain
 rules_plain (r ∷ rs) = All-cons IsPlain (rule_text r) (map rule_text rs) (rule_plain r) (rules_plain rs)
 
-regroup_4 : {X : Type 0} (a b c d : List X) → a ++ (b ++ (c ++ d)) ≡ a ++ b ++ c ++ d
-regroup_4 a b c d = sym (append_assoc (a ++ b) c d ∙ append_assoc a b (c ++ d))
+regroup_5 : {X : Type 0} (a b c d e : List X) → a ++ (b ++ (c ++ (d ++ e))) ≡ a ++ b ++ c ++ d ++ e
+regroup_5 a b c d e = sym (append_assoc (a ++ b ++ c) d e
+    ∙ (append_assoc (a ++ b) c (d ++ e) ∙ append_assoc a b (c ++ (d ++ e))))
 
 -- a plain text, if it is there, before plain texts
 told_plain : (told : Bool) (text : List ℕ) (texts : List (List ℕ)) → IsPlain text → All IsPlain texts
@@ -185,21 +186,24 @@ told_plain : (told : Bool) (text : List ℕ) (texts : List (List ℕ)) → IsPla
 told_plain true text texts plain rest = All-cons IsPlain text texts plain rest
 told_plain false text texts plain rest = rest
 
-reasons_of_plain : (overlap block group : Bool) (rs : List Rule)
+reasons_of_plain : (overlap block group wait : Bool) (rs : List Rule)
     → All IsPlain ((if overlap then codes "overlap" ∷ [] else []) ++ (if block then codes "block" ∷ [] else [])
-    ++ (if group then codes "group" ∷ [] else []) ++ map rule_text rs)
+    ++ (if group then codes "group" ∷ [] else []) ++ (if wait then codes "wait" ∷ [] else []) ++ map rule_text rs)
 unfolding escape_byte
-reasons_of_plain overlap block group rs =
+reasons_of_plain overlap block group wait rs =
     let rules : List (List ℕ) = map rule_text rs in
+    let waits : List (List ℕ) = if wait then codes "wait" ∷ [] else [] in
     let groups : List (List ℕ) = if group then codes "group" ∷ [] else [] in
     let blocks : List (List ℕ) = if block then codes "block" ∷ [] else [] in
     let overlaps : List (List ℕ) = if overlap then codes "overlap" ∷ [] else [] in
-    let last : All IsPlain (groups ++ rules) = told_plain group (codes "group") rules refl (rules_plain rs) in
-    let next : All IsPlain (blocks ++ (groups ++ rules)) =
-    told_plain block (codes "block") (groups ++ rules) refl last in
-    let all : All IsPlain (overlaps ++ (blocks ++ (groups ++ rules))) =
-    told_plain overlap (codes "overlap") (blocks ++ (groups ++ rules)) refl next in
-    subst (All IsPlain) (regroup_4 overlaps blocks groups rules) all
+    let last : All IsPlain (waits ++ rules) = told_plain wait (codes "wait") rules refl (rules_plain rs) in
+    let third : All IsPlain (groups ++ (waits ++ rules)) =
+    told_plain group (codes "group") (waits ++ rules) refl last in
+    let next : All IsPlain (blocks ++ (groups ++ (waits ++ rules))) =
+    told_plain block (codes "block") (groups ++ (waits ++ rules)) refl third in
+    let all : All IsPlain (overlaps ++ (blocks ++ (groups ++ (waits ++ rules)))) =
+    told_plain overlap (codes "overlap") (blocks ++ (groups ++ (waits ++ rules))) refl next in
+    subst (All IsPlain) (regroup_5 overlaps blocks groups waits rules) all
 
 dependency_plain : (t : TracedPatches) (q : Emitted) (id : ℕ)
     → All HasPlainReasons (option_to_list (dependency_at t q id))
@@ -207,20 +211,20 @@ dependency_plain t q id = by_patch (slice_get t.emitted id)
   where
     told : Option Emitted → Option Dependency
     told o = elim o [
-      | Some p ↦ when (depends t.rules t.whole t.links q p)
-          (record { id = id; reasons = reasons t.rules t.whole t.links q p })
+      | Some p ↦ when (depends t.rules t.whole t.links q id p)
+          (record { id = id; reasons = reasons t.rules t.whole t.links q id p })
       | None ↦ None
     ]
 
     by_test : (p : Emitted) (test : Bool) → All HasPlainReasons
-        (option_to_list (when test (record { id = id; reasons = reasons t.rules t.whole t.links q p })))
-    by_test p true = All-cons HasPlainReasons (record { id = id; reasons = reasons t.rules t.whole t.links q p }) []
-        (reasons_of_plain _ _ _ _) (All-nil HasPlainReasons)
+        (option_to_list (when test (record { id = id; reasons = reasons t.rules t.whole t.links q id p })))
+    by_test p true = All-cons HasPlainReasons (record { id = id; reasons = reasons t.rules t.whole t.links q id p }) []
+        (reasons_of_plain _ _ _ _ _) (All-nil HasPlainReasons)
     by_test p false = All-nil HasPlainReasons
 
     by_patch : (o : Option Emitted) → All HasPlainReasons (option_to_list (told o))
     by_patch None = All-nil HasPlainReasons
-    by_patch (Some p) = by_test p (depends t.rules t.whole t.links q p)
+    by_patch (Some p) = by_test p (depends t.rules t.whole t.links q id p)
 
 pub dependencies_plain : (t : TracedPatches) (q : Emitted) (n : ℕ)
     → All HasPlainReasons (some_below n (dependency_at t q))
@@ -228,9 +232,6 @@ unfolding some_below
 dependencies_plain t q zero = All-nil HasPlainReasons
 dependencies_plain t q (suc n) = All-append HasPlainReasons (some_below n (dependency_at t q))
     (option_to_list (dependency_at t q n)) (dependencies_plain t q n) (dependency_plain t q n)
-
-regroup_5 : (a b c d e : List ℕ) → a ++ (b ++ (c ++ (d ++ e))) ≡ a ++ b ++ c ++ d ++ e
-regroup_5 a b c d e = simp append_assoc
 
 dependency_bytes : (w : Dependency) → HasPlainReasons w → compact_text (dependency_data w) ≡ dependency_json w
 unfolding escape_byte

@@ -5,7 +5,7 @@ ghost use Rattle.report_model.specs.Summary.{told_fault_json};
 ghost use Rattle.report_sections.specs.Sections.{section_of};
 
 use crate::known::KnownTexts;
-use crate::sections::{push_replay, push_set};
+use crate::sections::{push_replay, push_set, push_shows};
 use crash_model::fault::FaultRow;
 use report_sections::Section;
 use std::alloc::{AllocError, Allocator};
@@ -30,9 +30,8 @@ impl KnownTexts {
         out.push_str("\"set\":")?;
         push_set(out, self.patches(), first.set)?;
         let sets = row.sets;
-        write!(out, ",\"sets\":{sets},\"writes\":[")?;
-        self.push_writes(out, &first.writes)?;
-        out.push_str("]}")?;
-        Ok(())
+        write!(out, ",\"sets\":{sets}")?;
+        push_shows(out, row.fault, first)?;
+        self.push_last(out, first)
     }
 }

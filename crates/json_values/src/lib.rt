@@ -12,4 +12,4 @@ mod sections;
 pub use items::{write_comma, write_item};
 pub use known::KnownTexts;
 pub use patches::patch_value;
-pub use sections::{push_hex, push_replay, push_set};
+pub use sections::{push_all_shows, push_hex, push_replay, push_set, push_shows, push_together};

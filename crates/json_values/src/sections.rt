@@ -5,16 +5,20 @@ ghost use Rattle.crash_model.specs.Lists.{join_of};
 ghost use Rattle.hex.specs.Hex.{encode_lower};
 ghost use Rattle.patch_sets.specs.Sets.{ids_of};
 ghost use Rattle.report_model.specs.Report.{ids_json, json_string, replay_json, replayed_json, section_json};
-ghost use Rattle.report_model.specs.Report.{write_json};
+ghost use Rattle.report_model.specs.Report.{write_json, writes_json};
+ghost use Rattle.report_model.specs.Shows.{shows_json, together};
 ghost use Rattle.json_values.specs.Known.{fault_json};
-ghost use Rattle.json_values.specs.Items.{crash_json, leading_json};
+ghost use Rattle.json_values.specs.Items.{bar_before, crash_json, fault_shows_json, leading_json, last_json};
 ghost use Rattle.report_sections.specs.Replay.{told_block, told_replay};
 ghost use Rattle.report_sections.specs.Sections.{section_of};
+ghost use Rattle.report_sections.specs.Showing.{shown_once};
 
 use crate::items::write_comma;
 use crate::known::KnownTexts;
 use crash_model::fault::Fault;
+use crash_model::promises::Shows;
 use crash_model::separators::COMMA;
+use crash_model::showing::Shown;
 use patch_sets::iter::Ids;
 use patch_sets::write::BlockWrite;
 use report_sections::{ReplayedBlock, Section};
@@ -34,7 +38,11 @@ impl KnownTexts {
         out.push_str("{\"faults\":[")?;
         self.push_faults(out, &section.faults)?;
         out.push_str("],")?;
-        self.push_crash(out, section)
+        push_replay(out, &section.replay)?;
+        out.push_str("\"set\":")?;
+        push_set(out, self.patches(), section.set)?;
+        push_all_shows(out, section)?;
+        self.push_last(out, section)
     }
 
     /// Adds the last keys of an object, which describe a crash, and the object's end: what replay changes if that is
@@ -42,14 +50,15 @@ impl KnownTexts {
     pub fn push_crash<A: Allocator, B: Allocator + Copy>(
         &mut self,
         out: &mut String<B>,
+        fault: Fault,
         section: &Section<A>,
     ) -> Result<(), AllocError>
         ensures text { OnOk result (string_bytes out.new
-            ≡ string_bytes out.old ++ crash_json self.old (section_of section.now)) }
+            ≡ string_bytes out.old ++ crash_json self.old fault (section_of section.now)) }
         ensures kept { self.new ≡ self.old }
     {
         push_replay(out, &section.replay)?;
-        self.push_leading(out, section)
+        self.push_leading(out, fault, section)
     }
 
     /// Adds the last keys of an object, and the object's end: the ids of the set, and the block writes that lead to it.
@@ -57,14 +66,29 @@ impl KnownTexts {
     pub fn push_leading<A: Allocator, B: Allocator>(
         &mut self,
         out: &mut String<B>,
+        fault: Fault,
         section: &Section<A>,
     ) -> Result<(), AllocError>
         ensures text { OnOk result (string_bytes out.new
-            ≡ string_bytes out.old ++ leading_json self.old (section_of section.now)) }
+            ≡ string_bytes out.old ++ leading_json self.old fault (section_of section.now)) }
         ensures kept { self.new ≡ self.old }
     {
         out.push_str("\"set\":")?;
         push_set(out, self.patches(), section.set)?;
+        push_shows(out, fault, section)?;
+        self.push_last(out, section)
+    }
+
+    /// Adds the block writes of a crash as the last key of an object, and the object's end.
+    pub(crate) fn push_last<A: Allocator, B: Allocator>(
+        &mut self,
+        out: &mut String<B>,
+        section: &Section<A>,
+    ) -> Result<(), AllocError>
+        ensures text { OnOk result (string_bytes out.new
+            ≡ string_bytes out.old ++ last_json self.old (section_of section.now)) }
+        ensures kept { self.new ≡ self.old }
+    {
         out.push_str(",\"writes\":[")?;
         self.push_writes(out, &section.writes)?;
         out.push_str("]}")?;
@@ -104,6 +128,101 @@ impl KnownTexts {
         }
         Ok(())
     }
+}
+
+/// The key of what the paths of broken promises show, with a comma before it, if that is told: of all. It fails only
+/// when out of memory.
+pub fn push_all_shows<A: Allocator, B: Allocator>(
+    out: &mut String<B>,
+    section: &Section<A>,
+) -> Result<(), AllocError>
+    ensures { OnOk result (string_bytes out.new
+        ≡ string_bytes out.old ++ shows_json (section_of section.now).shows) }
+{
+    let Some(shows) = &section.shows else {
+        return Ok(());
+    };
+    out.push_str(",\"shows\":[")?;
+    push_each_shows(out, shows)?;
+    out.push_str("]")?;
+    Ok(())
+}
+
+/// What the paths of each of several promises show, with a comma between two.
+fn push_each_shows<B: Allocator>(out: &mut String<B>, shows: &[Shows]) -> Result<(), AllocError>
+    ensures { OnOk result (string_bytes out.new ≡ string_bytes out.old
+        ++ join_of COMMA (map (λ one. json_string (together one.items)) shows.now)) }
+{
+    for (at, one) in shows.iter().enumerate() {
+        write_comma(out, at)?;
+        push_together(out, one)?;
+    }
+    Ok(())
+}
+
+/// The same key, of the promise that a fault says is broken. It fails only when out of memory.
+pub fn push_shows<A: Allocator, B: Allocator>(
+    out: &mut String<B>,
+    fault: Fault,
+    section: &Section<A>,
+) -> Result<(), AllocError>
+    ensures { OnOk result (string_bytes out.new
+        ≡ string_bytes out.old ++ fault_shows_json fault (section_of section.now)) }
+{
+    if section.shows.is_none() {
+        return Ok(());
+    }
+    out.push_str(",\"shows\":[")?;
+    push_one_shows(out, section.shows_of(fault))?;
+    out.push_str("]")?;
+    Ok(())
+}
+
+/// What the paths of a promise show, if there is one.
+fn push_one_shows<B: Allocator>(
+    out: &mut String<B>,
+    shows: Option<&Shows>,
+) -> Result<(), AllocError>
+    ensures { OnOk result (string_bytes out.new ≡ string_bytes out.old
+        ++ join_of COMMA (map (λ one. json_string (together one)) (shown_once shows.entry))) }
+{
+    if let Some(shows) = shows {
+        push_together(out, shows)?;
+    }
+    Ok(())
+}
+
+/// What paths show, in quotes, with a bar between two. It fails only when out of memory.
+pub fn push_together<B: Allocator>(out: &mut String<B>, shows: &Shows) -> Result<(), AllocError>
+    ensures { OnOk result (string_bytes out.new
+        ≡ string_bytes out.old ++ json_string (together shows.now.items)) }
+{
+    out.push_str("\"")?;
+    push_shown(out, shows.as_slice())?;
+    out.push_str("\"")?;
+    Ok(())
+}
+
+/// What paths show, with a bar between two.
+fn push_shown<B: Allocator>(out: &mut String<B>, shows: &[Shown]) -> Result<(), AllocError>
+    ensures { OnOk result (string_bytes out.new ≡ string_bytes out.old ++ together shows.now) }
+{
+    for (at, shown) in shows.iter().enumerate() {
+        let shown = *shown;
+        write_bar(out, at)?;
+        write!(out, "{shown}")?;
+    }
+    Ok(())
+}
+
+/// The bar before what is shown at this place, if it is not the first.
+fn write_bar<B: Allocator>(out: &mut String<B>, at: usize) -> Result<(), AllocError>
+    ensures { OnOk result (string_bytes out.new ≡ string_bytes out.old ++ bar_before at) }
+{
+    if at > 0 {
+        out.push_str(" | ")?;
+    }
+    Ok(())
 }
 
 /// The array of the ids of the set below `patches`, ascending. It fails only when out of memory.

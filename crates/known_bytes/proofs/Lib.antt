@@ -16,6 +16,13 @@ pub mod FaultTests
 pub mod Counted
 pub mod Named
 pub mod ToldFaults
+pub mod ToldSets
+pub mod ChildrenIn
+pub mod Beginnings
 pub mod Sources
 pub mod ShownDisks
 pub mod Owned
+pub mod EachValue
+pub mod MaybeEnds
+pub mod ListedSlots
+pub mod WhatIsShown

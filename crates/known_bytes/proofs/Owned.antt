@@ -41,7 +41,8 @@ module _ (r : Reading) (block inode : ℕ) (like : InEachDisk r (IsLike r.family
 -- a byte that is compared with one that all disks have
 pub compared : (r : Reading) (f g : Disk → ℕ) (value : ℕ) (answer : Result Bool ℕ) → InEachDisk r (λ d. f d ≡ value)
     → IsKnown r (λ d. g d == value) answer → IsKnown r (λ d. g d == f d) answer
-compared r f g value (Ok is) same known = λ set m. ap (λ (n : ℕ). g (disk_of r (image_of r.family.base r.family.patches set)) == n) (same set m) ∙ known set m
+compared r f g value (Ok is) same known = λ set m.
+    ap (λ (n : ℕ). g (disk_of r (image_of r.family.base r.family.patches set)) == n) (same set m) ∙ known set m
 compared r f g value (Err id) same known = known
 
 -- the same of one that is another byte

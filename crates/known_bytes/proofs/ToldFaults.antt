@@ -14,19 +14,19 @@ use Rattle.crash_model.specs.Lists.{each_below, some_below, when}
 use Rattle.crash_model.specs.Faults.{each_slot, each_entry, is_dangling, is_twice, is_unwritten, has_low_links, faults}
 use Rattle.crash_model.specs.Faults.{entries_to, is_marked_free, is_wild, namers, names_block}
 use Rattle.crash_model.specs.Atomic.{is_half_done, atomic_faults}
-use Rattle.crash_model.specs.Checker.{Demands, faults_keeping, faults_showing, faults_under}
+use Rattle.crash_model.specs.Checker.{Demands, faults_keeping, faults_showing}
 use Rattle.crash_model.specs.Strict.{is_lost, lacks_block, strict_faults}
 use Rattle.crash_model.proofs.EachBelow.{some_below-none, each_below-none}
 use Rattle.crash_model.specs.declared.fault.Fault.{Fault}
 use Rattle.crash_model.specs.declared.fault.Fault.TheVariants.{Dangling, Twice, Unwritten, LowLinks, MarkedFree, Wild}
-use Rattle.crash_model.specs.declared.fault.Fault.TheVariants.{Lost, NoBlock, HalfDone}
+use Rattle.crash_model.specs.declared.fault.Fault.TheVariants.{Lost, NoBlock, HalfDone, BrokenPromise}
 use Rattle.known_bytes.specs.Texts.{half_done_there, has_fault, HasBytes}
 use Rattle.known_bytes.proofs.FaultTests.{no_names}
 
 -- ---- demands
 
 abbrev demands_of : Option ℕ → Option (List Disk) → Demands
-demands_of kept disks = record { kept = kept; disks = disks }
+demands_of kept disks = record { kept = kept; disks = disks; promises = None; counted = None }
 
 -- no disk need be shown
 abbrev keeping : Option ℕ → Demands
@@ -41,7 +41,7 @@ in_option (Some y) x h = elim (Contains-push_cases [] y x h) [
 ]
 in_option None x none = absurd (let less = none.1 in omega arith)
 
-from_some : {X : Type 0} (n : ℕ) (at : ℕ → Option X) (x : X) → Contains (some_below n at) x
+pub from_some : {X : Type 0} (n : ℕ) (at : ℕ → Option X) (x : X) → Contains (some_below n at) x
     → (k : ℕ) × (k < n) × (at k ≡ Some x)
 unfolding some_below
 from_some zero at x h = absurd (let less = h.1 in omega arith)
@@ -50,7 +50,7 @@ from_some (suc n) at x h = elim (Contains-append_cases (some_below n at) (option
   | inr here ↦ (n, omega arith, in_option (at n) x here)
 ]
 
-to_some : {X : Type 0} (n k : ℕ) (at : ℕ → Option X) (x : X) → k < n → at k ≡ Some x → Contains (some_below n at) x
+pub to_some : {X : Type 0} (n k : ℕ) (at : ℕ → Option X) (x : X) → k < n → at k ≡ Some x → Contains (some_below n at) x
 unfolding some_below
 to_some zero k at x less is = absurd (omega arith)
 to_some (suc n) k at x less is = elim (cases_eq k n) [
@@ -114,11 +114,11 @@ to_entries at x dir k few less is =
 
 -- ---- tests
 
-when_true : {X : Type 0} (b : Bool) (x y : X) → when b x ≡ Some y → b ≡ true
+pub when_true : {X : Type 0} (b : Bool) (x y : X) → when b x ≡ Some y → b ≡ true
 when_true true x y e = refl
 when_true false x y e = absurd (cc)
 
-when_value : {X : Type 0} (b : Bool) (x y : X) → when b x ≡ Some y → x ≡ y
+pub when_value : {X : Type 0} (b : Bool) (x y : X) → when b x ≡ Some y → x ≡ y
 when_value true x y e = cc
 when_value false x y e = absurd (cc)
 
@@ -132,15 +132,15 @@ below a b less = grind (arith, tests)
 from_below : (a b : ℕ) → nat_lt a b ≡ true → a < b
 from_below a b h = grind (arith, tests)
 
-left_of : (a b : Bool) → (a && b) ≡ true → a ≡ true
+pub left_of : (a b : Bool) → (a && b) ≡ true → a ≡ true
 left_of true b h = refl
 left_of false b h = absurd (cc)
 
-right_of : (a b : Bool) → (a && b) ≡ true → b ≡ true
+pub right_of : (a b : Bool) → (a && b) ≡ true → b ≡ true
 right_of true b h = h
 right_of false b h = absurd (cc)
 
-both : (a b : Bool) → a ≡ true → b ≡ true → (a && b) ≡ true
+pub both : (a b : Bool) → a ≡ true → b ≡ true → (a && b) ≡ true
 both true b h e = e
 both false b h e = absurd (cc)
 
@@ -171,7 +171,7 @@ twice_below d block twice = inside (twice_data d block twice)
 abbrev pub HasSmallTargets : Disk → Type 0
 HasSmallTargets d = (dir k : ℕ) → dir < 16 → k < 10 → is_dangling d dir k ≡ true → target_of d dir k < 255
 
-small_targets : (d : Disk) → HasBytes d → HasSmallTargets d
+pub small_targets : (d : Disk) → HasBytes d → HasSmallTargets d
 small_targets d bytes dir k few less is = omega (arith, bytes.small (128 * pointer_of d dir 0 + (8 + 12 * k)))
 
 -- ---- the lists
@@ -347,6 +347,7 @@ module _ (d : Disk) where
   six_told (Lost inode) h = absurd (cc)
   six_told (NoBlock inode) h = absurd (cc)
   six_told HalfDone h = absurd (cc)
+  six_told (BrokenPromise line) h = absurd (cc)
 
   -- and no other
   six_all : (f : Fault) → HasSmallTargets d → Contains (faults d) f → has_fault (keeping None) d f ≡ true
@@ -459,6 +460,7 @@ keeping_told (Some kept) d (Lost inode) h = Contains-append_right (faults d) (st
 keeping_told (Some kept) d (NoBlock inode) h = Contains-append_right (faults d) (strict_faults kept d) (NoBlock inode)
     (bare_listed kept d inode (from_below inode 16 (left_of (nat_lt inode 16) _ h)) (right_of (nat_lt inode 16) _ h))
 keeping_told (Some kept) d HalfDone h = absurd (cc)
+keeping_told (Some kept) d (BrokenPromise line) h = absurd (cc)
 
 with_strict : (kept : ℕ) (d : Disk) (f : Fault) → has_fault (keeping None) d f ≡ true
     → has_fault (keeping (Some kept)) d f ≡ true
@@ -471,6 +473,7 @@ with_strict kept d (Wild inode slot block) h = h
 with_strict kept d (Lost inode) h = absurd (cc)
 with_strict kept d (NoBlock inode) h = absurd (cc)
 with_strict kept d HalfDone h = absurd (cc)
+with_strict kept d (BrokenPromise line) h = absurd (cc)
 
 keeping_there : (kept : Option ℕ) (d : Disk) (f : Fault) → HasSmallTargets d → Contains (faults_keeping kept d) f
     → has_fault (keeping kept) d f ≡ true
@@ -518,6 +521,7 @@ module _ (kept : Option ℕ) (disks : Option (List Disk)) (d : Disk) where
   without_disks (Lost inode) h = inl h
   without_disks (NoBlock inode) h = inl h
   without_disks HalfDone h = inr (refl, h)
+  without_disks (BrokenPromise line) h = absurd (cc)
 
   with_disks : (f : Fault) → has_fault (keeping kept) d f ≡ true → has_fault (demands_of kept disks) d f ≡ true
   with_disks (Dangling dir k inode) h = h
@@ -529,6 +533,7 @@ module _ (kept : Option ℕ) (disks : Option (List Disk)) (d : Disk) where
   with_disks (Lost inode) h = h
   with_disks (NoBlock inode) h = h
   with_disks HalfDone h = absurd (cc)
+  with_disks (BrokenPromise line) h = absurd (cc)
 
 showing_told : (kept : Option ℕ) (disks : Option (List Disk)) (d : Disk) (f : Fault)
     → has_fault (demands_of kept disks) d f ≡ true → Contains (faults_showing disks d (faults_keeping kept d)) f
@@ -555,12 +560,27 @@ showing_there kept (Some disks) d f targets h =
 
 -- ---- all
 
+-- all faults of a disk, and none of a set
+abbrev pub disk_faults : Demands → Disk → List Fault
+disk_faults demands d = faults_showing demands.disks d (faults_keeping demands.kept d)
+
+-- the test of a fault asks for what is kept and for the disks alone
+same_test : (demands : Demands) (d : Disk) (f : Fault)
+    → has_fault demands d f ≡ has_fault (demands_of demands.kept demands.disks) d f
+same_test demands d (Dangling dir k inode) = refl
+same_test demands d (Twice block) = refl
+same_test demands d (Unwritten inode slot block) = refl
+same_test demands d (LowLinks inode entries links) = refl
+same_test demands d (MarkedFree inode slot block) = refl
+same_test demands d (Wild inode slot block) = refl
+same_test demands d (Lost inode) = refl
+same_test demands d (NoBlock inode) = refl
+same_test demands d HalfDone = refl
+same_test demands d (BrokenPromise line) = refl
+
 module _ (demands : Demands) (d : Disk) (f : Fault) where
-  pub all_told : has_fault demands d f ≡ true → Contains (faults_under demands d) f
-  all_told h = showing_told demands.kept demands.disks d f h
+  pub disk_told : has_fault demands d f ≡ true → Contains (disk_faults demands d) f
+  disk_told h = showing_told demands.kept demands.disks d f (sym (same_test demands d f) ∙ h)
 
-  pub all_there_of : HasSmallTargets d → Contains (faults_under demands d) f → has_fault demands d f ≡ true
-  all_there_of targets h = showing_there demands.kept demands.disks d f targets h
-
-  pub all_there : HasBytes d → Contains (faults_under demands d) f → has_fault demands d f ≡ true
-  all_there bytes h = all_there_of (small_targets d bytes) h
+  pub disk_there : HasSmallTargets d → Contains (disk_faults demands d) f → has_fault demands d f ≡ true
+  disk_there targets h = same_test demands d f ∙ showing_there demands.kept demands.disks d f targets h

@@ -6,5 +6,8 @@ pub mod Directories
 pub mod Counts
 pub mod Reached
 pub mod Texts
+pub mod SetFaults
+pub mod NamedIn
 pub mod Shown
+pub mod Slots
 pub mod Generations

@@ -10,7 +10,7 @@ use Rattle.crash_model.specs.Atomic.{is_half_done}
 use Rattle.crash_model.specs.Checker.{Demands}
 use Rattle.crash_model.specs.declared.fault.Fault.{Fault}
 use Rattle.crash_model.specs.declared.fault.Fault.TheVariants.{Dangling, Twice, Unwritten, LowLinks, MarkedFree, Wild}
-use Rattle.crash_model.specs.declared.fault.Fault.TheVariants.{Lost, NoBlock, HalfDone}
+use Rattle.crash_model.specs.declared.fault.Fault.TheVariants.{Lost, NoBlock, HalfDone, BrokenPromise}
 
 -- each by its numbers, which are those of an entry, a slot or an inode
 abbrev pub dangling_there : Disk → ℕ → ℕ → ℕ → Bool
@@ -49,7 +49,7 @@ abbrev pub half_done_there : Option (List Disk) → Disk → Bool
 half_done_there None d = false
 half_done_there (Some disks) d = is_half_done disks d
 
--- the disk has the fault, with what is demanded of it
+-- The disk has the fault, with what is demanded of it. A broken promise is a fault of a set, and not of a disk.
 abbrev pub has_fault : Demands → Disk → Fault → Bool
 has_fault demands d (Dangling dir k inode) = dangling_there d dir k inode
 has_fault demands d (Twice block) = twice_there d block
@@ -60,6 +60,7 @@ has_fault demands d (Wild inode slot block) = wild_there d inode slot block
 has_fault demands d (Lost inode) = lost_there demands.kept d inode
 has_fault demands d (NoBlock inode) = bare_there demands.kept d inode
 has_fault demands d HalfDone = half_done_there demands.disks d
+has_fault demands d (BrokenPromise line) = false
 
 -- all bytes are below 256
 pub record HasBytes (d : Disk) : Type 0 where

@@ -1,7 +1,7 @@
 //! Answers put together. An answer is one that holds for all disks of a family, or an undecided patch on which it
 //! depends.
 
-ghost use Rattle.std.specs.Prelude.{◌≡◌, ◌&&◌, ◌||◌, not, Bool, IsTrue, Ok, false};
+ghost use Rattle.std.specs.Prelude.{◌≡◌, ◌&&◌, ◌||◌, not, Bool, IsTrue, Ok, false, true};
 ghost use Rattle.crash_model.specs.Disk.{Disk};
 ghost use Rattle.known_bytes.specs.Reading.{Reading, IsKnown};
 
@@ -53,6 +53,16 @@ pub(crate) fn never_holds(answer: Result<bool, usize>) -> bool
 {
     match answer {
         Ok(holds) => !holds,
+        Err(_) => false,
+    }
+}
+
+/// Whether it holds of each disk.
+pub(crate) fn always_holds(answer: Result<bool, usize>) -> bool
+    ensures { IsTrue result → answer ≡ Ok true }
+{
+    match answer {
+        Ok(holds) => holds,
         Err(_) => false,
     }
 }

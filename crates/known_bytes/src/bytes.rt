@@ -84,6 +84,20 @@ impl<'a, A: Allocator + Copy> KnownBytes<'a, A> {
         self.chains.base()
     }
 
+    /// The patches that are held, as a set.
+    pub fn held(&self) -> u128
+        ensures { result ≡ self.now.held }
+    {
+        self.held
+    }
+
+    /// The patches that are neither held nor barred, as a set.
+    pub fn undecided(&self) -> u128
+        ensures { (id : ℕ) → (Has result id ↔ IsUndecided self.now id) }
+    {
+        self.undecided
+    }
+
     /// The byte of the image of the patches held.
     fn held_byte(&self, block: usize, offset: usize) -> u8
         requires block { block < self.now.base.blocks }

@@ -83,6 +83,26 @@ impl<'a, A: Allocator + Copy> KnownDisk<'a, A> {
         answer
     }
 
+    /// The values that a byte of a block has on any disk, and perhaps others.
+    pub(crate) fn values(&self, block: usize, offset: usize) -> ByteSet
+        requires block { block < self.now.family.base.blocks }
+        requires offset { offset < BLOCK_SIZE }
+        ensures { InEachDisk self.now (λ d. HasValue result.low result.high (byte d block offset)) }
+    {
+        // For the proof: how many blocks every image has at most.
+        let _blocks = self.bytes.base().blocks();
+        let home = usize::from(self.homes.blocks[block]);
+        let mut values = self.bytes.values(home, offset);
+        let others = self.homes.others[block];
+        let mut left = others;
+        while let Some(other) = lowest(left) {
+            let more = self.bytes.values(other, offset);
+            values = values.union(more);
+            left = without_lowest(left);
+        }
+        values
+    }
+
     /// The only value but 0 that a byte of a block has on any disk, or 0.
     pub(crate) fn only(&self, block: usize, offset: usize) -> Result<u8, usize>
         requires block { block < self.now.family.base.blocks }

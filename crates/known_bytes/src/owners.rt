@@ -48,7 +48,7 @@ impl<'a, A: Allocator + Copy> KnownDisk<'a, A> {
     }
 
     /// A byte of a block, if all disks have the same.
-    fn known(&self, block: usize, offset: usize) -> Result<u8, usize>
+    pub(crate) fn known(&self, block: usize, offset: usize) -> Result<u8, usize>
         requires block { block < self.now.family.base.blocks }
         requires offset { offset < BLOCK_SIZE }
         ensures { IsKnown self.now (λ d. byte d block offset) result }

@@ -32,6 +32,8 @@ impl<'a, A: Allocator + Copy> KnownDisk<'a, A> {
             Fault::Lost { inode } => self.has_lost(inode, demands.kept()),
             Fault::NoBlock { inode } => self.has_no_block(inode, demands.kept()),
             Fault::HalfDone => self.is_half_done(demands),
+            // A promise is of a set, and not of a disk alone.
+            Fault::BrokenPromise { .. } => Ok(false),
         }
     }
 

@@ -52,7 +52,7 @@ module _ (detail : Detail) (rules : List Rule) (rule : Rule) (base : Disk) (s : 
       record {
         closed = closed;
         unclean = λ clean. failing.unclean (subst (λ (ps : List Place).
-            IsCleanUnder detail.demands (image_after_replay (image_from 0 base ps set))) same clean);
+            IsCleanUnder detail.demands set (image_after_replay (image_from 0 base ps set))) same clean);
       }
 
   module _ (new : List ℕ) (exactly : AreAllInOrder (IsFailingUnder detail.demands base changed) new) where

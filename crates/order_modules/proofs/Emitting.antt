@@ -15,7 +15,7 @@ use Rattle.patch_sets.specs.Sets.{Has}
 use Rattle.patch_sets.proofs.Bits.{eq_or_not, none_in_empty, in_or_cases, in_or_left, in_or_right}
 use Rattle.crash_model.specs.Disk.{Disk, block_of, with_bytes}
 use Rattle.crash_model.specs.Patches.{Place, place, places_of, deps_of, overlap, AreUndo}
-use Rattle.crash_model.specs.Trace.{Emitted, is_same_group, shares_block, groups_depend, applies, depends}
+use Rattle.crash_model.specs.Trace.{Emitted, is_same_group, shares_block, groups_depend, waits_for, applies, depends}
 use Rattle.crash_model.specs.declared.patches.Patch.{Patch}
 use Rattle.crash_model.specs.declared.rules.Rule.{Rule}
 use Rattle.crash_model.specs.declared.modules.Module.{Module}
@@ -84,34 +84,35 @@ from_overlap : (q p : Emitted) → overlap q.place p.place ≡ true → (p.place
     × (p.place.offset < q.place.offset + length q.place.new) × (q.place.offset < p.place.offset + length p.place.new)
 from_overlap q p t = (grind (arith, tests), grind (arith, tests), grind (arith, tests))
 
-or_cases : (a b c d : Bool) → (a || b || c || d) ≡ true → (a ≡ true) ⊎ ((b ≡ true) ⊎ ((c || d) ≡ true))
-or_cases true b c d t = inl refl
-or_cases false true c d t = inr (inl refl)
-or_cases false false c d t = inr (inr t)
+or_cases : (a b c w d : Bool) → (a || b || c || w || d) ≡ true
+    → (a ≡ true) ⊎ ((b ≡ true) ⊎ ((c || w || d) ≡ true))
+or_cases true b c w d t = inl refl
+or_cases false true c w d t = inr (inl refl)
+or_cases false false c w d t = inr (inr t)
 
-or_first : (a b c d : Bool) → a ≡ true → (a || b || c || d) ≡ true
-or_first true b c d t = refl
-or_first false b c d t = absurd (cc)
+or_first : (a b c w d : Bool) → a ≡ true → (a || b || c || w || d) ≡ true
+or_first true b c w d t = refl
+or_first false b c w d t = absurd (cc)
 
-or_second : (a b c d : Bool) → b ≡ true → (a || b || c || d) ≡ true
-or_second true b c d t = refl
-or_second false true c d t = refl
-or_second false false c d t = absurd (cc)
+or_second : (a b c w d : Bool) → b ≡ true → (a || b || c || w || d) ≡ true
+or_second true b c w d t = refl
+or_second false true c w d t = refl
+or_second false false c w d t = absurd (cc)
 
-or_rest : (a b c d : Bool) → (c || d) ≡ true → (a || b || c || d) ≡ true
-or_rest true b c d t = refl
-or_rest false true c d t = refl
-or_rest false false c d t = t
+or_rest : (a b c w d : Bool) → (c || w || d) ≡ true → (a || b || c || w || d) ≡ true
+or_rest true b c w d t = refl
+or_rest false true c w d t = refl
+or_rest false false c w d t = t
 
 -- ---- one patch more
 
 -- the dependencies of groups and of rules look at labels alone
-rule_labels : (rules : List Rule) (links : List (List ℕ × List ℕ)) (p q r s : Place) (l m : Label)
-    → (groups_depend links (emitted_at p l) (emitted_at q m)
+rule_labels : (rules : List Rule) (links : List (List ℕ × List ℕ)) (p q r s : Place) (l : Label) (id : ℕ) (m : Label)
+    → (groups_depend links (emitted_at p l) (emitted_at q m) || waits_for (emitted_at p l) id
     || list_any (λ rule. applies rule (emitted_at p l) (emitted_at q m)) rules)
-    ≡ (groups_depend links (emitted_at r l) (emitted_at s m)
+    ≡ (groups_depend links (emitted_at r l) (emitted_at s m) || waits_for (emitted_at r l) id
     || list_any (λ rule. applies rule (emitted_at r l) (emitted_at s m)) rules)
-rule_labels rules links p q r s l m = refl
+rule_labels rules links p q r s l id m = refl
 
 patch_at : (ps : List Patch) (id : ℕ) (at : Place) → slice_get (places_of ps) id ≡ Some at → (x : Patch)
     × (slice_get ps id ≡ Some x) × (at ≡ place x.block x.offset x.new.items)
@@ -141,7 +142,7 @@ module _ (log : Log) (labels : List Label) (label : Label) (patch : Patch) (set 
 
   -- the dependencies of the new patch are those that it is to have
   new_deps : (p : ℕ) (before : Emitted) → slice_get log.emitted p ≡ Some before → Has set p
-      ↔ IsTrue (depends log.rules log.whole log.links (emitted_patch patch label) before)
+      ↔ IsTrue (depends log.rules log.whole log.links (emitted_patch patch label) p before)
   new_deps p before at =
       let found = label_at (places_of log.patches) labels p before
       (subst (λ (es : List Emitted). slice_get es p ≡ Some before) emitted at) in
@@ -154,7 +155,7 @@ module _ (log : Log) (labels : List Label) (label : Label) (patch : Patch) (set 
       let earlier_at : slice_get log.patches p ≡ Some earlier = there.1 in
       let place_is : stood ≡ place earlier.block earlier.offset earlier.new.items = there.2 in
       let rule = rule_labels log.rules log.links (place 0 0 []) (place 0 0 [])
-      (place patch.block patch.offset patch.new.items) stood label other in
+      (place patch.block patch.offset patch.new.items) stood label p other in
       let e : Emitted = emitted_patch patch label in
       let full : before ≡ emitted_patch earlier other = is_it ∙ ap (λ (at : Place). emitted_at at other) place_is in (
         λ has. elim ((adds p).0 has) [
@@ -162,32 +163,32 @@ module _ (log : Log) (labels : List Label) (label : Label) (patch : Patch) (set 
             | inl w ↦
                 let same : w.0 ≡ other = some_same (sym w.1 ∙ other_at) in
                 let t = subst (λ (l : Label). IsTrue (groups_depend log.links (emitted_of label) (emitted_of l)
-                || list_any (λ rule. applies rule (emitted_of label) (emitted_of l)) log.rules)) same w.2 in
-                subst (λ (b : Emitted). IsTrue (depends log.rules log.whole log.links e b)) (sym is_it)
+                || waits_for (emitted_of label) p || list_any (λ rule. applies rule (emitted_of label) (emitted_of l)) log.rules)) same w.2 in
+                subst (λ (b : Emitted). IsTrue (depends log.rules log.whole log.links e p b)) (sym is_it)
                 (or_rest (overlap e.place stood) (shares_block log.whole e (emitted_at stood other))
-                (groups_depend log.links e (emitted_at stood other))
+                (groups_depend log.links e (emitted_at stood other)) (waits_for e p)
                 (list_any (λ rule. applies rule e (emitted_at stood other)) log.rules) (sym rule ∙ t))
             | inr shared ↦
                 let same : shared.0 ≡ earlier = patch_same (sym shared.1 ∙ earlier_at) in
                 let t = subst (λ (x : Patch). IsTrue (log.whole && patch.block == x.block)) same shared.2 in
-                subst (λ (b : Emitted). IsTrue (depends log.rules log.whole log.links e b)) (sym full)
+                subst (λ (b : Emitted). IsTrue (depends log.rules log.whole log.links e p b)) (sym full)
                 (or_second (overlap e.place (place earlier.block earlier.offset earlier.new.items))
                 (shares_block log.whole e (emitted_patch earlier other))
-                (groups_depend log.links e (emitted_patch earlier other))
+                (groups_depend log.links e (emitted_patch earlier other)) (waits_for e p)
                 (list_any (λ rule. applies rule e (emitted_patch earlier other)) log.rules) t)
           ]
           | inr over ↦
               let same : over.0 ≡ earlier = patch_same (sym over.1 ∙ earlier_at) in
               let o : Overlaps earlier patch = subst (λ (x : Patch). Overlaps x patch) same over.2 in
-              subst (λ (b : Emitted). IsTrue (depends log.rules log.whole log.links e b)) (sym full)
+              subst (λ (b : Emitted). IsTrue (depends log.rules log.whole log.links e p b)) (sym full)
               (or_first (overlap e.place (place earlier.block earlier.offset earlier.new.items))
               (shares_block log.whole e (emitted_patch earlier other))
-              (groups_depend log.links e (emitted_patch earlier other))
+              (groups_depend log.links e (emitted_patch earlier other)) (waits_for e p)
               (list_any (λ rule. applies rule e (emitted_patch earlier other)) log.rules)
               (overlap_true e (emitted_patch earlier other) o.together o.below o.above))
         ],
         λ t. elim (or_cases (overlap e.place before.place) (shares_block log.whole e before)
-            (groups_depend log.links e before) (list_any (λ rule. applies rule e before) log.rules) t) [
+            (groups_depend log.links e before) (waits_for e p) (list_any (λ rule. applies rule e before) log.rules) t) [
               | inl over ↦
                   let o = from_overlap e (emitted_patch earlier other)
                   (subst (λ (b : Emitted). overlap e.place b.place ≡ true) full over) in
@@ -197,7 +198,7 @@ module _ (log : Log) (labels : List Label) (label : Label) (patch : Patch) (set 
                     let s = subst (λ (b : Emitted). shares_block log.whole e b ≡ true) full shared in
                     (adds p).1 (inl ((waits p).1 (inr (earlier, earlier_at, s))))
                 | inr rest ↦
-                    let r = subst (λ (b : Emitted). (groups_depend log.links e b
+                    let r = subst (λ (b : Emitted). (groups_depend log.links e b || waits_for e p
                     || list_any (λ rule. applies rule e b) log.rules) ≡ true) is_it rest in
                     (adds p).1 (inl ((waits p).1 (inl (other, other_at, rule ∙ r))))
               ]
@@ -274,7 +275,7 @@ module _ (log : Log) (labels : List Label) (label : Label) (patch : Patch) (set 
           → slice_get (log.emitted ++ emitted_patch patch label ∷ []) q ≡ Some later
           → slice_get (log.emitted ++ emitted_patch patch label ∷ []) p ≡ Some before
           → (Has (slice_index (deps_of (log.patches ++ record patch { deps = set } ∷ [])) q) p
-          ↔ IsTrue (depends log.rules log.whole log.links later before))
+          ↔ IsTrue (depends log.rules log.whole log.links later p before))
       exactly q p later before less at_q at_p =
           elim (get_push log.emitted (emitted_patch patch label) later q at_q) [
             | inl old_q ↦
@@ -286,7 +287,7 @@ module _ (log : Log) (labels : List Label) (label : Label) (patch : Patch) (set 
                       ≡ slice_index (deps_of log.patches) q =
                       ap (λ (xs : List ℕ). slice_index xs q) deps_push
                       ∙ get_or_append_left (deps_of log.patches) (set ∷ []) 0 q within in
-                      subst (λ (s : ℕ). Has s p ↔ IsTrue (depends log.rules log.whole log.links later before))
+                      subst (λ (s : ℕ). Has s p ↔ IsTrue (depends log.rules log.whole log.links later p before))
                       (sym here)
                       (is.graph.exactly q p later before less old_q old_p)
                   | inr new_p ↦ let where_p : p ≡ length log.emitted = new_p.0 in absurd (omega arith)
@@ -298,9 +299,9 @@ module _ (log : Log) (labels : List Label) (label : Label) (patch : Patch) (set 
                       let here : slice_index (deps_of (log.patches ++ record patch { deps = set } ∷ [])) q ≡ set =
                       ap (λ (xs : List ℕ). slice_index xs q) deps_push
                       ∙ get_or_push (deps_of log.patches) set 0 q (omega (arith, same_long, deps_long)) in
-                      subst (λ (s : ℕ). Has s p ↔ IsTrue (depends log.rules log.whole log.links later before))
+                      subst (λ (s : ℕ). Has s p ↔ IsTrue (depends log.rules log.whole log.links later p before))
                       (sym here)
-                      (subst (λ (l : Emitted). Has set p ↔ IsTrue (depends log.rules log.whole log.links l before))
+                      (subst (λ (l : Emitted). Has set p ↔ IsTrue (depends log.rules log.whole log.links l p before))
                       (sym new_q.1)
                       (new_deps p before old_p))
                   | inr new_p ↦ let where_p : p ≡ length log.emitted = new_p.0 in absurd (omega arith)

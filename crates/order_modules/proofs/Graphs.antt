@@ -17,12 +17,12 @@ graph_of_log log rules base s is same_rules same_base same_emitted same_links sa
   undo = subst (λ (d : Disk). AreUndo d log.patches) same_base is.graph.undo;
   earlier = is.graph.earlier;
   exactly = λ q p later before less one two.
-      subst (λ (w : Bool). Has (slice_index (deps_of log.patches) q) p ↔ IsTrue (depends rules w s.links later before))
+      subst (λ (w : Bool). Has (slice_index (deps_of log.patches) q) p ↔ IsTrue (depends rules w s.links later p before))
       (sym same_whole)
-      (subst (λ ls. Has (slice_index (deps_of log.patches) q) p ↔ IsTrue (depends rules log.whole ls later before))
+      (subst (λ ls. Has (slice_index (deps_of log.patches) q) p ↔ IsTrue (depends rules log.whole ls later p before))
       (sym same_links)
       (subst (λ rs. Has (slice_index (deps_of log.patches) q) p
-      ↔ IsTrue (depends rs log.whole log.links later before)) same_rules
+      ↔ IsTrue (depends rs log.whole log.links later p before)) same_rules
       (is.graph.exactly q p later before less
       (subst (λ (es : List Emitted). slice_get es q ≡ Some later) same_emitted one)
       (subst (λ (es : List Emitted). slice_get es p ≡ Some before) same_emitted two))));

@@ -5,5 +5,7 @@ pub mod Linking
 pub mod Graphs
 pub mod Grouping
 pub mod Planning
+pub mod ForcedIds
 pub mod Steps
 pub mod Turning
+pub mod WaitSteps

@@ -8,7 +8,7 @@ use Rattle.std.proofs.lemmas.List.Folds.{list_any-append}
 use Rattle.patch_sets.specs.Sets.{Has}
 use Rattle.crash_model.specs.Disk.{Disk}
 use Rattle.crash_model.specs.Patches.{places_of, deps_of, overlap}
-use Rattle.crash_model.specs.Trace.{Emitted, is_same_group, shares_block, groups_depend, applies, depends}
+use Rattle.crash_model.specs.Trace.{Emitted, is_same_group, shares_block, groups_depend, waits_for, applies, depends}
 use Rattle.crash_model.specs.declared.patches.Patch.{Patch}
 use Rattle.crash_model.specs.declared.rules.Rule.{Rule}
 use Rattle.crash_model.specs.declared.modules.Module.{Module}
@@ -29,7 +29,7 @@ log-link log later earlier is none = record {
     earlier = is.graph.earlier;
     exactly = λ q p l b less at_q at_p.
         subst (λ (t : Bool). Has (slice_index (deps_of log.patches) q) p ↔ IsTrue t)
-        (sym (more_links log.rules log.whole log.links later earlier l b (none_at log.emitted later q l none at_q)))
+        (sym (more_links log.rules log.whole log.links later earlier l p b (none_at log.emitted later q l none at_q)))
         (is.graph.exactly q p l b less at_q at_p);
   };
 }
@@ -60,10 +60,10 @@ log-link log later earlier is none = record {
     and_false a b h = rw h refl
 
     more_links : (rules : List Rule) (whole : Bool) (links : List (List ℕ × List ℕ)) (later earlier : List ℕ)
-        (q p : Emitted) → is_same_group q.origin.group later ≡ false
-        → depends rules whole (links ++ (later, earlier) ∷ []) q p ≡ depends rules whole links q p
-    more_links rules whole links later earlier q p none =
-        ap (λ (t : Bool). overlap q.place p.place || shares_block whole q p || t
+        (q : Emitted) (id : ℕ) (p : Emitted) → is_same_group q.origin.group later ≡ false
+        → depends rules whole (links ++ (later, earlier) ∷ []) q id p ≡ depends rules whole links q id p
+    more_links rules whole links later earlier q id p none =
+        ap (λ (t : Bool). overlap q.place p.place || shares_block whole q p || t || waits_for q id
         || list_any (λ rule. applies rule q p) rules)
         (list_any-append (λ link. is_same_group q.origin.group link.0 && is_same_group p.origin.group link.1) links
         ((later, earlier) ∷ [])

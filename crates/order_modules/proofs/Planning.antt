@@ -36,7 +36,7 @@ nat_lt-true a b h = grind (arith, tests)
 abbrev pub after_plan : Module → ℕ → Op → Tracing → List Change → Tracing
 after_plan kind line op s cs = record s {
   disk = with_changes s.disk cs;
-  emitted = s.emitted ++ patches_by kind (with_changes s.disk cs) s.turn s.journal (origin_at line op s.current) cs;
+  emitted = s.emitted ++ patches_by kind (with_changes s.disk cs) s.turn s.journal (origin_at line op s.current s.forced) cs;
   turn = s.turn + 1;
   journal = s.journal + journal_blocks kind s.disk.blocks cs;
 }
@@ -48,22 +48,22 @@ module _ (kind : Module) (line : ℕ) (op : Op) (s : Tracing) (cs : List Change)
 
   pub planned_many : s.journal + journal_blocks kind s.disk.blocks cs ≤ 4 + s.disk.journal
       → 124 < length s.emitted + length (patches_by kind (with_changes s.disk cs) s.turn s.journal
-      (origin_at line op s.current) cs) → trace_of_plan kind line op s (Ok cs) ≡ Err (fault.TooManyPatches line)
+      (origin_at line op s.current s.forced) cs) → trace_of_plan kind line op s (Ok cs) ≡ Err (fault.TooManyPatches line)
   planned_many fits many = rw (
     nat_lt-false (4 + s.disk.journal) (s.journal + journal_blocks kind s.disk.blocks cs)
         fits,
     nat_lt-true 124 (length s.emitted + length (patches_by kind (with_changes s.disk cs) s.turn s.journal
-        (origin_at line op s.current) cs)) many,
+        (origin_at line op s.current s.forced) cs)) many,
   ) refl
 
   pub planned_ok : s.journal + journal_blocks kind s.disk.blocks cs ≤ 4 + s.disk.journal
       → length s.emitted + length (patches_by kind (with_changes s.disk cs) s.turn s.journal
-      (origin_at line op s.current) cs) ≤ 124 → trace_of_plan kind line op s (Ok cs)
+      (origin_at line op s.current s.forced) cs) ≤ 124 → trace_of_plan kind line op s (Ok cs)
       ≡ Ok (after_plan kind line op s cs)
   planned_ok fits few = rw (
     nat_lt-false (4 + s.disk.journal) (s.journal + journal_blocks kind s.disk.blocks cs) fits,
     nat_lt-false 124 (length s.emitted + length (patches_by kind (with_changes s.disk cs) s.turn s.journal
-        (origin_at line op s.current) cs)) few,
+        (origin_at line op s.current s.forced) cs)) few,
   ) refl
 
 -- ---- in place
@@ -221,20 +221,20 @@ module _ (old : Trace) (line : ℕ) (op : Op) (cs : List Change) (log : Log) (di
     (same_whole : old.tracing.whole ≡ old.log.whole) (here : disk ≡ with_changes old.tracing.disk cs) where
   tracing_is : (kind : Module) (more : List Emitted) → Adds old.log log more
       → more ≡ patches_by kind (with_changes old.tracing.disk cs) old.tracing.turn old.tracing.journal
-      (origin_at line op old.tracing.current) cs
+      (origin_at line op old.tracing.current old.tracing.forced) cs
       → turn ≡ old.tracing.turn + 1 → next ≡ old.tracing.journal + journal_blocks kind old.tracing.disk.blocks cs
       → after_plan kind line op old.tracing cs ≡ (trace_with old log disk turn next).tracing
   tracing_is kind more adds is turns nexts =
       let make : Disk → List Emitted → ℕ → ℕ → List (List ℕ × List ℕ) → Bool → Tracing = λ d es t j ls w.
       record old.tracing { disk = d; emitted = es; turn = t; journal = j; whole = w; links = ls } in
       let es : old.tracing.emitted ++ patches_by kind (with_changes old.tracing.disk cs) old.tracing.turn
-      old.tracing.journal (origin_at line op old.tracing.current) cs ≡ log.emitted =
+      old.tracing.journal (origin_at line op old.tracing.current old.tracing.forced) cs ≡ log.emitted =
       ap (λ (xs : List Emitted). xs ++ patches_by kind (with_changes old.tracing.disk cs) old.tracing.turn
-      old.tracing.journal (origin_at line op old.tracing.current) cs) same
+      old.tracing.journal (origin_at line op old.tracing.current old.tracing.forced) cs) same
       ∙ ap (λ (xs : List Emitted). old.log.emitted ++ xs) (sym is) ∙ sym adds.emitted in
       let ls : old.tracing.links ≡ log.links = same_links ∙ sym adds.links in
       ap (λ (d : Disk). make d (old.tracing.emitted ++ patches_by kind (with_changes old.tracing.disk cs)
-      old.tracing.turn old.tracing.journal (origin_at line op old.tracing.current) cs) (old.tracing.turn + 1)
+      old.tracing.turn old.tracing.journal (origin_at line op old.tracing.current old.tracing.forced) cs) (old.tracing.turn + 1)
       (old.tracing.journal + journal_blocks kind old.tracing.disk.blocks cs) old.tracing.links old.tracing.whole)
       (sym here)
       ∙ ap (λ (xs : List Emitted). make disk xs (old.tracing.turn + 1)
@@ -247,7 +247,7 @@ module _ (old : Trace) (line : ℕ) (op : Op) (cs : List Change) (log : Log) (di
 
   moves_by : (more : List Emitted) → Adds old.log log more
       → more ≡ patches_by old.log.kind (with_changes old.tracing.disk cs) old.tracing.turn old.tracing.journal
-      (origin_at line op old.tracing.current) cs
+      (origin_at line op old.tracing.current old.tracing.forced) cs
       → turn ≡ old.tracing.turn + 1 → next ≡ old.tracing.journal + journal_blocks old.log.kind old.tracing.disk.blocks
       cs
       → next ≤ 4 + old.tracing.disk.journal → length old.tracing.emitted + length more ≤ 124
@@ -264,51 +264,51 @@ module _ (old : Trace) (line : ℕ) (op : Op) (cs : List Change) (log : Log) (di
   }
 
   pub moves_in_place : IsOrdered old.log.kind → Adds old.log log
-      (map (in_place_patch old.tracing.turn (origin_at line op old.tracing.current)) (changes_in_place old.log.kind cs))
+      (map (in_place_patch old.tracing.turn (origin_at line op old.tracing.current old.tracing.forced)) (changes_in_place old.log.kind cs))
       → turn ≡ old.tracing.turn + 1 → next ≡ old.tracing.journal
       → old.tracing.journal ≤ 4 + old.tracing.disk.journal → length old.tracing.emitted + length cs ≤ 124
       → Moves old (trace_with old log disk turn next) (trace_of_plan old.log.kind line op old.tracing (Ok cs))
   moves_in_place order adds turns nexts fits few =
       let all : changes_in_place old.log.kind cs ≡ cs = placed_all old.log.kind cs order in
-      let more : List Emitted = map (in_place_patch old.tracing.turn (origin_at line op old.tracing.current))
+      let more : List Emitted = map (in_place_patch old.tracing.turn (origin_at line op old.tracing.current old.tracing.forced))
       (changes_in_place old.log.kind cs) in
       let is : more ≡ patches_by old.log.kind (with_changes old.tracing.disk cs) old.tracing.turn old.tracing.journal
-      (origin_at line op old.tracing.current) cs =
-      ap (λ (xs : List Change). map (in_place_patch old.tracing.turn (origin_at line op old.tracing.current)) xs) all
+      (origin_at line op old.tracing.current old.tracing.forced) cs =
+      ap (λ (xs : List Change). map (in_place_patch old.tracing.turn (origin_at line op old.tracing.current old.tracing.forced)) xs) all
       ∙ sym (ordered_patches old.log.kind (with_changes old.tracing.disk cs) old.tracing.turn old.tracing.journal
-      (origin_at line op old.tracing.current) cs order) in
+      (origin_at line op old.tracing.current old.tracing.forced) cs order) in
       let none : journal_blocks old.log.kind old.tracing.disk.blocks cs ≡ 0 =
       ordered_blocks old.log.kind old.tracing.disk.blocks cs order in
       let long : length more ≡ length cs = length-map (changes_in_place old.log.kind cs)
-      (in_place_patch old.tracing.turn (origin_at line op old.tracing.current))
+      (in_place_patch old.tracing.turn (origin_at line op old.tracing.current old.tracing.forced))
       ∙ ap (λ (xs : List Change). length xs) all in
       moves_by more adds is turns (omega arith) (omega arith) (omega arith)
 
   pub moves_journaled : (targets : List ℕ) → IsJournaled old.log.kind
       → targets ≡ targets_of old.log.kind old.tracing.disk.blocks cs
       → Adds old.log log (transaction_of old.log.kind disk old.tracing.turn old.tracing.journal
-      (origin_at line op old.tracing.current) targets cs) → turn ≡ old.tracing.turn + 1
+      (origin_at line op old.tracing.current old.tracing.forced) targets cs) → turn ≡ old.tracing.turn + 1
       → next ≡ old.tracing.journal + (1 + length targets)
       → next ≤ 4 + old.tracing.disk.journal → length old.tracing.emitted + (length cs + length targets + 2) ≤ 124
       → Moves old (trace_with old log disk turn next) (trace_of_plan old.log.kind line op old.tracing (Ok cs))
   moves_journaled targets order targets_are adds turns nexts fits few =
       let more : List Emitted = transaction_of old.log.kind disk old.tracing.turn old.tracing.journal
-      (origin_at line op old.tracing.current) targets cs in
+      (origin_at line op old.tracing.current old.tracing.forced) targets cs in
       let same_blocks : targets ≡ targets_of old.log.kind (with_changes old.tracing.disk cs).blocks cs = targets_are
       ∙ ap (λ (n : ℕ). targets_of old.log.kind n cs) (sym (with_changes-blocks old.tracing.disk cs)) in
       let is : more ≡ patches_by old.log.kind (with_changes old.tracing.disk cs) old.tracing.turn old.tracing.journal
-      (origin_at line op old.tracing.current) cs =
+      (origin_at line op old.tracing.current old.tracing.forced) cs =
       ap (λ (d : Disk). transaction_of old.log.kind d old.tracing.turn old.tracing.journal
-      (origin_at line op old.tracing.current) targets cs) here
+      (origin_at line op old.tracing.current old.tracing.forced) targets cs) here
       ∙ ap (λ (ts : List ℕ). transaction_of old.log.kind (with_changes old.tracing.disk cs) old.tracing.turn
-      old.tracing.journal (origin_at line op old.tracing.current) ts cs) same_blocks
+      old.tracing.journal (origin_at line op old.tracing.current old.tracing.forced) ts cs) same_blocks
       ∙ sym (journaled_patches old.log.kind (with_changes old.tracing.disk cs) old.tracing.turn old.tracing.journal
-      (origin_at line op old.tracing.current) cs order) in
+      (origin_at line op old.tracing.current old.tracing.forced) cs order) in
       let some : journal_blocks old.log.kind old.tracing.disk.blocks cs ≡ 1 + length targets =
       journaled_blocks old.log.kind old.tracing.disk.blocks cs order
       ∙ ap (λ (ts : List ℕ). 1 + length ts) (sym targets_are) in
       let long : length more ≡ length cs + length targets + 2 = length-transaction old.log.kind disk old.tracing.turn
-      old.tracing.journal (origin_at line op old.tracing.current) targets cs in
+      old.tracing.journal (origin_at line op old.tracing.current old.tracing.forced) targets cs in
       moves_by more adds is turns (nexts ∙ ap (λ (n : ℕ). old.tracing.journal + n) (sym some)) fits (omega arith)
 
 -- ---- refusals
@@ -326,10 +326,10 @@ refused_in_place old line op cs order fits many =
     let none : journal_blocks old.log.kind old.tracing.disk.blocks cs ≡ 0 =
     ordered_blocks old.log.kind old.tracing.disk.blocks cs order in
     let long : length (patches_by old.log.kind (with_changes old.tracing.disk cs) old.tracing.turn old.tracing.journal
-    (origin_at line op old.tracing.current) cs) ≡ length cs =
+    (origin_at line op old.tracing.current old.tracing.forced) cs) ≡ length cs =
     ap (λ (xs : List Emitted). length xs) (ordered_patches old.log.kind (with_changes old.tracing.disk cs)
-    old.tracing.turn old.tracing.journal (origin_at line op old.tracing.current) cs order)
-    ∙ length-map cs (in_place_patch old.tracing.turn (origin_at line op old.tracing.current)) in
+    old.tracing.turn old.tracing.journal (origin_at line op old.tracing.current old.tracing.forced) cs order)
+    ∙ length-map cs (in_place_patch old.tracing.turn (origin_at line op old.tracing.current old.tracing.forced)) in
     planned_many old.log.kind line op old.tracing cs (omega arith) (omega arith)
 
 module _ (old : Trace) (line : ℕ) (op : Op) (cs : List Change) (targets : List ℕ) (order : IsJournaled old.log.kind)
@@ -350,13 +350,13 @@ module _ (old : Trace) (line : ℕ) (op : Op) (cs : List Change) (targets : List
       let same : targets_of old.log.kind after.blocks cs ≡ targets = ap (λ (n : ℕ). targets_of old.log.kind n cs)
       (with_changes-blocks old.tracing.disk cs) ∙ sym targets_are in
       let long : length (patches_by old.log.kind after old.tracing.turn old.tracing.journal
-      (origin_at line op old.tracing.current) cs) ≡ length cs + length targets + 2 =
+      (origin_at line op old.tracing.current old.tracing.forced) cs) ≡ length cs + length targets + 2 =
       ap (λ (xs : List Emitted). length xs) (journaled_patches old.log.kind after old.tracing.turn old.tracing.journal
-      (origin_at line op old.tracing.current) cs order
+      (origin_at line op old.tracing.current old.tracing.forced) cs order
       ∙ ap (λ (ts : List ℕ). transaction_of old.log.kind after old.tracing.turn old.tracing.journal
-      (origin_at line op old.tracing.current) ts cs) same)
+      (origin_at line op old.tracing.current old.tracing.forced) ts cs) same)
       ∙ length-transaction old.log.kind after old.tracing.turn old.tracing.journal
-      (origin_at line op old.tracing.current) targets cs in
+      (origin_at line op old.tracing.current old.tracing.forced) targets cs in
       planned_many old.log.kind line op old.tracing cs (omega (arith, takes)) (omega arith)
 
 -- what was read of the targets

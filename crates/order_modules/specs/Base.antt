@@ -8,8 +8,8 @@ use Rattle.crash_model.specs.Refusals.{trace_fault}
 use Rattle.crash_model.specs.declared.operations.Op.{Op}
 use Rattle.crash_model.specs.declared.refusals.FsFault.{FsFault}
 use Rattle.crash_model.specs.declared.refusals.TraceFault.{TraceFault}
-use Rattle.crash_model.specs.declared.refusals.TraceFault.TheVariants.{GroupFault}
-use Rattle.crash_model.specs.declared.steps.Act.TheVariants.{Do}
+use Rattle.crash_model.specs.declared.refusals.TraceFault.TheVariants.{GroupFault, OnlyAfterStart}
+use Rattle.crash_model.specs.declared.steps.Act.TheVariants.{Do, Group, End, Depend}
 use Rattle.crash_model.specs.declared.steps.Step.{Step}
 
 -- the disk after the operations before the first refused step
@@ -29,12 +29,21 @@ abbrev pub StepsTurn : Disk → List Step → Disk → Type 0
 StepsTurn d [] end = end ≡ d
 StepsTurn d (x ∷ xs) end = (next : Disk) × StepTurns d x next × StepsTurn next xs end
 
--- the step is refused, exactly as the contents of the disk require, or is one on groups
+-- how a step is refused that is no operation
+abbrev pub base_refusal : Step → TraceFault
+base_refusal x = elim x.act [
+  | Group _ ↦ GroupFault x.line
+  | End ↦ GroupFault x.line
+  | Depend _ _ ↦ GroupFault x.line
+  | _ ↦ OnlyAfterStart x.line
+]
+
+-- the step is refused, exactly as the contents of the disk require, or is no operation
 abbrev pub IsStopped : Disk → Step → TraceFault → Type 0
 IsStopped d x fault =
     ((op : Op) × (why : FsFault) × (x.act ≡ Do op) × IsRefused d.blocks d.journal (view_of d) op why
     × (fault ≡ trace_fault x.line why))
-    ⊎ (((op : Op) → ¬ (x.act ≡ Do op)) × (fault ≡ GroupFault x.line))
+    ⊎ (((op : Op) → ¬ (x.act ≡ Do op)) × (fault ≡ base_refusal x))
 
 -- the same up to a step that is refused, which changes nothing
 abbrev pub StepsStop : Disk → List Step → Disk → TraceFault → Type 0

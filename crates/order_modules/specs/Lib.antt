@@ -1,4 +1,5 @@
 pub mod Base
+pub mod Forcing
 pub mod Log
 pub mod Tracer
 pub mod Transactions

@@ -4,7 +4,7 @@ use Rattle.std.specs.Prelude.{IsTrue}
 use Rattle.std.specs.List.{list_any}
 use Rattle.crash_model.specs.Disk.{Disk, with_bytes}
 use Rattle.crash_model.specs.Patches.{Place, places_of}
-use Rattle.crash_model.specs.Trace.{Emitted, trace_start, IsGraphOf, groups_depend, applies}
+use Rattle.crash_model.specs.Trace.{Emitted, trace_start, IsGraphOf, groups_depend, waits_for, applies}
 use Rattle.crash_model.specs.declared.patches.Patch.{Patch}
 use Rattle.crash_model.specs.declared.rules.Rule.{Rule}
 use Rattle.crash_model.specs.declared.modules.Module.{Module}
@@ -71,7 +71,7 @@ pub record Adds (old new : Log) (more : List Emitted) : Type 0 where
 abbrev pub WaitsAt : List Rule → List (List ℕ × List ℕ) → List Label → Label → ℕ → Type 0
 WaitsAt rules links labels later id =
     (earlier : Label) × (slice_get labels id ≡ Some earlier)
-    × IsTrue (groups_depend links (emitted_of later) (emitted_of earlier)
+    × IsTrue (groups_depend links (emitted_of later) (emitted_of earlier) || waits_for (emitted_of later) id
     || list_any (λ rule. applies rule (emitted_of later) (emitted_of earlier)) rules)
 
 -- blocks are written whole, and the patch with this id changes the block

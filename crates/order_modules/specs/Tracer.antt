@@ -4,6 +4,7 @@ use Rattle.std.specs.Borrow.{Bor}
 use Rattle.crash_model.specs.declared.disk_bytes.TheConstants.{JOURNAL_AT}
 use Rattle.crash_model.specs.Disk.{Disk, IsDisk}
 use Rattle.crash_model.specs.Trace.{Tracing}
+use Rattle.crash_model.specs.Waiting.{Wait}
 use Rattle.crash_model.specs.declared.refusals.TraceFault.{TraceFault}
 use Rattle.crash_model.specs.declared.refusals.TraceFault.TheVariants.{OutOfMemory}
 use Rattle.crash_model.specs.declared.modules.Module.{Module}
@@ -45,8 +46,8 @@ pub record Trace : Type 0 where
   pub tracing : Tracing
 
 -- by what a tracer keeps
-abbrev pub trace_of : Log → Disk → ℕ → ℕ → Option (List ℕ) → List (List ℕ) → List (List ℕ) → Trace
-trace_of log disk turn next current opened ended = record {
+abbrev pub trace_of : Log → Disk → ℕ → ℕ → Option (List ℕ) → List (List ℕ) → List (List ℕ) → ℕ → List Wait → Trace
+trace_of log disk turn next current opened ended forced waits = record {
   log = log;
   tracing = record {
     disk = disk;
@@ -58,6 +59,8 @@ trace_of log disk turn next current opened ended = record {
     opened = opened;
     ended = ended;
     links = log.links;
+    forced = forced;
+    waits = waits;
   };
 }
 

@@ -4,7 +4,7 @@ ghost use Rattle.std.specs.Prelude.{◌≡◌, Ok, Err, OnOk, IfOk, IfErr};
 ghost use Rattle.crash_model.specs.Trace.{base_from};
 ghost use Rattle.crash_model.specs.Sound.{IsSound};
 ghost use Rattle.inode_fs.specs.Inside.{HasSameJournal};
-ghost use Rattle.order_modules.specs.Base.{disk_before_refusal, StepsTurn, StepsStop};
+ghost use Rattle.order_modules.specs.Base.{base_refusal, disk_before_refusal, StepsTurn, StepsStop};
 
 use crash_model::refusals::TraceFault;
 use crash_model::steps::{Act, Step};
@@ -14,9 +14,10 @@ use std::alloc::Allocator;
 
 /// Applies the operations of the steps, in order, up to the first refused step.
 ///
-/// A refused operation changes nothing; a step on groups is refused, since groups order only traced patches. The
-/// journal is not touched, and a sound image stays sound. On a sound image each operation makes the disk gain and lose
-/// what it means, and a step is refused exactly as the disk before it requires. It takes no memory.
+/// A refused operation changes nothing; a step on groups, one that waits and one that promises are refused, since they
+/// are about traced patches. The journal is not touched, and a sound image stays sound. On a sound image each operation
+/// makes the disk gain and lose what it means, and a step is refused exactly as the disk before it requires. It takes no
+/// memory.
 pub fn build_base<A: Allocator + Copy>(
     image: &mut Image<A>,
     steps: &[Step],
@@ -30,8 +31,9 @@ pub fn build_base<A: Allocator + Copy>(
     ensures stops { IsSound image.old → IfErr result (λ fault. StepsStop image.old steps.now image.new fault) }
 {
     for step in steps {
-        let Act::Do(op) = &step.act else {
-            return Err(TraceFault::GroupFault { line: step.line });
+        let op = match &step.act {
+            Act::Do(op) => op,
+            _ => return Err(no_operation(step)),
         };
         match plan(image, op) {
             Ok(plan) => apply(image, &plan),
@@ -39,4 +41,15 @@ pub fn build_base<A: Allocator + Copy>(
         }
     }
     Ok(())
+}
+
+/// How a step is refused that is no operation.
+fn no_operation(step: &Step) -> TraceFault
+    ensures { result ≡ base_refusal step.now }
+{
+    let line = step.line;
+    match &step.act {
+        Act::Group(_) | Act::End | Act::Depend(_, _) => TraceFault::GroupFault { line },
+        _ => TraceFault::OnlyAfterStart { line },
+    }
 }

@@ -6,11 +6,13 @@
 #![tactic(auto)]
 
 mod base;
+mod forcing;
 mod groups;
 mod log;
 mod stepping;
 mod tracer;
 mod transactions;
+mod waiting;
 mod without_rule;
 
 pub use base::build_base;

@@ -1,20 +1,23 @@
 //! The patches so far.
 
 ghost use Rattle.std.specs.Prelude.{◌≡◌, ℕ, ◌+◌, ◌<◌, ◌≤◌, ◌↔◌, [], ◌∷◌, ◌++◌, length, false, IsTrue, OnOk, OnErr};
-ghost use Rattle.std.specs.Prelude.{IfOk, ◌&&◌, ◌==◌};
+ghost use Rattle.std.specs.Prelude.{IfOk, ◌&&◌, ◌==◌, map};
 ghost use Rattle.std.specs.List.{list_any};
 ghost use Rattle.patch_sets.specs.Sets.{Has};
-ghost use Rattle.crash_model.specs.Patches.{place};
+ghost use Rattle.crash_model.specs.Patches.{place, places_of};
 ghost use Rattle.crash_model.specs.Trace.{is_same_group};
+ghost use Rattle.crash_model.specs.Waiting.{forced_by_sync, fsync_forces, ids_from};
 ghost use Rattle.traced_patches.specs.Labels.{emitted_at, group_by, links_by};
 ghost use Rattle.order_modules.specs.Log.{Adds, IsLog, Keeps, WaitsAt, SharesAt};
 
+use crate::forcing;
 use arrayvec::ArrayVec;
 use crash_model::disk_bytes::BLOCK_SIZE;
 use crash_model::modules::Module;
 use crash_model::names::GroupName;
 use crash_model::orderings::Ordering;
 use crash_model::patches::Patch;
+use crash_model::ranges::Range;
 use crash_model::rules::Rule;
 use disk_image::Image;
 use patch_graph::{Graph, GraphFault, MAX_PATCHES};
@@ -124,6 +127,33 @@ impl<'a, A: Allocator + Copy> PatchLog<'a, A> {
         Ok(())
     }
 
+    /// The ids of the patches that a line `sync` waits for: all; under a journal the file data and the commits.
+    pub fn forced_by_sync(&self) -> u128
+        ensures { result ≡ forced_by_sync self.now.kind self.now.emitted }
+    {
+        let few = self.graph.len() <= MAX_PATCHES;
+        prove!(few);
+        forcing::forced_by_sync(self.ordering.module, self.labels.as_slice())
+    }
+
+    /// The ids of the patches that a line `fsync` waits for: those that meet the ranges of its path; under a journal the
+    /// file data among them, and the commit of the last operation of which file data or a change in place is among them.
+    pub fn forced_by_fsync(&self, ranges: &[Range]) -> u128
+        ensures { result ≡ ids_from 0 (fsync_forces self.now.kind ranges.now self.now.emitted) self.now.emitted }
+    {
+        let labels = self.labels.as_slice();
+        let last = forcing::last_turn(ranges, &self.graph, labels);
+        forcing::forced_by_fsync(self.ordering.module, ranges, last, &self.graph, labels)
+    }
+
+    /// The patches so far.
+    pub fn graph(&self) -> &Graph<A>
+        ensures patches { result.now ≡ self.now.patches }
+        ensures places { places_of result.now ≡ map (λ e. e.place) self.now.emitted }
+    {
+        &self.graph
+    }
+
     /// Adds a patch: new bytes from byte `offset` of a block on.
     ///
     /// It waits for the patches that it overlaps, for those of its block if blocks are written whole, and for those
@@ -193,7 +223,7 @@ fn dependencies(rules: &[Rule], links: &[Link<'_>], labels: &[Label<'_>], later:
 {
     let mut ids = 0;
     for (id, earlier) in labels.iter().enumerate() {
-        if waits(rules, links, later, earlier) {
+        if waits(rules, links, later, id, earlier) {
             ids = with(ids, id);
         }
     }

@@ -23,6 +23,13 @@ impl<'a, A: Allocator + Copy> Tracer<'a, A> {
             Act::Group(name) => self.open(step.line, name),
             Act::End => self.end(step.line),
             Act::Depend(later, earlier) => self.depend(step.line, later, earlier),
+            Act::Sync => {
+                self.wait_for_all(step)?;
+                Ok(())
+            }
+            Act::Fsync(target) => self.wait_for(step, target),
+            Act::Keep(_) | Act::Hold(_) => Ok(()),
+            Act::Spare(path, other) => self.stand_in(step.line, path, other),
         }
     }
 

@@ -23,7 +23,7 @@ use disk_image::Image;
 use inode_fs::{apply, plan};
 use std::alloc::{AllocError, Allocator};
 use std::marker::Model;
-use traced_patches::{Origin, Traced};
+use traced_patches::{Origin, Traced, Wait};
 
 /// The patches of the steps, over this image, under an ordering; or the first refused step.
 ///
@@ -46,7 +46,7 @@ pub fn trace<'a, A: Allocator + Copy>(
     ensures ok { IfOk result (λ t. (s : Tracing)
         × (trace_from ordering.now.«module» (trace_start ordering.now.whole_blocks image.now) steps.now ≡ Ok s)
         × IsGraphOf ordering.now.rules.items image.now s t.patches × (t.emitted ≡ s.emitted) × (t.links ≡ s.links)
-        × (t.whole ≡ s.whole)) }
+        × (t.whole ≡ s.whole) × (t.waits ≡ s.waits)) }
     ensures rules { IfOk result (λ t. t.rules ≡ ordering.now.rules.items) }
     ensures whole { IfOk result (λ t. t.whole ≡ ordering.now.whole_blocks) }
     ensures refused { RefusesAs result
@@ -74,20 +74,25 @@ pub struct Tracer<'a, A: Allocator + Copy> {
     pub(crate) current: Option<&'a GroupName>,
     pub(crate) opened: Vec<&'a GroupName, A>,
     pub(crate) ended: Vec<&'a GroupName, A>,
+    /// The ids that lines so far wait for, as a set.
+    pub(crate) forced: u128,
+    /// The lines that wait.
+    pub(crate) waits: Vec<Wait<'a>, A>,
 }
 
 impl<'a, A: Allocator + Copy> Model for Tracer<'a, A> {
     ghost use Rattle.order_modules.specs.Tracer.{Trace, IsTrace, names_by, trace_of};
-    ghost use Rattle.traced_patches.specs.Labels.{group_by};
+    ghost use Rattle.traced_patches.specs.Labels.{group_by, waits_by};
 
     ghost Value = { Trace };
 
     ghost view = { λ t.
-        trace_of t.log t.disk t.turn t.next (group_by t.current) (names_by t.opened.items) (names_by t.ended.items) };
+        trace_of t.log t.disk t.turn t.next (group_by t.current) (names_by t.opened.items) (names_by t.ended.items)
+        t.forced (waits_by t.waits.items) };
 
     ghost invariant = { λ t.
         IsTrace (trace_of t.log t.disk t.turn t.next (group_by t.current) (names_by t.opened.items)
-        (names_by t.ended.items)) };
+        (names_by t.ended.items) t.forced (waits_by t.waits.items)) };
 }
 
 impl<'a, A: Allocator + Copy> Tracer<'a, A> {
@@ -111,6 +116,8 @@ impl<'a, A: Allocator + Copy> Tracer<'a, A> {
             current: None,
             opened: Vec::new(alloc),
             ended: Vec::new(alloc),
+            forced: 0,
+            waits: Vec::new(alloc),
         })
     }
 
@@ -126,6 +133,8 @@ impl<'a, A: Allocator + Copy> Tracer<'a, A> {
             current: self.current,
             opened: self.opened.clone()?,
             ended: self.ended.clone()?,
+            forced: self.forced,
+            waits: self.waits.clone()?,
         })
     }
 
@@ -137,9 +146,11 @@ impl<'a, A: Allocator + Copy> Tracer<'a, A> {
         ensures rules { result.rules ≡ self.entry.log.rules }
         ensures whole { result.whole ≡ self.entry.log.whole }
         ensures traced { result.whole ≡ self.entry.tracing.whole }
+        ensures waits { result.waits ≡ self.entry.tracing.waits }
         ensures fits { All (λ patch. patch.block < self.entry.log.base.blocks) result.patches }
     {
-        self.log.into_traced()
+        let waits = self.waits;
+        self.log.into_traced().with_waits(waits)
     }
 
     /// Does an operation: plans it, and adds its patches by the ordering module.
@@ -208,9 +219,13 @@ impl<'a, A: Allocator + Copy> Tracer<'a, A> {
         if !self.log.has_room(plan.len()) {
             return Err(TraceFault::TooManyPatches { line });
         }
+        let origin = Origin {
+            line,
+            op,
+            group: self.current,
+            waits_for: self.forced,
+        };
         apply(&mut self.disk, plan);
-        let group = self.current;
-        let origin = Origin { line, op, group };
         self.log.emit_in_place(self.turn, origin, plan.as_slice())?;
         self.turn += 1;
         Ok(())
@@ -241,11 +256,16 @@ impl<'a, A: Allocator + Copy> Tracer<'a, A> {
         if !self.log.has_room(plan.len() + targets.len() + 2) {
             return Err(TraceFault::TooManyPatches { line });
         }
+        let origin = Origin {
+            line,
+            op,
+            group: self.current,
+            waits_for: self.forced,
+        };
         apply(&mut self.disk, plan);
-        let group = self.current;
         let transaction = Transaction {
             turn: self.turn,
-            origin: Origin { line, op, group },
+            origin,
             header: self.next as u8,
         };
         self.log.emit_transaction(transaction, &self.disk, targets.as_slice(), plan.as_slice())?;

@@ -1,6 +1,6 @@
--- Under the full journal no sequence of operations fails.
-use Rattle.std.proofs.Common.{◌≡◌, ℕ, zero, suc, List, [], ◌∷◌, length, refl, sym, ap, ◌∙◌, subst}
-use Rattle.std.specs.Prelude.{Ok, slice_get, option_to_list}
+-- Under the full journal no sequence of steps fails where no promise counts.
+use Rattle.std.proofs.Common.{◌≡◌, ℕ, List, [], ◌∷◌, length, refl, sym, ap, ◌∙◌, subst}
+use Rattle.std.specs.Prelude.{Ok}
 use Rattle.std.specs.List.{All, Contains}
 use Rattle.std.proofs.lemmas.List.Elements.{All-nil, All-head, All-tail, All-cons, All-append}
 use Rattle.patch_sets.proofs.Lists.{in_front}
@@ -14,16 +14,18 @@ use Rattle.crash_model.specs.declared.operations.Op.{Op}
 use Rattle.crash_model.specs.declared.operations.Op.TheVariants.{Create, Write, Link, Unlink, Rename, Mkdir, Rmdir}
 use Rattle.crash_model.specs.declared.operations.Op.TheVariants.{Overwrite, Truncate, Replace}
 use Rattle.crash_model.specs.declared.steps.Act.{Act}
-use Rattle.crash_model.specs.declared.steps.Act.TheVariants.{Do, Group, End, Depend}
+use Rattle.crash_model.specs.declared.steps.Act.TheVariants.{Do, Group, End, Depend, Sync, Fsync, Keep, Hold, Spare}
 use Rattle.crash_model.specs.declared.steps.Step.{Step}
 use Rattle.inode_fs.specs.Inside.{GivesName}
 use Rattle.full_journal_laws.specs.Full.{ops_at, ops_of, IsFullSafe}
 use Rattle.full_journal_laws.proofs.Failing.{none_fails}
 use Rattle.full_journal_laws.proofs.Final.{recovered}
 use Rattle.question_model.specs.Found.{AreFound}
-use Rattle.question_model.specs.Workloads.{Search, Fails, steps_at}
+use Rattle.question_model.specs.Workloads.{Search, Fails, workload_at}
 use Rattle.question_model.specs.declared.found.Found.{Found}
-use Rattle.pool_judging.specs.Judging.{IsFullJournal}
+use Rattle.pool_judging.specs.Judging.{IsFullJournal, CountsNoPromises}
+use Rattle.pool_judging.proofs.Demanded.{none_counts}
+use Rattle.pool_judging.proofs.Pools.{all_in_workload}
 
 abbrev IsStep : Step → Type 0
 IsStep step = IsAct step.act
@@ -45,6 +47,11 @@ act_gives (Do op) is = All-cons GivesName op [] (op_gives op is) (All-nil GivesN
 act_gives (Group name) is = All-nil GivesName
 act_gives End is = All-nil GivesName
 act_gives (Depend b a) is = All-nil GivesName
+act_gives Sync is = All-nil GivesName
+act_gives (Fsync target) is = All-nil GivesName
+act_gives (Keep paths) is = All-nil GivesName
+act_gives (Hold path) is = All-nil GivesName
+act_gives (Spare path other) is = All-nil GivesName
 
 -- the names that steps give are names
 steps_give : (steps : List Step) → All IsStep steps → All GivesName (ops_of steps)
@@ -52,33 +59,23 @@ steps_give [] all = All-nil GivesName
 steps_give (x ∷ xs) all = All-append GivesName (ops_at x.act) (ops_of xs)
     (act_gives x.act (All-head IsStep x xs all)) (steps_give xs (All-tail IsStep x xs all))
 
-step_at : (pool : List Step) (place : ℕ) → All IsStep pool → All IsStep (option_to_list (slice_get pool place))
-step_at [] place all = All-nil IsStep
-step_at (x ∷ xs) zero all = All-cons IsStep x [] (All-head IsStep x xs all) (All-nil IsStep)
-step_at (x ∷ xs) (suc place) all = step_at xs place (All-tail IsStep x xs all)
-
-steps_at_places : (pool : List Step) (places : List ℕ) → All IsStep pool → All IsStep (steps_at pool places)
-steps_at_places pool [] all = All-nil IsStep
-steps_at_places pool (place ∷ places) all = All-append IsStep (option_to_list (slice_get pool place))
-    (steps_at pool places) (step_at pool place all) (steps_at_places pool places all)
-
-pub nothing_fails : (s : Search) → IsFullJournal s → IsDisk s.base → IsSound s.base → HasZeroJournal s.base
-    → All IsStep s.pool → (places : List ℕ) → ¬ (Fails s places)
-nothing_fails s full disk sound zeros acts places (demands, patches, is, (set, failing)) =
-    none_fails s.strict s.atomic s.whole demands s.base steps patches disk is.told safe set failing
+pub nothing_fails : (s : Search) → IsFullJournal s → CountsNoPromises s → IsDisk s.base → IsSound s.base
+    → HasZeroJournal s.base → All IsStep s.pool → All IsStep s.keeps → (places : List ℕ) → ¬ (Fails s places)
+nothing_fails s full none disk sound zeros acts keeps places (demands, patches, is, (set, failing)) =
+    none_fails s.asked s.whole demands s.base (workload_at s places) patches disk is.told
+    (none_counts s places demands is.told none) safe set failing
   where
-    steps : List Step
-    steps = steps_at s.pool places
+    is_traced : trace_from Full (trace_start s.whole s.base) (workload_at s places) ≡ Ok is.last
+    is_traced = subst (λ (m : Module). trace_from m (trace_start s.whole s.base) (workload_at s places) ≡ Ok is.last)
+        full.full is.traced
 
-    is_traced : trace_from Full (trace_start s.whole s.base) steps ≡ Ok is.last
-    is_traced = subst (λ (m : Module). trace_from m (trace_start s.whole s.base) steps ≡ Ok is.last) full.full is.traced
-
-    safe : IsFullSafe s.whole s.base steps patches
+    safe : IsFullSafe s.whole s.base (workload_at s places) patches
     safe = (
       is.last,
       is_traced,
-      λ closed_set closed. recovered s.rules s.whole s.base steps is.last patches closed_set disk sound zeros
-          (steps_give steps (steps_at_places s.pool places acts)) is_traced full.all is.graph closed,
+      λ closed_set closed. recovered s.rules s.whole s.base (workload_at s places) is.last patches closed_set disk
+          sound zeros (steps_give (workload_at s places) (all_in_workload s IsStep keeps acts places)) is_traced
+          full.all is.graph closed,
     )
 
 -- where none fails no workload that fails is counted

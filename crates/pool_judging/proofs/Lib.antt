@@ -1,8 +1,10 @@
 pub mod Least
 pub mod Refusals
 pub mod Pools
+pub mod Sorted
 pub mod Verdicts
 pub mod Beginnings
 pub mod Full
 pub mod Found
 pub mod Workloads
+pub mod Demanded

@@ -2,15 +2,15 @@
 use Rattle.std.proofs.Common.{◌≡◌, ℕ, List, subst}
 use Rattle.std.specs.Prelude.{Bool, Result, Ok, Err, IfOk}
 use Rattle.crash_model.specs.Disk.{Disk, IsDisk}
-use Rattle.crash_model.specs.Checker.{Demands, AreDemands}
+use Rattle.crash_model.specs.Checker.{Demands, Asked, AreDemands}
 use Rattle.crash_model.specs.Trace.{Tracing, IsGraphOf}
 use Rattle.crash_model.specs.declared.patches.Patch.{Patch}
 use Rattle.crash_model.specs.declared.refusals.TraceFault.{TraceFault}
 use Rattle.crash_model.specs.declared.steps.Step.{Step}
-use Rattle.full_journal_laws.specs.Full.{IsFullSafe}
+use Rattle.full_journal_laws.specs.Full.{IsFullSafe, CountsNoPromise}
 use Rattle.full_journal_laws.proofs.Failing.{none_fails}
 use Rattle.question_model.specs.Verdict.{IsVerdict}
-use Rattle.question_model.specs.Workloads.{Search, HasPatches, steps_at, trace_at}
+use Rattle.question_model.specs.Workloads.{Search, HasPatches, workload_at, trace_at}
 use Rattle.question_model.specs.declared.verdict.Verdict.{Verdict}
 use Rattle.question_model.specs.declared.verdict.Verdict.TheVariants.{Refused, Passes, Fails}
 use Rattle.uniqueness_laws.proofs.Demands.{one_demands}
@@ -25,7 +25,7 @@ one_ok r a b e f = cc
 module _ (s : Search) (places : List ℕ) (demands other : Demands) (patches others : List Patch)
     (is : HasPatches s places demands patches) (also : HasPatches s places other others) where
   pub same_demands : demands ≡ other
-  same_demands = one_demands s.strict s.atomic s.base (steps_at s.pool places) demands other is.told also.told
+  same_demands = one_demands s.asked s.base (workload_at s places) demands other is.told also.told
 
   pub same_patches : patches ≡ others
   same_patches =
@@ -60,12 +60,12 @@ no_failure_prop (Ok (Fails firsts)) = hlevel
 no_failure_prop (Err e) = hlevel
 
 -- where replay recovers from every crash no set fails
-pub never_fails : (strict atomic whole : Bool) (demands : Demands) (base : Disk) (steps : List Step)
+pub never_fails : (asked : Asked) (whole : Bool) (demands : Demands) (base : Disk) (steps : List Step)
     (patches : List Patch)
-    (verdict : Verdict) → IsDisk base → AreDemands strict atomic base steps demands
+    (verdict : Verdict) → IsDisk base → AreDemands asked base steps demands → CountsNoPromise demands
     → IsFullSafe whole base steps patches
     → IsVerdictOn demands base patches verdict → IsNoFailure verdict
-never_fails strict atomic whole demands base steps patches Passes disk told safe is = tt
-never_fails strict atomic whole demands base steps patches (Refused reason) disk told safe is = tt
-never_fails strict atomic whole demands base steps patches (Fails firsts) disk told safe (some, are) =
-    absurd (none_fails strict atomic whole demands base steps patches disk told safe some.0 some.1)
+never_fails asked whole demands base steps patches Passes disk told none safe is = tt
+never_fails asked whole demands base steps patches (Refused reason) disk told none safe is = tt
+never_fails asked whole demands base steps patches (Fails firsts) disk told none safe (some, are) =
+    absurd (none_fails asked whole demands base steps patches disk told none safe some.0 some.1)

@@ -1,5 +1,5 @@
 -- What is found of the trace of a workload is found of the workload.
-use Rattle.std.proofs.Common.{◌≡◌, ℕ, ◌<◌, List, length, get_or, inl, inr, subst, sym, ◌∙◌}
+use Rattle.std.proofs.Common.{◌≡◌, ℕ, ◌<◌, List, length, get_or, inl, inr, refl, subst, sym, ◌∙◌}
 use Rattle.std.specs.Prelude.{◌↔◌, Option, Result, Ok, Err, Bool, IsTrue}
 use Rattle.std.specs.List.{All}
 use Rattle.std.proofs.Math.Logic.{∥∥₁_elim, ∥∥₁_map}
@@ -15,7 +15,7 @@ use Rattle.chosen_rules.specs.Sublists.{EnoughOf, all_of}
 use Rattle.chosen_rules.proofs.Graphs.{less_or_not}
 use Rattle.enough_deciding.specs.Rules.{IsGraphBy, tracing_of}
 use Rattle.enough_deciding.proofs.Tracings.{one_tracing, same_enough}
-use Rattle.question_model.specs.Workloads.{Search, Fails, HasPatches, steps_at, trace_at}
+use Rattle.question_model.specs.Workloads.{Search, Fails, HasPatches, workload_at, trace_at}
 use Rattle.question_model.specs.EnoughFor.{IsPassing, search_with}
 use Rattle.traced_patches.specs.Traced.{TracedPatches}
 use Rattle.workload_search.specs.Asked.{IsEnoughAt}
@@ -24,6 +24,17 @@ use Rattle.pool_judging.specs.Judging.{SomeFails}
 use Rattle.pool_judging.proofs.Verdicts.{of_each}
 use Rattle.pool_judging.specs.Traces.{IsTraced, IsTraceOf, IsAnswerBy}
 use Rattle.pool_judging.proofs.Found.{found_alike}
+
+-- steps that are traced are accepted
+pub are_accepted : (s : Search) (steps : List Step) → ∥ IsTraced s steps ∥₁ → IsTraced s steps
+are_accepted s steps traced = by (trace_from s.ordering (trace_start s.whole s.base) steps) traced
+  where
+    by : (r : Result Tracing TraceFault) → ∥ ((last : Tracing) × (r ≡ Ok last)) ∥₁ → (last : Tracing) × (r ≡ Ok last)
+    by (Ok last) is = (last, refl)
+    by (Err fault) is = absurd (∥∥₁_elim is (hlevel) (λ (last, e). no last fault e))
+      where
+        no : (last : Tracing) (fault : TraceFault) → ¬ (◌≡◌ {A = Result Tracing TraceFault} (Err fault) (Ok last))
+        no last fault e = cc
 
 -- steps that are traced are not refused
 pub never_refused : (s : Search) (steps : List Step) (fault : TraceFault) → IsTraced s steps
@@ -34,7 +45,7 @@ never_refused s steps fault traced refused =
     apart : (answer : Result Tracing TraceFault) (last : Tracing) → answer ≡ Ok last → answer ≡ Err fault → ⊥
     apart answer last is also = cc
 
--- a workload that passes has operations of the pool, none of which is refused
+-- a workload that passes has steps of the pool, none of which is refused
 module _ (s : Search) (places : List ℕ) (passing : ∥ IsPassing s places ∥₁) where
   pub below : All (λ place. place < length s.pool) places
   below k d within = elim (less_or_not (get_or places k d) (length s.pool)) [
@@ -42,17 +53,17 @@ module _ (s : Search) (places : List ℕ) (passing : ∥ IsPassing s places ∥�
     | inr not ↦ absurd (∥∥₁_elim passing (hlevel) (λ is. not (is.0.among k d within)))
   ]
 
-  pub traced : (made steps : List Step) → made ≡ steps_at s.pool places → steps ≡ made → ∥ IsTraced s steps ∥₁
+  pub traced : (made steps : List Step) → made ≡ workload_at s places → steps ≡ made → ∥ IsTraced s steps ∥₁
   traced made steps are same = ∥∥₁_map passing (λ is. subst (IsTraced s) (sym (same ∙ are)) is.0.accepted)
 
 module _ (s : Search) (places : List ℕ) (steps others : List Step) (t : TracedPatches) (demands : Demands)
-    (are : steps ≡ steps_at s.pool places) (also : others ≡ steps_at s.pool places) (is : IsTraceOf s steps t)
-    (told : AreDemands s.strict s.atomic s.base others demands) where
+    (are : steps ≡ workload_at s places) (also : others ≡ workload_at s places) (is : IsTraceOf s steps t)
+    (told : AreDemands s.asked s.base others demands) where
   run_at : trace_at s places ≡ Ok is.last
   run_at = subst (λ (xs : List Step). trace_from s.ordering (trace_start s.whole s.base) xs ≡ Ok is.last) are is.run
 
-  told_at : AreDemands s.strict s.atomic s.base (steps_at s.pool places) demands
-  told_at = subst (λ (xs : List Step). AreDemands s.strict s.atomic s.base xs demands) also told
+  told_at : AreDemands s.asked s.base (workload_at s places) demands
+  told_at = subst (λ (xs : List Step). AreDemands s.asked s.base xs demands) also told
 
   abbrev one : Tracing
   one = tracing_of s.base t

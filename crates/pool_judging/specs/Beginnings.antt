@@ -1,32 +1,50 @@
--- The traces of sequences of operations of a pool, and what they demand.
-use Rattle.std.specs.Prelude.{◌≡◌, ℕ, ◌+◌, ◌<◌, ◌≤◌, List, length, Ok}
+-- The traces of sequences of steps of a pool, and what they demand.
+use Rattle.std.specs.Prelude.{◌≡◌, ℕ, ◌+◌, ◌<◌, ◌≤◌, List, ◌++◌, length, Ok}
 use Rattle.std.specs.List.{All}
 use Rattle.crash_model.specs.Checker.{Demands, AreDemands}
-use Rattle.inode_fs.specs.Demanding.{SoFar, IsSoFar}
+use Rattle.crash_model.specs.Promises.{promises_of}
+use Rattle.crash_model.specs.Trace.{Tracing, trace_start, trace_from}
+use Rattle.crash_model.specs.declared.steps.Step.{Step}
+use Rattle.inode_fs.specs.Demanding.{IsSoFar}
 use Rattle.order_modules.specs.Tracer.{Trace, GivesNames}
-use Rattle.question_model.specs.Workloads.{Search, steps_at, trace_at}
+use Rattle.promise_steps.specs.Underway.{all_finished}
+use Rattle.kept_promises.specs.Watched.{AreAt, unders_of}
+use Rattle.kept_promises.specs.declared.promising.Promising.{Promising}
+use Rattle.question_model.specs.Workloads.{Search, workload_at}
 use Rattle.pool_judging.specs.declared.begun.Begun.{Begun}
 
--- the trace of the operations at these places
-pub record IsTraceAt (s : Search) (places : List ℕ) (t : Trace) : Type 0 where
+-- the trace of these steps
+pub record IsTraceBy (s : Search) (steps : List Step) (t : Trace) : Type 0 where
   pub base : t.log.base ≡ s.base
   pub kind : t.log.kind ≡ s.ordering
   pub rules : t.log.rules ≡ s.rules
-  pub turns : t.tracing.turn ≤ length places + 1
-  pub traced : trace_at s places ≡ Ok t.tracing
-  pub names : All GivesNames (steps_at s.pool places)
+  pub traced : trace_from s.ordering (trace_start s.whole s.base) steps ≡ Ok t.tracing
+  pub names : All GivesNames steps
 
--- what the operations at these places demand of an image that they leave
-abbrev pub AreDemandsAt : Search → List ℕ → Demands → Type 0
-AreDemandsAt s places demands = AreDemands s.strict s.atomic s.base (steps_at s.pool places) demands
+-- the promises of these steps, which a trace has come to the end of, whatever steps follow
+pub record ArePromised {A : Type 0} (s : Search) (steps : List Step) (here : Tracing) (p : Promising A) : Type 0 where
+  pub found : (rest : List Step) → all_finished s.ordering s.asked.durable here rest (unders_of p)
+      ≡ promises_of s.ordering s.asked.durable s.base (steps ++ rest)
+  pub at : AreAt p here
+  pub durable : p.is_durable ≡ s.asked.durable
 
--- the same, with a disk for the operations that follow
-abbrev pub IsSoFarAt : Search → List ℕ → SoFar → Type 0
-IsSoFarAt s places so_far = IsSoFar s.strict s.atomic s.base (steps_at s.pool places) so_far
+-- what is made of these steps
+pub record AreBegun {A : Type 0} (s : Search) (steps : List Step) (begun : Begun A) : Type 0 where
+  pub is : IsTraceBy s steps begun.tracer
+  pub demands : IsSoFar s.asked.strict s.asked.atomic s.base steps begun.demanding
+  pub promises : ArePromised s steps begun.tracer.tracing begun.promising
 
--- what is made of the beginning with the operations at these places
+-- what is made of the beginning with the steps at these places
 pub record IsBegun {A : Type 0} (s : Search) (places : List ℕ) (begun : Begun A) : Type 0 where
   pub short : length places < 8
   pub among : All (λ place. place < length s.pool) places
-  pub is : IsTraceAt s places begun.tracer
-  pub demands : IsSoFarAt s places begun.demanding
+  pub turns : begun.tracer.tracing.turn ≤ length places + 1
+  pub are : AreBegun s (workload_at s places) begun
+
+-- the trace of the steps at these places
+abbrev pub IsTraceAt : Search → List ℕ → Trace → Type 0
+IsTraceAt s places t = IsTraceBy s (workload_at s places) t
+
+-- what the steps at these places demand of the sets that a crash leaves of them
+abbrev pub AreDemandsAt : Search → List ℕ → Demands → Type 0
+AreDemandsAt s places demands = AreDemands s.asked s.base (workload_at s places) demands

@@ -1,11 +1,13 @@
 -- What a judge of a pool judges.
-use Rattle.std.specs.Prelude.{◌≡◌, ℕ, List}
+use Rattle.std.specs.Prelude.{◌≡◌, ℕ, List, ◌++◌}
 use Rattle.crash_model.specs.Disk.{Disk}
 use Rattle.crash_model.specs.RuleFacts.{AreAmong}
 use Rattle.crash_model.specs.Rules.{rules_of}
 use Rattle.crash_model.specs.Checker.{Demands, IsFailingUnder}
 use Rattle.crash_model.specs.declared.modules.Module.TheVariants.{Full}
 use Rattle.crash_model.specs.declared.patches.Patch.{Patch}
+use Rattle.full_journal_laws.specs.Full.{MakeNoPromise}
+use Rattle.kept_promises.specs.Asking.{asked_of}
 use Rattle.pool_judging.specs.Firsts.{AreFirstOfKinds}
 use Rattle.question_model.specs.Lengths.{operations_of}
 use Rattle.question_model.specs.Workloads.{Search}
@@ -19,9 +21,9 @@ search_by j = record {
   ordering = j.ordering.now.«module»;
   rules = j.ordering.now.rules.items;
   whole = j.ordering.now.whole_blocks;
-  strict = j.strict;
-  atomic = j.atomic;
+  asked = asked_of j.asked j.ordering.now.«module» (j.keeps.now ++ j.pool.now);
   base = j.base.now;
+  keeps = j.keeps.now;
   pool = j.pool.now;
   most = operations_of j.longest;
 }
@@ -41,6 +43,10 @@ IsVerdictOn demands base patches (Fails firsts) =
 abbrev pub IsNoFailure : Verdict → Type 0
 IsNoFailure (Fails firsts) = ⊥
 IsNoFailure _ = Unit {0}
+
+-- no promise of a workload counts
+abbrev pub CountsNoPromises : Search → Type 0
+CountsNoPromises s = MakeNoPromise s.asked (s.keeps ++ s.pool)
 
 -- the ordering is the full journal with all its rules, and perhaps others
 pub record IsFullJournal (s : Search) : Type 0 where

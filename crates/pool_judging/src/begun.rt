@@ -1,64 +1,85 @@
-//! Beginnings of sequences, traced and planned once for all operations that follow them.
+//! Beginnings of sequences, traced and planned once for all steps that follow them.
 
-ghost use Rattle.std.specs.Prelude.{◌≡◌, ◌<◌, ◌^◌, length, Ok, IfOk, OnOk};
+ghost use Rattle.std.specs.Prelude.{◌≡◌, ◌<◌, ◌^◌, ◌++◌, ◌∷◌, [], List, length, Ok, IfOk};
 ghost use Rattle.std.specs.List.{All};
 ghost use Rattle.crash_model.specs.Trace.{Tracing, step as step_of};
-ghost use Rattle.order_modules.specs.Tracer.{GivesNameIfAny, Moves};
+ghost use Rattle.crash_model.specs.declared.steps.Step.{Step as AStep};
+ghost use Rattle.order_modules.specs.Tracer.{Moves};
 ghost use Rattle.question_model.specs.Verdict.{IsAccepted};
-ghost use Rattle.pool_judging.specs.Beginnings.{IsBegun};
+ghost use Rattle.question_model.specs.Workloads.{Search};
+ghost use Rattle.pool_judging.specs.Beginnings.{AreBegun, IsBegun};
 ghost use Rattle.pool_judging.specs.Judging.{search_by};
 
 use crate::judge::PoolJudge;
-use crash_model::refusals::TraceFault;
 use crash_model::steps::Step;
 use inode_fs::Demanding;
+use kept_promises::{Promising, place_of, take};
 use order_modules::Tracer;
 use question_model::Places;
 use std::alloc::{AllocError, Allocator};
 
-/// A beginning of sequences: the trace of its operations, and what they demand of an image that they leave.
+/// A beginning of sequences: the trace of its steps, what they demand of an image that they leave, and what they
+/// promise.
 #[derive(Drop)]
 pub struct Begun<'a, A: Allocator + Copy> {
     pub(crate) tracer: Tracer<'a, A>,
     pub(crate) demanding: Demanding<A>,
+    pub(crate) promising: Promising<A>,
+}
+
+impl<'a, A: Allocator + Copy> Begun<'a, A> {
+    /// The beginning with a step more, which is not refused. It fails only when out of memory.
+    fn longer(self, step: &'a Step) -> Result<Begun<'a, A>, AllocError>
+        requires few { self.tracer.tracing.turn < 2 ^ 63 }
+        requires accepted { (next : Tracing)
+            × (step_of self.tracer.log.kind self.tracer.tracing step.now.line step.now.act ≡ Ok next) }
+        ensures begun { IfOk result (λ longer. (s : Search) (steps : List AStep) → AreBegun s steps self.entry
+            → AreBegun s (steps ++ step.now ∷ []) longer) }
+        ensures moves { IfOk result (λ longer. Moves self.entry.tracer longer.tracer
+            (step_of self.entry.tracer.log.kind self.entry.tracer.tracing step.now.line step.now.act)) }
+    {
+        let (mut tracer, mut demanding) = (self.tracer, self.demanding);
+        let known = tracer.graph().len();
+        take(&mut tracer, step)?;
+        demanding.step(step)?;
+        let promising = self.promising.step(step, known, &place_of(&tracer))?;
+        Ok(Begun {
+            tracer,
+            demanding,
+            promising,
+        })
+    }
 }
 
 impl<'a, A: Allocator + Copy> PoolJudge<'a, A> {
-    /// Traces the operations at these places of the pool, of which none is refused. It fails only when out of memory.
+    /// Traces the steps at these places of the pool, behind the promises that each workload begins with. None of them
+    /// is refused. It fails only when out of memory.
     pub fn begun(&self, places: &Places) -> Result<Begun<'a, A>, AllocError>
         requires short { length places.now.items < 8 }
         requires among { All (λ place. place < length self.now.pool.now) places.now.items }
         requires accepted { IsAccepted (search_by self.now) places.now.items }
         ensures { IfOk result (IsBegun (search_by self.now) places.now.items) }
     {
-        let mut tracer = Tracer::new(self.alloc, self.base, self.ordering)?;
-        let mut demanding = Demanding::new(self.alloc, self.base, self.strict, self.atomic)?;
+        let mut begun = self.begun_with_keeps()?;
         for place in places.as_slice() {
-            let step = &self.pool[*place];
-            take(&mut tracer, step)?;
-            demanding.step(step)?;
+            begun = begun.longer(&self.pool[*place])?;
         }
-        Ok(Begun { tracer, demanding })
+        Ok(begun)
     }
-}
 
-/// Adds a step to a trace, which does not refuse it. It fails only when out of memory.
-fn take<'a, A: Allocator + Copy>(
-    tracer: &mut Tracer<'a, A>,
-    step: &'a Step,
-) -> Result<(), AllocError>
-    requires few { tracer.old.tracing.turn < 2 ^ 63 }
-    requires accepted { (next : Tracing)
-        × (step_of tracer.old.log.kind tracer.old.tracing step.now.line step.now.act ≡ Ok next) }
-    ensures moves { OnOk result (Moves tracer.old tracer.new
-        (step_of tracer.old.log.kind tracer.old.tracing step.now.line step.now.act)) }
-    ensures names { OnOk result (GivesNameIfAny step.now.act) }
-{
-    match tracer.step(step) {
-        Ok(()) => Ok(()),
-        Err(fault) => match fault {
-            TraceFault::OutOfMemory => Err(AllocError),
-            _ => unreachable!(),
-        },
+    /// The beginning that has only the promises that each workload begins with. It fails only when out of memory.
+    fn begun_with_keeps(&self) -> Result<Begun<'a, A>, AllocError>
+        ensures { IfOk result (IsBegun (search_by self.now) []) }
+    {
+        let (strict, atomic) = (self.asked.strict, self.asked.atomic);
+        let mut begun = Begun {
+            tracer: Tracer::new(self.alloc, self.base, self.ordering)?,
+            demanding: Demanding::new(self.alloc, self.base, strict, atomic)?,
+            promising: Promising::new(self.alloc, self.asked.durable),
+        };
+        for step in self.keeps {
+            begun = begun.longer(step)?;
+        }
+        Ok(begun)
     }
 }

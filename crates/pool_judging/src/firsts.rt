@@ -28,6 +28,7 @@ pub(crate) fn firsts(faults: &[DecidedFault]) -> [Option<u128>; KINDS]
         first_of(faults, FaultKind::Lost),
         first_of(faults, FaultKind::NoBlock),
         first_of(faults, FaultKind::HalfDone),
+        first_of(faults, FaultKind::BrokenPromise),
     ]
 }
 

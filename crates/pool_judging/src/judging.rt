@@ -1,23 +1,31 @@
-//! How sequences of operations of a pool are judged.
+//! How sequences of steps of a pool are judged.
 
 ghost use Rattle.std.specs.Prelude.{◌≡◌, ◌≢◌, ◌<◌, ◌++◌, ◌∷◌, ℕ, [], Err, IfOk, None, List, length};
-ghost use Rattle.std.specs.List.{All};
-ghost use Rattle.crash_model.specs.Checker.{AreDemands};
+ghost use Rattle.std.specs.List.{All, list_any};
+ghost use Rattle.crash_model.specs.Checker.{AreDemands, has_promises};
+ghost use Rattle.crash_model.specs.Promises.{promises_of};
+ghost use Rattle.crash_model.specs.Trace.{step as step_of};
+ghost use Rattle.crash_model.specs.declared.steps.Step.{Step as AStep};
+ghost use Rattle.order_modules.specs.Tracer.{Moves};
 ghost use Rattle.question_model.specs.Verdict.{IsVerdict};
 ghost use Rattle.question_model.specs.Refused.{refusal_of};
-ghost use Rattle.question_model.specs.Workloads.{Search, steps_at, trace_at};
-ghost use Rattle.pool_judging.specs.Beginnings.{IsBegun, IsTraceAt, AreDemandsAt};
-ghost use Rattle.pool_judging.specs.Judging.{search_by, IsVerdictOn, IsNoFailure, IsFullJournal};
+ghost use Rattle.question_model.specs.Workloads.{Search, workload_at, trace_at};
+ghost use Rattle.pool_judging.specs.Beginnings.{IsBegun, AreBegun, IsTraceAt, AreDemandsAt};
+ghost use Rattle.pool_judging.specs.Judging.{search_by, IsVerdictOn, IsNoFailure, IsFullJournal, CountsNoPromises};
+ghost use Rattle.pool_judging.specs.Keeps.{keeps_accepted};
+ghost use Rattle.pool_judging.specs.Pools.{is_waiting};
+ghost use Rattle.pool_judging.specs.Traces.{IsTraced};
 
 use crate::begun::Begun;
 use crate::copying::step_copy;
 use crate::firsts::firsts;
 use crate::judge::PoolJudge;
 use crash_model::refusals::TraceFault;
-use crash_model::steps::Step;
-use disk_image::Demands;
+use crash_model::steps::{Act, Step};
+use disk_image::{Demands, Promise};
 use fault_deciding::Decider;
 use inode_fs::demands;
+use kept_promises::{place_of, promises};
 use order_modules::Tracer;
 use patch_graph::Graph;
 use question_model::{Places, Refusal, Verdict};
@@ -26,50 +34,99 @@ use std::alloc::{AllocError, Allocator};
 use workload_search::Judge;
 
 impl<'a, A: Allocator + Copy> PoolJudge<'a, A> {
-    /// The steps at these places of the pool. It fails only when out of memory.
-    pub fn steps_at(&self, places: &Places) -> Result<Vec<Step, A>, AllocError>
+    /// The steps at these places of the pool, behind the promises that each workload begins with. It fails only when
+    /// out of memory.
+    pub fn workload_at(&self, places: &Places) -> Result<Vec<Step, A>, AllocError>
         requires { All (λ place. place < length self.now.pool.now) places.now.items }
-        ensures { IfOk result (λ steps. steps.items ≡ steps_at self.now.pool.now places.now.items) }
+        ensures { IfOk result (λ steps. steps.items ≡ workload_at (search_by self.now) places.now.items) }
     {
-        let mut steps = Vec::new(self.alloc);
+        let mut steps = self.copied_keeps()?;
         for place in places.as_slice() {
             steps.push(step_copy(&self.pool[*place]))?;
         }
         Ok(steps)
     }
 
-    /// What the steps demand of an image that they leave. It fails only when out of memory.
-    pub fn demands(&self, steps: &[Step]) -> Result<Demands<A>, AllocError>
-        ensures { IfOk result (AreDemands self.now.strict self.now.atomic self.now.base.now steps.now) }
+    /// The promises that each workload begins with. It fails only when out of memory.
+    fn copied_keeps(&self) -> Result<Vec<Step, A>, AllocError>
+        ensures { IfOk result (λ steps. steps.items ≡ self.now.keeps.now) }
     {
-        let demands = demands(self.alloc, self.base, steps, self.strict, self.atomic)?;
-        Ok(demands)
+        let mut steps = Vec::new(self.alloc);
+        for step in self.keeps {
+            steps.push(step_copy(step))?;
+        }
+        Ok(steps)
     }
 
-    /// The verdict on the operations of a beginning, followed by the one at this place of the pool. It fails only when
-    /// out of memory.
+    /// What steps of the pool, of which none is refused, demand of the sets that a crash leaves of them. It fails only
+    /// when out of memory.
+    pub fn demands(&self, steps: &[Step]) -> Result<Demands<A>, AllocError>
+        requires { ∥ IsTraced (search_by self.now) steps.now ∥₁ }
+        ensures { IfOk result (AreDemands (search_by self.now).asked self.now.base.now steps.now) }
+    {
+        let (strict, atomic) = (self.asked.strict, self.asked.atomic);
+        let of_images = demands(self.alloc, self.base, steps, strict, atomic)?;
+        let counted = of_images.counting(self.asked.counted);
+        if !self.waits_or_promises() {
+            return Ok(counted);
+        }
+        let durable = self.asked.durable;
+        let promises = promises(self.alloc, self.base, steps, self.ordering, durable)?;
+        Ok(counted.with_promises(promises))
+    }
+
+    /// Whether the pool has a step that waits, or a promise.
+    fn waits_or_promises(&self) -> bool
+        ensures { result ≡ has_promises (self.now.keeps.now ++ self.now.pool.now) }
+    {
+        !self.keeps.is_empty() || has_waiting(self.pool)
+    }
+
+    /// The verdict on the steps of a beginning, followed by the one at this place of the pool. It fails only when out
+    /// of memory.
     ///
-    /// Under the full journal with all its rules, and with any others put in, none fails.
+    /// Under the full journal with all its rules, and with any others put in, none fails where no promise counts.
     pub fn verdict_on(&self, begun: &Begun<'a, A>, place: usize) -> Result<Verdict, AllocError>
         requires begun { (front : List ℕ) × IsBegun (search_by self.now) front begun.now }
         requires among { place < length self.now.pool.now }
         ensures verdict { (front : List ℕ) → IsBegun (search_by self.now) front begun.now
             → IfOk result (IsVerdict (search_by self.now) (front ++ place ∷ [])) }
-        ensures full { IsFullJournal (search_by self.now) → IfOk result IsNoFailure }
+        ensures full { IsFullJournal (search_by self.now) → CountsNoPromises (search_by self.now)
+            → IfOk result IsNoFailure }
     {
         let step = &self.pool[place];
         match begun.tracer.with_step(step) {
             Ok(longer) => {
-                let demanding = begun.demanding.with_step(step)?;
-                let demands = demanding.into_demands();
+                let demands = self.demands_longer(begun, step, &longer)?;
                 self.judge_trace(longer, &demands)
             }
             Err(fault) => refused(fault),
         }
     }
 
-    /// The verdict on the operations that have this trace, by what they demand of images. It fails only when out of
+    /// What the steps of a beginning demand with one more step, which leads to this trace. It fails only when out of
     /// memory.
+    fn demands_longer(
+        &self,
+        begun: &Begun<'a, A>,
+        step: &Step,
+        longer: &Tracer<'a, A>,
+    ) -> Result<Demands<A>, AllocError>
+        ensures { IfOk result (λ demands. (steps : List AStep) → AreBegun (search_by self.now) steps begun.now
+            → Moves begun.now.tracer longer.now
+            (step_of begun.now.tracer.log.kind begun.now.tracer.tracing step.now.line step.now.act)
+            → AreDemands (search_by self.now).asked self.now.base.now (steps ++ step.now ∷ []) demands) }
+    {
+        let of_images = begun.demanding.with_step(step)?.into_demands();
+        let counted = of_images.counting(self.asked.counted);
+        if !self.waits_or_promises() {
+            return Ok(counted);
+        }
+        let promises = promises_longer(begun, step, longer)?;
+        Ok(counted.with_promises(promises))
+    }
+
+    /// The verdict on the steps that have this trace, by what they demand. It fails only when out of memory.
     fn judge_trace(
         &self,
         tracer: Tracer<'a, A>,
@@ -80,7 +137,8 @@ impl<'a, A: Allocator + Copy> PoolJudge<'a, A> {
         ensures verdict { (places : List ℕ) → IsTraceAt (search_by self.now) places tracer.entry
             → AreDemandsAt (search_by self.now) places demands.now
             → IfOk result (IsVerdict (search_by self.now) places) }
-        ensures full { IsFullJournal (search_by self.now) → IfOk result IsNoFailure }
+        ensures full { IsFullJournal (search_by self.now) → CountsNoPromises (search_by self.now)
+            → IfOk result IsNoFailure }
     {
         // For the proof: what holds of every image.
         let _blocks = self.base.blocks();
@@ -88,8 +146,8 @@ impl<'a, A: Allocator + Copy> PoolJudge<'a, A> {
         self.judge_graph(traced.graph(), demands)
     }
 
-    /// The verdict on the operations with these patches, none of which is refused, by what they demand of images. It
-    /// fails only when out of memory.
+    /// The verdict on the steps with these patches, none of which is refused, by what is demanded of them. It fails
+    /// only when out of memory.
     fn judge_graph(&self, graph: &Graph<A>, demands: &Demands<A>) -> Result<Verdict, AllocError>
         requires { All (λ patch. patch.block < self.now.base.now.blocks) graph.now }
         ensures { IfOk result (IsVerdictOn demands.now self.now.base.now graph.now) }
@@ -115,6 +173,8 @@ impl<'a, A: Allocator + Copy> Judge for PoolJudge<'a, A> {
 
     ghost is_begun = { λ j front begun. IsBegun (search_by j) front begun };
 
+    ghost begins = { λ j. keeps_accepted (search_by j) j.promises };
+
     fn begin(&self, places: &Places) -> Result<Begun<'a, A>, AllocError> {
         self.begun(places)
     }
@@ -122,6 +182,24 @@ impl<'a, A: Allocator + Copy> Judge for PoolJudge<'a, A> {
     fn judge_longer(&self, begun: &Begun<'a, A>, place: usize) -> Result<Verdict, AllocError> {
         self.verdict_on(begun, place)
     }
+}
+
+/// What the steps of a beginning promise with one more step, which leads to this trace. It fails only when out of
+/// memory.
+fn promises_longer<'a, A: Allocator + Copy>(
+    begun: &Begun<'a, A>,
+    step: &Step,
+    longer: &Tracer<'a, A>,
+) -> Result<Vec<Promise<A>, A>, AllocError>
+    ensures { IfOk result (λ promises. (s : Search) (steps : List AStep) → AreBegun s steps begun.now
+        → Moves begun.now.tracer longer.now
+        (step_of begun.now.tracer.log.kind begun.now.tracer.tracing step.now.line step.now.act)
+        → promises.items ≡ promises_of s.ordering s.asked.durable s.base (steps ++ step.now ∷ [])) }
+{
+    let known = begun.tracer.graph().len();
+    let last = place_of(longer);
+    let promising = begun.promising.try_copy()?.step(step, known, &last)?;
+    promising.into_promises(&last)
 }
 
 /// The verdict on operations of which one is refused for this fault. It fails only when the fault is that memory ran
@@ -139,4 +217,12 @@ fn refused(fault: TraceFault) -> Result<Verdict, AllocError>
             None => unreachable!(),
         },
     }
+}
+
+/// Whether one of the steps of a pool waits.
+fn has_waiting(pool: &[Step]) -> bool
+    ensures { result ≡ list_any (λ step. is_waiting step.act) pool.now }
+{
+    pool.iter()
+        .any(|step| matches!(step.act, Act::Sync | Act::Fsync(_)))
 }

@@ -16,6 +16,7 @@ mod rules;
 mod traces;
 
 pub use begun::Begun;
+pub use copying::{PoolSteps, pool_of};
 pub use judge::PoolJudge;
 pub use rules::PoolRules;
 pub use traces::{graph_but, traced_of};

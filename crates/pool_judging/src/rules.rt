@@ -18,7 +18,7 @@ impl<A: Allocator + Copy> RuleJudge for PoolRules<'_, A> {
     ghost search = { λ r. search_by r.judge.now };
 
     fn blocking(&self, places: &Places, set: u128) -> Result<Option<u128>, AllocError> {
-        let steps = self.judge.steps_at(places)?;
+        let steps = self.judge.workload_at(places)?;
         let traced = traced_of(self.judge, &steps)?;
         let demands = self.judge.demands(&steps)?;
         let found = blocking_in(self.judge, &traced, &demands, set)?;
@@ -26,7 +26,7 @@ impl<A: Allocator + Copy> RuleJudge for PoolRules<'_, A> {
     }
 
     fn fails_without(&self, places: &Places, group: u128) -> Result<bool, AllocError> {
-        let steps = self.judge.steps_at(places)?;
+        let steps = self.judge.workload_at(places)?;
         let traced = traced_of(self.judge, &steps)?;
         let told = self.judge.demands(&steps)?;
         let fails = fails_in(self.judge, &traced, &told, group)?;

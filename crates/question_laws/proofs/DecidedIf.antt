@@ -1,8 +1,8 @@
 -- Faults with their first sets are what is decided, if a test passes that computes the faults of each failing set
 -- once.
 use Rattle.std.proofs.Common.{◌≡◌, ℕ, List, [], ◌∷◌, length, map, All, Bool, true, false, ◌&&◌, ◌||◌, refl, subst}
-use Rattle.std.proofs.Common.{ap, inl, inr, ◌++◌}
-use Rattle.std.specs.Prelude.{◌⊎◌, Option, Some, None, bytes_eq}
+use Rattle.std.proofs.Common.{ap, inl, inr}
+use Rattle.std.specs.Prelude.{◌⊎◌, bytes_eq}
 use Rattle.std.specs.List.{Contains, list_all}
 use Rattle.std.specs.Ordering.{nat_cmp, is_lt}
 use Rattle.std.specs.Cmp.Lexicographic.{slice_cmp, nat_list_cmp_total}
@@ -15,11 +15,10 @@ use Rattle.patch_sets.proofs.Lists.{front_or_rest, in_front, in_rest, in_none}
 use Rattle.report_model.specs.Report.{Detail, Section, AreSections, IsLed}
 use Rattle.report_model.proofs.Leading.{sections_lead}
 use Rattle.crash_model.specs.Disk.{Disk}
-use Rattle.crash_model.specs.Checker.{faults_keeping, faults_showing, faults_under, IsFailingUnder}
+use Rattle.crash_model.specs.Checker.{faults_under, IsFailingUnder}
 use Rattle.crash_model.specs.FaultRows.{numbers_of, IsFaultBefore, HasFault, IsFirst}
 use Rattle.crash_model.specs.Patches.{deps_of, image_of}
 use Rattle.crash_model.specs.Replay.{image_after_replay}
-use Rattle.crash_model.specs.Strict.{strict_faults}
 use Rattle.crash_model.specs.declared.fault.Fault.{Fault}
 use Rattle.crash_model.specs.declared.patches.Patch.{Patch}
 use Rattle.crash_model.proofs.FaultNumbers.{same_fault}
@@ -28,10 +27,10 @@ use Rattle.question_model.specs.Decision.{ToldDecided, AreToldDecided}
 use Rattle.question_model.specs.declared.decided_fault.DecidedFault.{DecidedFault}
 use Rattle.worked_example_laws.specs.Computed.{are_in_order, have_runs, section_of}
 use Rattle.worked_example_laws.proofs.FailingSets.{all_under, failing_quickly_under, failing_under_are}
-use Rattle.worked_example_laws.proofs.FailingSets.{quick_faults_keeping, quick_faults_under}
-use Rattle.worked_example_laws.proofs.QuickFaults.{replayed, quick_faults_are}
+use Rattle.worked_example_laws.proofs.FailingSets.{quick_faults_under, quick_faults_under_are}
+use Rattle.worked_example_laws.proofs.QuickFaults.{replayed}
 use Rattle.worked_example_laws.proofs.Runs.{sections_if}
-use Rattle.question_laws.proofs.Orders.{Ascends, ascends, in_pairs}
+use Rattle.worked_example_laws.proofs.Orders.{Ascends, ascends, in_pairs}
 use Rattle.question_laws.proofs.Testing.{either_true, all_from, less_is, is_set, set_is, first_that, first_passing}
 
 -- ---- the test
@@ -55,7 +54,7 @@ are_decided found sets fs =
 abbrev pub is_decided : Detail → Disk → List Patch → List ℕ → List DecidedFault → Bool
 is_decided detail base patches sets fs =
     are_in_order (length (deps_of patches)) sets (failing_quickly_under detail.demands base patches)
-    && (are_decided (λ set. quick_faults_under detail.demands (replayed (image_of base patches set))) sets fs
+    && (are_decided (λ set. quick_faults_under detail.demands set (replayed (image_of base patches set))) sets fs
     && have_runs patches (map (λ f. f.first) fs))
 
 -- what a report shows of the faults
@@ -113,20 +112,15 @@ rising (f ∷ g ∷ fs) e =
       rest,
     )
 
-keeping_quickly : (kept : Option ℕ) (d : Disk) → quick_faults_keeping kept d ≡ faults_keeping kept d
-keeping_quickly None d = quick_faults_are d
-keeping_quickly (Some kept) d = ap (λ found. found ++ strict_faults kept d) (quick_faults_are d)
-
 module _ (detail : Detail) (base : Disk) (patches : List Patch) where
   abbrev pub found_in : ℕ → List Fault
-  found_in set = faults_under detail.demands (image_after_replay (image_of base patches set))
+  found_in set = faults_under detail.demands set (image_after_replay (image_of base patches set))
 
   abbrev pub quickly_in : ℕ → List Fault
-  quickly_in set = quick_faults_under detail.demands (replayed (image_of base patches set))
+  quickly_in set = quick_faults_under detail.demands set (replayed (image_of base patches set))
 
   pub quickly : quickly_in ≡ found_in
-  quickly = λ i set. faults_showing detail.demands.disks (image_after_replay (image_of base patches set))
-      (keeping_quickly detail.demands.kept (image_after_replay (image_of base patches set)) i)
+  quickly = λ i set. quick_faults_under_are detail.demands set (image_after_replay (image_of base patches set)) i
 
   decided_from : (sets : List ℕ) → AreAllInOrder (IsFailingUnder detail.demands base patches) sets
       → (fs : List DecidedFault) → are_decided found_in sets fs ≡ true

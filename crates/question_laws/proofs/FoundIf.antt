@@ -35,12 +35,12 @@ use Rattle.worked_example_laws.proofs.Runs.{sections_if}
 use Rattle.question_laws.proofs.Numbered.{all_kinds, all_refusals, each_kind, each_refusal, kind_same, refusal_same}
 use Rattle.question_laws.proofs.Numbered.{Steps, stepped_up}
 use Rattle.question_laws.proofs.OneFound.{patches_one}
-use Rattle.question_laws.proofs.Orders.{ascends, in_pairs, key_in}
+use Rattle.worked_example_laws.proofs.Orders.{ascends, in_pairs, key_in}
 use Rattle.question_laws.proofs.SequencesIf.{are_all, all_if, none_if}
 use Rattle.question_laws.proofs.Sequences.{first_is}
 use Rattle.question_laws.proofs.SomeWorkloads.{some_patches}
 use Rattle.question_laws.proofs.Testing.{both_true, either_true, all_from, is_set, set_is, first_that, first_passing}
-use Rattle.question_laws.proofs.WorkloadsIf.{all_at, demands_at, workload_at, fails_at, refused_at, shows_at}
+use Rattle.question_laws.proofs.WorkloadsIf.{all_at, demands_at, is_workload_at, fails_at, refused_at, shows_at}
 use Rattle.question_laws.proofs.WorkloadsIf.{has_kind_quickly, fails_if, if_fails, workload_if, if_workload, refused_if}
 use Rattle.question_laws.proofs.WorkloadsIf.{if_refused, shows_if, if_shows, workload_in, refused_in, kind_if, kind_is}
 
@@ -121,8 +121,8 @@ are_shown s ks =
 
 abbrev pub finds : Search → Expected → Bool
 finds s e =
-    are_all (all_at s) (workload_at s) e.workloads
-    && (are_all (all_at s) (λ places. workload_at s places && fails_at s places) e.failing
+    are_all (all_at s) (is_workload_at s) e.workloads
+    && (are_all (all_at s) (λ places. is_workload_at s places && fails_at s places) e.failing
     && (are_counted s e.refused && are_shown s e.kinds))
 
 -- ---- what they say
@@ -295,23 +295,23 @@ module _ (s : Search) where
 
   pub found_if : (e : Expected) → finds s e ≡ true → AreFound s (found_of e)
   found_if e passes =
-      let one = and_parts (are_all (all_at s) (workload_at s) e.workloads) _ passes in
-      let two = and_parts (are_all (all_at s) (λ places. workload_at s places && fails_at s places) e.failing) _
+      let one = and_parts (are_all (all_at s) (is_workload_at s) e.workloads) _ passes in
+      let two = and_parts (are_all (all_at s) (λ places. is_workload_at s places && fails_at s places) e.failing) _
       one.1 in
       let three = and_parts (are_counted s e.refused) (are_shown s e.kinds) two.1 in
       record {
         workloads = (
           e.workloads,
-          all_if (IsWorkload s) (all_at s) (workload_at s) (workload_if s) (if_workload s)
+          all_if (IsWorkload s) (all_at s) (is_workload_at s) (workload_if s) (if_workload s)
               (workload_in s) e.workloads one.0,
           refl,
         );
         failing = (
           e.failing,
-          all_if (IsFailingWorkload s) (all_at s) (λ places. workload_at s places && fails_at s places)
-              (λ places both. let parts = and_parts (workload_at s places) (fails_at s places) both in
+          all_if (IsFailingWorkload s) (all_at s) (λ places. is_workload_at s places && fails_at s places)
+              (λ places both. let parts = and_parts (is_workload_at s places) (fails_at s places) both in
               (workload_if s places parts.0, fails_if s places parts.1))
-              (λ places is. both_true (workload_at s places) (fails_at s places) (if_workload s places is.0)
+              (λ places is. both_true (is_workload_at s places) (fails_at s places) (if_workload s places is.0)
               (if_fails s places is.1))
               (λ places is. workload_in s places is.0) e.failing two.0,
           refl,
@@ -322,8 +322,8 @@ module _ (s : Search) where
 
   pub shown_part : (e : Expected) → finds s e ≡ true → are_shown s e.kinds ≡ true
   shown_part e passes =
-      let one = and_parts (are_all (all_at s) (workload_at s) e.workloads) _ passes in
-      let two = and_parts (are_all (all_at s) (λ places. workload_at s places && fails_at s places) e.failing) _
+      let one = and_parts (are_all (all_at s) (is_workload_at s) e.workloads) _ passes in
+      let two = and_parts (are_all (all_at s) (λ places. is_workload_at s places && fails_at s places) e.failing) _
       one.1 in
       (and_parts (are_counted s e.refused) (are_shown s e.kinds) two.1).1
 

@@ -1,4 +1,3 @@
-pub mod Orders
 pub mod OneStart
 pub mod OneDecision
 pub mod OneFirst

@@ -4,7 +4,7 @@ use Rattle.std.specs.Prelude.{◌⊎◌, ◌↔◌}
 use Rattle.std.specs.List.{Contains}
 use Rattle.std.proofs.lemmas.List.Elements.{All-nil, All-cons}
 use Rattle.patch_sets.proofs.Lists.{front_or_rest, in_front, in_rest, in_none}
-use Rattle.question_laws.proofs.Orders.{Ascends}
+use Rattle.worked_example_laws.proofs.Orders.{Ascends}
 
 module _ {X : Type 0} (R : X → X → Type 0) where
   -- those of a list in order that have a property

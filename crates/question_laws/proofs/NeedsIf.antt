@@ -26,8 +26,8 @@ use Rattle.question_laws.proofs.Sequences.{first_is}
 use Rattle.question_laws.proofs.SomeFirst.{first_told}
 use Rattle.question_laws.proofs.SomeWorkloads.{some_patches}
 use Rattle.question_laws.proofs.Testing.{both_true, true_or_false, all_from}
-use Rattle.question_laws.proofs.WorkloadsIf.{all_at, demands_at, workload_at, fails_at, fails_if, if_fails, if_passes}
-use Rattle.question_laws.proofs.WorkloadsIf.{passing}
+use Rattle.question_laws.proofs.WorkloadsIf.{all_at, demands_at, is_workload_at, fails_at, fails_if, if_fails}
+use Rattle.question_laws.proofs.WorkloadsIf.{if_passes, passing}
 use Rattle.question_laws.proofs.WorkloadsIf.{workload_if, if_workload, workload_in}
 
 -- a group of rules, the workloads that fail without it, and of the first of these the sets that fail and what is
@@ -43,7 +43,7 @@ pub record NeededBy : Type 0 where
 -- a workload that does not fail, and fails by these rules
 abbrev pub fails_by : Search → List Rule → List ℕ → Bool
 fails_by s rules places =
-    (workload_at s places && not (fails_at s places)) && fails_at (search_with s rules) places
+    (is_workload_at s places && not (fails_at s places)) && fails_at (search_with s rules) places
 
 abbrev pub are_enough_for : Search → List Rule → Bool
 are_enough_for s rules = list_all (λ places. not (fails_by s rules places)) (all_at s)
@@ -95,15 +95,15 @@ not_of_false false e = cc
 module _ (s : Search) where
   fails_by_if : (rules : List Rule) (places : List ℕ) → fails_by s rules places ≡ true → FailsBy s rules places
   fails_by_if rules places e =
-      let one = and_parts (workload_at s places && not (fails_at s places))
+      let one = and_parts (is_workload_at s places && not (fails_at s places))
       (fails_at (search_with s rules) places) e in
-      let two = and_parts (workload_at s places) (not (fails_at s places)) one.0 in
+      let two = and_parts (is_workload_at s places) (not (fails_at s places)) one.0 in
       ((workload_if s places two.0, passing s places two.1), fails_if (search_with s rules) places one.1)
 
   if_fails_by : (rules : List Rule) (places : List ℕ) → FailsBy s rules places → fails_by s rules places ≡ true
   if_fails_by rules places is =
-      both_true (workload_at s places && not (fails_at s places)) (fails_at (search_with s rules) places)
-      (both_true (workload_at s places) (not (fails_at s places)) (if_workload s places is.0.0)
+      both_true (is_workload_at s places && not (fails_at s places)) (fails_at (search_with s rules) places)
+      (both_true (is_workload_at s places) (not (fails_at s places)) (if_workload s places is.0.0)
       (if_passes s places is.0.1))
       (if_fails (search_with s rules) places is.1)
 

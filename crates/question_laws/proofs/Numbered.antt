@@ -10,7 +10,7 @@ use Rattle.question_model.specs.declared.fault_kind.FaultKind.TheVariants as kin
 use Rattle.question_model.specs.declared.refusal.Refusal.{Refusal}
 use Rattle.question_model.specs.declared.refusal.Refusal.TheVariants as refused
 use Rattle.question_laws.proofs.Deciding.{like, same_number}
-use Rattle.question_laws.proofs.Orders.{Ascends}
+use Rattle.worked_example_laws.proofs.Orders.{Ascends}
 
 abbrev kind_at : ℕ → FaultKind
 kind_at n =
@@ -22,7 +22,8 @@ kind_at n =
     else (if n == 6 then kind.Wild
     else (if n == 7 then kind.Lost
     else (if n == 8 then kind.NoBlock
-    else kind.HalfDone)))))))
+    else (if n == 9 then kind.HalfDone
+    else kind.BrokenPromise))))))))
 
 kind_back : (k : FaultKind) → kind_at (kind_number k) ≡ k
 kind_back kind.Dangling = refl
@@ -34,6 +35,7 @@ kind_back kind.Wild = refl
 kind_back kind.Lost = refl
 kind_back kind.NoBlock = refl
 kind_back kind.HalfDone = refl
+kind_back kind.BrokenPromise = refl
 
 pub kind_same : (k other : FaultKind) → kind_number k ≡ kind_number other → k ≡ other
 kind_same k other e = sym (kind_back k) ∙ (ap kind_at e ∙ kind_back other)
@@ -83,7 +85,7 @@ same_refusal r other = like (refusal_same r other) (λ e. ap refusal_number e)
 abbrev pub all_kinds : List FaultKind
 all_kinds =
     kind.Dangling ∷ kind.Twice ∷ kind.Unwritten ∷ kind.LowLinks ∷ kind.MarkedFree ∷ kind.Wild ∷ kind.Lost
-    ∷ kind.NoBlock ∷ kind.HalfDone ∷ []
+    ∷ kind.NoBlock ∷ kind.HalfDone ∷ kind.BrokenPromise ∷ []
 
 abbrev pub all_refusals : List Refusal
 all_refusals =
@@ -101,6 +103,7 @@ each_kind kind.Wild = (5, omega arith, refl)
 each_kind kind.Lost = (6, omega arith, refl)
 each_kind kind.NoBlock = (7, omega arith, refl)
 each_kind kind.HalfDone = (8, omega arith, refl)
+each_kind kind.BrokenPromise = (9, omega arith, refl)
 
 pub each_refusal : (r : Refusal) → Contains all_refusals r
 each_refusal refused.TooManyPatches = (0, omega arith, refl)

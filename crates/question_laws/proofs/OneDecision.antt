@@ -1,17 +1,13 @@
 -- There is at most one decision.
-use Rattle.std.proofs.Common.{◌≡◌, ◌≢◌, ℕ, List, [], ◌∷◌, length, map, refl, sym, subst, ap, ◌∙◌, inl, inr}
-use Rattle.std.specs.Prelude.{◌⊎◌}
-use Rattle.std.specs.Ordering.{ordering_reverse}
-use Rattle.std.specs.Cmp.Lexicographic.{nat_list_cmp_total}
-use Rattle.std.specs.declared.cmp.Ordering.TheVariants.{Less, Greater}
+use Rattle.std.proofs.Common.{◌≡◌, ℕ, List, length, map, sym, subst, ap, ◌∙◌}
+use Rattle.std.specs.Prelude.{None, if◌then◌else◌}
 use Rattle.state_space.proofs.Counting.{one_number}
 use Rattle.patch_sets.specs.Closed.{IsClosed}
-use Rattle.patch_sets.proofs.Bits.{eq_or_not}
 use Rattle.report_model.specs.Answer.{detail_of, ordering_rules}
 use Rattle.report_model.specs.Report.{Detail, AreSections}
 use Rattle.crash_model.specs.Disk.{Disk}
 use Rattle.crash_model.specs.Checker.{Demands}
-use Rattle.crash_model.specs.FaultRows.{numbers_of, IsFaultBefore, HasFault, IsFirst}
+use Rattle.crash_model.specs.FaultRows.{IsFaultBefore, HasFault, IsFirst}
 use Rattle.crash_model.specs.Lists.{when}
 use Rattle.crash_model.specs.Patches.{deps_of}
 use Rattle.crash_model.specs.Reasons.{explanation}
@@ -22,28 +18,8 @@ use Rattle.crash_model.specs.declared.settings.Settings.{Settings}
 use Rattle.question_model.specs.Decided.{AreDecided}
 use Rattle.question_model.specs.Decision.{ToldDecided, AreToldDecided, IsDecision, decision_bytes}
 use Rattle.question_model.specs.declared.decided_fault.DecidedFault.{DecidedFault}
-use Rattle.uniqueness_laws.proofs.OneGraph.{heads, tails}
-use Rattle.worked_example_laws.proofs.OneBody.{sections_one}
-use Rattle.worked_example_laws.proofs.Sets.{order}
-use Rattle.question_laws.proofs.Orders.{one_keyed}
-
-less_or_greater : Less ≡ Greater → ⊥
-less_or_greater e = cc
-
-pub not_both : (f g : Fault) → IsFaultBefore f g → IsFaultBefore g f → ⊥
-not_both f g before after =
-    less_or_greater (sym before ∙ (nat_list_cmp_total.antisymm (numbers_of f) (numbers_of g)
-    ∙ ap ordering_reverse after))
-
-pub first_one : (P : ℕ → Type 0) (a b : ℕ) → IsFirst P a → IsFirst P b → a ≡ b
-first_one P a b is also = by (eq_or_not a b)
-  where
-    by : (a ≡ b) ⊎ (a ≢ b) → a ≡ b
-    by (inl e) = e
-    by (inr apart) = elim (order a b apart) [
-      | inl before ↦ absurd (also.first a is.among before)
-      | inr before ↦ absurd (is.first b also.among before)
-    ]
+use Rattle.worked_example_laws.proofs.OneBody.{sections_one, not_both, first_one}
+use Rattle.worked_example_laws.proofs.Orders.{one_keyed, same_parts, same_told}
 
 module _ (has : Fault → ℕ → Type 0) where
   abbrev pub IsShown : DecidedFault → Type 0
@@ -60,28 +36,8 @@ module _ (has : Fault → ℕ → Type 0) where
       one_keyed IsFaultBefore not_both (λ f. f.fault) IsShown shown_one fs gs is.ordered also.ordered is.each also.each
       (λ f here. is.every f.fault f.first here.among) (λ f here. also.every f.fault f.first here.among)
 
-same_firsts : (told others : List ToldDecided) → map (λ t. t.decided) told ≡ map (λ t. t.decided) others
-    → map (λ t. t.decided.first) told ≡ map (λ t. t.decided.first) others
-same_firsts [] [] same = refl
-same_firsts [] (o ∷ others) same = cc
-same_firsts (t ∷ told) [] same = cc
-same_firsts (t ∷ told) (o ∷ others) same =
-    let first : t.decided.first ≡ o.decided.first = ap (λ (f : DecidedFault). f.first) (heads same) in
-    let rest : map (λ t. t.decided.first) told ≡ map (λ t. t.decided.first) others = same_firsts told others
-    (tails same) in
-    cc (first, rest)
-
-same_told : (told others : List ToldDecided) → map (λ t. t.decided) told ≡ map (λ t. t.decided) others
-    → map (λ t. t.first) told ≡ map (λ t. t.first) others → told ≡ others
-same_told [] [] faults firsts = refl
-same_told [] (o ∷ others) faults firsts = cc
-same_told (t ∷ told) [] faults firsts = cc
-same_told (t ∷ told) (o ∷ others) faults firsts =
-    let fault : t.decided ≡ o.decided = heads faults in
-    let first : t.first ≡ o.first = heads firsts in
-    let front : t ≡ o = λ i. record { decided = fault i; first = first i } in
-    let rest : told ≡ others = same_told told others (tails faults) (tails firsts) in
-    cc (front, rest)
+told_one : (t o : ToldDecided) → t.decided ≡ o.decided → t.first ≡ o.first → t ≡ o
+told_one t o decided first = λ i. record { decided = decided i; first = first i }
 
 pub told_decided_one : (detail : Detail) (base : Disk) (patches : List Patch) (told others : List ToldDecided)
     → AreToldDecided detail base patches told → AreToldDecided detail base patches others → told ≡ others
@@ -89,9 +45,10 @@ told_decided_one detail base patches told others is also =
     let faults = decided_one (HasFault detail.demands base patches) (map (λ t. t.decided) told)
     (map (λ t. t.decided) others) is.decided also.decided in
     let firsts = subst (λ some. AreSections detail base patches some (map (λ t. t.first) told))
-    (same_firsts told others faults) is.firsts in
-    same_told told others faults (sections_one detail base patches (map (λ t. t.decided.first) others)
-    (map (λ t. t.first) told) (map (λ t. t.first) others) firsts also.firsts)
+    (same_parts (λ (t : ToldDecided). t.decided) (λ (f : DecidedFault). f.first) told others faults) is.firsts in
+    same_told (λ (t : ToldDecided). t.decided) (λ (t : ToldDecided). t.first) told_one told others faults
+    (sections_one detail base patches (map (λ t. t.decided.first) others) (map (λ t. t.first) told)
+    (map (λ t. t.first) others) firsts also.firsts)
 
 module _ (settings : Settings) where
   pub decision_one : (demands : Demands) (base : Disk) (last : Tracing) (patches : List Patch) (text other : List ℕ)
@@ -108,6 +65,7 @@ module _ (settings : Settings) where
           patches = length patches;
           closed = total i;
           explanation = when settings.explain (explanation (ordering_rules settings) base last patches);
+          promises = if settings.explain then demands.promises else None;
           faults = told i;
         })) ∙ sym also.whole),
         is.number_of ∙ (ap (λ (some : List ToldDecided). length some) told ∙ sym also.number_of),

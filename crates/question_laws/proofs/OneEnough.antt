@@ -1,6 +1,6 @@
 -- There is at most one report of the rules that a script needs.
 use Rattle.std.proofs.Common.{◌≡◌, ℕ, List, length, map, sym, ap, ◌∙◌}
-use Rattle.std.specs.Prelude.{Option, option_to_list}
+use Rattle.std.specs.Prelude.{Option, None, option_to_list, if◌then◌else◌}
 use Rattle.state_space.proofs.Counting.{one_number}
 use Rattle.patch_sets.specs.Closed.{IsClosed}
 use Rattle.patch_sets.proofs.Canonical.{one_list}
@@ -17,7 +17,7 @@ use Rattle.question_model.specs.Decision.{ToldDecided}
 use Rattle.question_model.specs.Enough.{IsMinimalEnough, IsNeeded}
 use Rattle.question_model.specs.EnoughReport.{IsEnoughReport, IsToldGroup, rules_report_bytes}
 use Rattle.question_laws.proofs.OneFirst.{told_any_one, told_group_one}
-use Rattle.question_laws.proofs.Orders.{same_keyed}
+use Rattle.worked_example_laws.proofs.Orders.{same_keyed}
 
 module _ (settings : Settings) where
   pub enough_one : (demands : Demands) (base : Disk) (last : Tracing) (patches : List Patch) (text other : List ℕ)
@@ -42,6 +42,7 @@ module _ (settings : Settings) where
           patches = length patches;
           closed = total i;
           explanation = when settings.explain (explanation rules base last patches);
+          promises = if settings.explain then demands.promises else None;
           enough = enough i;
           needs = needs i;
           first = first i;

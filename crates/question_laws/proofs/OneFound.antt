@@ -10,7 +10,7 @@ use Rattle.question_model.specs.Found.{IsCounted, AreCounted, IsShown, AreShown,
 use Rattle.question_model.specs.Kinds.{kind_number}
 use Rattle.question_model.specs.Refused.{refusal_number}
 use Rattle.question_model.specs.Sequences.{CountsSequences, IsFirstSequence}
-use Rattle.question_model.specs.Workloads.{Search, steps_at, trace_at, HasPatches, IsWorkload, IsFailingWorkload}
+use Rattle.question_model.specs.Workloads.{Search, workload_at, trace_at, HasPatches, IsWorkload, IsFailingWorkload}
 use Rattle.question_model.specs.Workloads.{IsRefusedFor, HasKind, ShowsKind}
 use Rattle.question_model.specs.declared.fault_kind.FaultKind.{FaultKind}
 use Rattle.question_model.specs.declared.found.Found.{Found}
@@ -19,8 +19,8 @@ use Rattle.question_model.specs.declared.found.ShownKind.{ShownKind}
 use Rattle.question_model.specs.declared.refusal.Refusal.{Refusal}
 use Rattle.uniqueness_laws.proofs.Demands.{one_demands}
 use Rattle.uniqueness_laws.proofs.OneGraph.{graph_one}
-use Rattle.question_laws.proofs.OneDecision.{first_one}
-use Rattle.question_laws.proofs.Orders.{one_keyed}
+use Rattle.worked_example_laws.proofs.OneBody.{first_one}
+use Rattle.worked_example_laws.proofs.Orders.{one_keyed}
 use Rattle.question_laws.proofs.Sequences.{count_one, counted_some, first_sequence_one}
 
 less_both : (n m : ℕ) → n < m → m < n → ⊥
@@ -35,7 +35,7 @@ module _ (s : Search) where
       → HasPatches s places demands patches → HasPatches s places more others → (demands ≡ more) × (patches ≡ others)
   patches_one places demands more patches others is also =
       let lasts : is.last ≡ also.last = last_one (trace_at s places) is.last also.last is.traced also.traced in (
-        one_demands s.strict s.atomic s.base (steps_at s.pool places) demands more is.told also.told,
+        one_demands s.asked s.base (workload_at s places) demands more is.told also.told,
         graph_one s.rules s.base also.last patches others
             (subst (λ last. IsGraphOf s.rules s.base last patches) lasts is.graph) also.graph,
       )

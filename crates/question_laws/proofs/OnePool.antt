@@ -9,7 +9,7 @@ use Rattle.crash_model.specs.declared.settings.Settings.{Settings}
 use Rattle.crash_model.specs.declared.steps.Step.{Step}
 use Rattle.question_model.specs.Answers.{IsReportedOfPool}
 use Rattle.question_model.specs.SearchReport.{IsSearchRefusal, before_the_pool, no_operation}
-use Rattle.question_model.specs.Workloads.{IsOperation}
+use Rattle.question_model.specs.Workloads.{IsOfPool}
 use Rattle.uniqueness_laws.proofs.OneGraph.{heads, tails}
 use Rattle.question_laws.proofs.OneStart.{base_one, untraced_one}
 
@@ -47,14 +47,14 @@ module _ (bytes : List ℕ) (settings : Settings) where
       (no_operation base' front' rest' step' has' all' not_one') =
       let same = base_one bytes settings base base' (front ++ step ∷ rest) (front' ++ step' ∷ rest') has has' in
       ap (λ (x : Step). GroupFault x.line)
-      (first_without IsOperation front front' step step' rest rest' same.1 all not_one all' not_one')
+      (first_without IsOfPool front front' step step' rest rest' same.1 all not_one all' not_one')
 
   pub refused_or_searched : (fault : RunFault) (base : Disk) (pool : List Step) → IsSearchRefusal bytes settings fault
-      → HasBase bytes settings base pool → All IsOperation pool → ⊥
+      → HasBase bytes settings base pool → All IsOfPool pool → ⊥
   refused_or_searched fault base pool (before_the_pool _ is none) start all = none base pool start
   refused_or_searched _ base pool (no_operation other front rest step has before not_one) start all =
-      not_one (none_without IsOperation front step rest
-      (subst (All IsOperation) (base_one bytes settings base other pool (front ++ step ∷ rest) start has).1 all))
+      not_one (none_without IsOfPool front step rest
+      (subst (All IsOfPool) (base_one bytes settings base other pool (front ++ step ∷ rest) start has).1 all))
 
   module _ (IsOn : Disk → List Step → List ℕ → ℕ → Type 0)
       (one : (base : Disk) (pool : List Step) (text other : List ℕ) (number more : ℕ)

@@ -15,14 +15,14 @@ use Rattle.question_model.specs.SearchReport.{ToldKind, IsToldKind, search_of, s
 use Rattle.question_model.specs.SearchRulesReport.{ToldNeed, IsToldNeed, search_but, search_rules_bytes}
 use Rattle.question_model.specs.SearchRulesReport.{IsSearchRulesReport}
 use Rattle.question_model.specs.Sequences.{IsFirstSequence}
-use Rattle.question_model.specs.Workloads.{Search, steps_at, HasPatches}
+use Rattle.question_model.specs.Workloads.{Search, steps_at, places_of, HasPatches}
 use Rattle.question_model.specs.declared.found.Found.{Found}
 use Rattle.question_model.specs.declared.found.ShownKind.{ShownKind}
 use Rattle.uniqueness_laws.proofs.OneGraph.{heads}
 use Rattle.worked_example_laws.proofs.OneBody.{sections_one}
 use Rattle.question_laws.proofs.OneFirst.{told_first_one}
 use Rattle.question_laws.proofs.OneFound.{patches_one, found_one}
-use Rattle.question_laws.proofs.Orders.{same_keyed}
+use Rattle.worked_example_laws.proofs.Orders.{same_keyed}
 use Rattle.question_laws.proofs.Sequences.{first_sequence_one}
 
 module _ (s : Search) (explain : Bool) where
@@ -95,7 +95,7 @@ module _ (settings : Settings) (most : ℕ) (base : Disk) (pool : List Step) (te
       ∙ (ap (λ (f : Found). f.kinds.items) found ∙ sym also.kinds) in
       let told : is.told ≡ also.told = same_keyed (λ t. t.shown) (IsToldKind s settings.explain)
       (told_kind_one s settings.explain) is.told also.told shown is.each also.each in (
-        is.whole ∙ ((λ i. search_bytes settings most (length pool) (found i) (told i)) ∙ sym also.whole),
+        is.whole ∙ ((λ i. search_bytes settings most (length (places_of pool)) (found i) (told i)) ∙ sym also.whole),
         is.number_of ∙ (ap exit_of found ∙ sym also.number_of),
       )
 
@@ -111,7 +111,7 @@ module _ (settings : Settings) (most : ℕ) (base : Disk) (pool : List Step) (te
       (map (λ t. t.group) is.needs) (map (λ t. t.group) also.needs) is.needed also.needed in
       let needs : is.needs ≡ also.needs = same_keyed (λ t. t.group) (IsToldNeed s settings.explain)
       (told_need_one s settings.explain) is.needs also.needs groups is.told also.told in (
-        is.whole ∙ ((λ i. search_rules_bytes settings most (length pool) (found i) (enough i) (needs i))
+        is.whole ∙ ((λ i. search_rules_bytes settings most (length (places_of pool)) (found i) (enough i) (needs i))
             ∙ sym also.whole),
         is.number_of ∙ (ap exit_of found ∙ sym also.number_of),
       )

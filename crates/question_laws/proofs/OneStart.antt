@@ -2,7 +2,7 @@
 use Rattle.std.proofs.Common.{◌≡◌, ℕ, List, subst, ap}
 use Rattle.std.specs.Prelude.{Result, Ok, Err}
 use Rattle.report_model.specs.Answer.{Answer, Refused, Reported, HasBase, HasGraph, IsReported, IsUntraced}
-use Rattle.report_model.specs.Answer.{bad_script, bad_geometry, bad_base, bad_trace, untraced, ordering_rules}
+use Rattle.report_model.specs.Answer.{bad_script, bad_geometry, bad_base, bad_trace, untraced, ordering_rules, asked_by}
 use Rattle.crash_model.specs.Disk.{Disk, new_disk}
 use Rattle.crash_model.specs.Checker.{Demands, AreDemands}
 use Rattle.crash_model.specs.Trace.{Tracing, trace_start, trace_from, base_from, IsGraphOf}
@@ -114,11 +114,10 @@ module _ (bytes : List ℕ) (settings : Settings) where
             (subst (λ last. IsGraphOf (ordering_rules settings) is.base last is.patches) lasts is.graph.graph) in
             let patches : is.patches ≡ also.patches =
             graph_one (ordering_rules settings) also.base also.last is.patches also.patches graph also.graph.graph in
-            let demands : is.demands ≡ also.demands = one_demands settings.strict settings.atomic also.base
-            also.graph.steps
-            is.demands also.demands
-            (subst (λ d. AreDemands settings.strict settings.atomic d also.graph.steps is.demands) bases
-            (subst (λ some. AreDemands settings.strict settings.atomic is.base some is.demands) steps is.demanded))
+            let demands : is.demands ≡ also.demands = one_demands (asked_by settings also.graph.steps) also.base
+            also.graph.steps is.demands also.demands
+            (subst (λ d. AreDemands (asked_by settings also.graph.steps) d also.graph.steps is.demands) bases
+            (subst (λ some. AreDemands (asked_by settings some) is.base some is.demands) steps is.demanded))
             also.demanded in
             one also.demands also.base also.last also.patches text other number more also.graph.graph
             (subst (λ d. IsOn d also.base also.last also.patches text number) demands

@@ -1,6 +1,6 @@
 -- What is decided, and which rules are needed, of a script that is written down as acts.
 use Rattle.std.proofs.Common.{◌≡◌, ℕ, List, [], ◌∷◌, length, map, All, Bool, true, false, refl, sym, subst, ap}
-use Rattle.std.specs.Prelude.{◌==◌, None}
+use Rattle.std.specs.Prelude.{◌==◌, None, if◌then◌else◌}
 use Rattle.std.specs.List.{Contains, list_all}
 use Rattle.std.proofs.lemmas.List.{length-map}
 use Rattle.std.proofs.lemmas.List.Elements.{All-nil, All-cons}
@@ -149,6 +149,7 @@ module _ (settings : Settings) (before after : List Act) (closed : ℕ) (text : 
         closed = closed;
         explanation = when settings.explain (explanation (ordering_rules settings) (base_of settings before)
             (last_of settings before after) (graph settings before after));
+        promises = if settings.explain then (demanded settings before after).promises else None;
         faults = told_all (told_detail settings before after) (base_of settings before)
             (graph settings before after) fs;
       })
@@ -188,6 +189,7 @@ module _ (settings : Settings) (before after : List Act) (closed : ℕ) (text : 
         closed = closed;
         explanation = when settings.explain (explanation (ordering_rules settings) (base_of settings before)
             (last_of settings before after) (graph settings before after));
+        promises = if settings.explain then (demanded settings before after).promises else None;
         enough = sets;
         needs = map (told_group (told_detail settings before after) (ordering_rules settings) (base_of settings before)
             (last_of settings before after)) groups;

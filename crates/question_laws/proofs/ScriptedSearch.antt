@@ -1,22 +1,20 @@
 -- What a search finds, and which rules its workloads need, in a pool that is written down as acts.
-use Rattle.std.proofs.Common.{◌≡◌, ℕ, List, [], ◌∷◌, length, map, All, Bool, true, false, ◌&&◌, refl, subst}
-use Rattle.std.specs.Prelude.{◌==◌, if◌then◌else◌}
+use Rattle.std.proofs.Common.{◌≡◌, ℕ, List, [], ◌∷◌, length, map, All, Bool, true, ◌&&◌, refl, subst}
+use Rattle.std.specs.Prelude.{◌==◌, ◌||◌, if◌then◌else◌}
 use Rattle.std.specs.List.{list_all}
 use Rattle.std.proofs.lemmas.Bool.{and_parts}
 use Rattle.std.proofs.lemmas.List.Elements.{All-nil, All-cons}
 use Rattle.patch_sets.specs.Sets.{AreAllInOrder}
 use Rattle.report_model.specs.Answer.{Reported, ordering_rules}
-use Rattle.crash_model.specs.declared.operations.Op.{Op}
 use Rattle.crash_model.specs.declared.settings.Settings.{Settings}
 use Rattle.crash_model.specs.declared.steps.Act.{Act}
-use Rattle.crash_model.specs.declared.steps.Act.TheVariants.{Do, Group, End, Depend}
 use Rattle.crash_model.specs.declared.steps.Step.{Step}
 use Rattle.question_model.specs.Answers.{IsAnswerTo}
 use Rattle.question_model.specs.EnoughFor.{AreEnoughFor, IsNeededInSearch}
 use Rattle.question_model.specs.Lengths.{operations_of}
 use Rattle.question_model.specs.SearchReport.{search_of, search_bytes}
 use Rattle.question_model.specs.SearchRulesReport.{search_rules_bytes}
-use Rattle.question_model.specs.Workloads.{Search, IsOperation}
+use Rattle.question_model.specs.Workloads.{Search, IsOfPool, is_place, is_keep, places_of}
 use Rattle.question_model.specs.declared.length.WorkloadLength.{WorkloadLength}
 use Rattle.question_model.specs.declared.question.Question.TheVariants as asks
 use Rattle.worked_example_laws.specs.Spelled.{script, base_of, trace_steps}
@@ -27,30 +25,19 @@ use Rattle.question_laws.proofs.NeedsIf.{not_enough_for_if, needs_if, same_needs
 use Rattle.question_laws.proofs.RulesIf.{are_minimal, are_needed, all_minimal, all_needed}
 use Rattle.question_laws.proofs.Told.{is_started, started}
 
-abbrev pub is_operation : Act → Bool
-is_operation (Do op) = true
-is_operation (Group a) = false
-is_operation End = false
-is_operation (Depend b a) = false
+-- a pool may have all of the steps
+abbrev pub are_of_pool : List Step → Bool
+are_of_pool [] = true
+are_of_pool (step ∷ steps) = (is_place step.act || is_keep step.act) && are_of_pool steps
 
-abbrev pub are_operations : List Step → Bool
-are_operations [] = true
-are_operations (step ∷ steps) = is_operation step.act && are_operations steps
-
-operations_if : (steps : List Step) → are_operations steps ≡ true → All IsOperation steps
-operations_if [] e = All-nil IsOperation
-operations_if (step ∷ steps) e =
-    let parts = and_parts (is_operation step.act) (are_operations steps) e in
-    All-cons IsOperation step steps (by step.act parts.0) (operations_if steps parts.1)
-  where
-    by : (act : Act) → is_operation act ≡ true → (op : Op) × (act ≡ Do op)
-    by (Do op) e' = (op, refl)
-    by (Group a) e' = cc
-    by End e' = cc
-    by (Depend b a) e' = cc
+of_pool_if : (steps : List Step) → are_of_pool steps ≡ true → All IsOfPool steps
+of_pool_if [] e = All-nil IsOfPool
+of_pool_if (step ∷ steps) e =
+    let parts = and_parts (is_place step.act || is_keep step.act) (are_of_pool steps) e in
+    All-cons IsOfPool step steps parts.0 (of_pool_if steps parts.1)
 
 module _ (settings : Settings) (before after : List Act) (longest : WorkloadLength) (text : List ℕ) (e : Expected)
-    (begun : is_started settings before after ≡ true) (operations : are_operations (trace_steps before after) ≡ true)
+    (begun : is_started settings before after ≡ true) (operations : are_of_pool (trace_steps before after) ≡ true)
     (found : finds (search_of settings (operations_of longest) (base_of settings before) (trace_steps before after)) e
     ≡ true) where
   abbrev pool : List Step
@@ -59,7 +46,8 @@ module _ (settings : Settings) (before after : List Act) (longest : WorkloadLeng
   abbrev s : Search
   s = search_of settings (operations_of longest) (base_of settings before) pool
 
-  pub searched : text ≡ search_bytes settings (operations_of longest) (length (trace_steps before after)) (found_of e)
+  pub searched : text ≡ search_bytes settings (operations_of longest)
+      (length (places_of (trace_steps before after))) (found_of e)
       (map (told_kind (search_of settings (operations_of longest) (base_of settings before) (trace_steps before after))
       settings.explain) e.kinds)
       → IsAnswerTo (asks.Search longest) (script before after) settings
@@ -68,7 +56,7 @@ module _ (settings : Settings) (before after : List Act) (longest : WorkloadLeng
     base = base_of settings before;
     pool = pool;
     start = started settings before after begun;
-    operations = operations_if pool operations;
+    operations = of_pool_if pool operations;
     report = record {
       found = found_of e;
       exactly = found_if s e found;
@@ -90,7 +78,7 @@ module _ (settings : Settings) (before after : List Act) (longest : WorkloadLeng
       → list_all (is_needed_by
       (search_of settings (operations_of longest) (base_of settings before) (trace_steps before after))
       settings.explain) needs ≡ true
-      → text ≡ search_rules_bytes settings (operations_of longest) (length (trace_steps before after))
+      → text ≡ search_rules_bytes settings (operations_of longest) (length (places_of (trace_steps before after)))
       (found_of e) sets
       (map (told_need (search_of settings (operations_of longest) (base_of settings before) (trace_steps before after))
       settings.explain) needs)
@@ -100,7 +88,7 @@ module _ (settings : Settings) (before after : List Act) (longest : WorkloadLeng
     base = base_of settings before;
     pool = pool;
     start = started settings before after begun;
-    operations = operations_if pool operations;
+    operations = of_pool_if pool operations;
     report = record {
       found = found_of e;
       exactly = found_if s e found;

@@ -10,7 +10,7 @@ use Rattle.std.specs.declared.cmp.Ordering.TheVariants.{Less, Equal, Greater}
 use Rattle.state_space.proofs.Counting.{Order, below, same, above, order_of}
 use Rattle.patch_sets.proofs.Lists.{front_or_rest, in_front}
 use Rattle.question_model.specs.Sequences.{IsSequenceBefore, AreAllSequences, CountsSequences, IsFirstSequence}
-use Rattle.question_laws.proofs.Orders.{Ascends, ascends, one_order}
+use Rattle.worked_example_laws.proofs.Orders.{Ascends, ascends, one_order}
 
 less_or_greater : Less ≡ Greater → ⊥
 less_or_greater e = cc

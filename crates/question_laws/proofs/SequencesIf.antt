@@ -10,7 +10,7 @@ use Rattle.std.proofs.lemmas.Slice.Eq.{bytes_eq-Decides}
 use Rattle.patch_sets.proofs.Ids.{eq_from_true}
 use Rattle.patch_sets.proofs.Lists.{front_or_rest, in_front, in_rest, in_none}
 use Rattle.question_model.specs.Sequences.{IsSequenceBefore, AreAllSequences}
-use Rattle.question_laws.proofs.Orders.{Ascends, in_pairs, at_key, key_in}
+use Rattle.worked_example_laws.proofs.Orders.{Ascends, in_pairs, at_key, key_in}
 use Rattle.question_laws.proofs.Sequences.{sequence_trans}
 use Rattle.question_laws.proofs.Testing.{either_true, all_from, skipped, less_is}
 

@@ -1,5 +1,6 @@
 -- There is a decision.
 use Rattle.std.proofs.Common.{ℕ, List, length, refl}
+use Rattle.std.specs.Prelude.{None, if◌then◌else◌}
 use Rattle.report_model.specs.Answer.{ordering_rules}
 use Rattle.crash_model.specs.Disk.{Disk}
 use Rattle.crash_model.specs.Checker.{Demands}
@@ -23,6 +24,7 @@ some_decision settings demands base last patches graph =
       patches = length patches;
       closed = length (closed_sets (deps_of patches));
       explanation = when settings.explain (explanation (ordering_rules settings) base last patches);
+      promises = if settings.explain then demands.promises else None;
       faults = told.0;
     } in (
       decision_bytes settings decision,

@@ -1,6 +1,6 @@
 -- There is a report of the rules that a script needs.
 use Rattle.std.proofs.Common.{◌≡◌, ℕ, List, [], ◌∷◌, length, map, All, refl, sym, subst, inl, inr}
-use Rattle.std.specs.Prelude.{◌⊎◌, option_to_list}
+use Rattle.std.specs.Prelude.{◌⊎◌, None, option_to_list, if◌then◌else◌}
 use Rattle.std.specs.List.{Contains}
 use Rattle.std.proofs.lemmas.List.Elements.{All-nil, All-cons}
 use Rattle.patch_sets.specs.Sets.{AreAllInOrder}
@@ -110,6 +110,7 @@ some_enough settings demands base last patches graph =
       patches = length patches;
       closed = length (closed_sets (deps_of patches));
       explanation = when settings.explain (explanation rules base last patches);
+      promises = if settings.explain then demands.promises else None;
       enough = enough.0;
       needs = needs.0;
       first = first.0;

@@ -27,7 +27,7 @@ use Rattle.question_model.specs.EnoughReport.{IsToldFirst, IsToldAny}
 use Rattle.question_model.specs.declared.decided_fault.DecidedFault.{DecidedFault}
 use Rattle.uniqueness_laws.proofs.OneGraph.{heads}
 use Rattle.worked_example_laws.proofs.SomeBody.{some_body, some_failing}
-use Rattle.question_laws.proofs.Orders.{Ascends, ascends, in_pairs, at_key}
+use Rattle.worked_example_laws.proofs.Orders.{Ascends, ascends, in_pairs, at_key}
 
 -- ---- rows of faults without their counts
 
@@ -118,9 +118,9 @@ module _ (demands : Demands) (base : Disk) (patches : List Patch) where
   -- a failing set has a fault
   pub fault_of : (set : ℕ) → IsFailingUnder demands base patches set → (fault : Fault)
       × HasFault demands base patches fault set
-  fault_of set is = by (faults_under demands (image_after_replay (image_of base patches set))) refl
+  fault_of set is = by (faults_under demands set (image_after_replay (image_of base patches set))) refl
     where
-      by : (found : List Fault) → faults_under demands (image_after_replay (image_of base patches set)) ≡ found
+      by : (found : List Fault) → faults_under demands set (image_after_replay (image_of base patches set)) ≡ found
           → (fault : Fault) × HasFault demands base patches fault set
       by [] e = absurd (is.unclean (record { faultless = e }))
       by (f ∷ fs) e = (

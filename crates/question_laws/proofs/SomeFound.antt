@@ -18,7 +18,7 @@ use Rattle.question_model.specs.declared.refusal.Refusal.{Refusal}
 use Rattle.question_laws.proofs.Listing.{table}
 use Rattle.question_laws.proofs.Numbered.{all_kinds, all_refusals, each_kind, each_refusal, kinds_up, refusals_up}
 use Rattle.question_laws.proofs.OneFound.{patches_one}
-use Rattle.question_laws.proofs.Orders.{in_pairs}
+use Rattle.worked_example_laws.proofs.Orders.{in_pairs}
 use Rattle.question_laws.proofs.SomeSequences.{some_sequences, first_sequence}
 use Rattle.question_laws.proofs.SomeWorkloads.{is_workload, is_failing_workload, is_refused_for, shows, first_of_kind}
 use Rattle.question_laws.proofs.SomeWorkloads.{workload_bounded, refused_bounded}

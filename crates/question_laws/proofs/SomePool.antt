@@ -1,58 +1,45 @@
 -- There is an answer to a search.
-use Rattle.std.proofs.Common.{◌≡◌, ℕ, List, [], ◌∷◌, ◌++◌, All, refl, sym, subst, inl, inr}
-use Rattle.std.specs.Prelude.{◌⊎◌}
+use Rattle.std.proofs.Common.{◌≡◌, ℕ, List, [], ◌∷◌, ◌++◌, All, Bool, true, false, refl, sym, subst, ◌∙◌, inl, inr}
+use Rattle.std.specs.Prelude.{◌⊎◌, ◌||◌}
+use Rattle.std.proofs.lemmas.Bool.{false≢true}
 use Rattle.std.proofs.lemmas.List.Elements.{All-nil, All-cons}
 use Rattle.report_model.specs.Answer.{Answer, Refused, Reported, HasBase}
 use Rattle.crash_model.specs.Disk.{Disk}
-use Rattle.crash_model.specs.declared.operations.Op.{Op}
 use Rattle.crash_model.specs.declared.refusals.RunFault.TheVariants.{GroupFault}
 use Rattle.crash_model.specs.declared.settings.Settings.{Settings}
-use Rattle.crash_model.specs.declared.steps.Act.{Act}
-use Rattle.crash_model.specs.declared.steps.Act.TheVariants.{Do, Group, End, Depend}
 use Rattle.crash_model.specs.declared.steps.Step.{Step}
 use Rattle.question_model.specs.SearchReport.{before_the_pool, no_operation}
-use Rattle.question_model.specs.Workloads.{IsOperation}
+use Rattle.question_model.specs.Workloads.{IsOfPool, is_place, is_keep}
 use Rattle.question_laws.proofs.OnePool.{IsSearched}
 use Rattle.question_laws.proofs.SomeStart.{IsStarted, some_base}
 
-is_operation : (step : Step) → Dec (IsOperation step)
-is_operation step = by step.act
+is_of_pool : (step : Step) → Dec (IsOfPool step)
+is_of_pool step = by (is_place step.act || is_keep step.act) refl
   where
-    by : (act : Act) → Dec ((op : Op) × (act ≡ Do op))
-    by (Do op) = yes (op, refl)
-    by (Group a) = no (λ it. other it.1)
-      where
-        other : {op : Op} → Group a ≡ Do op → ⊥
-        other e = cc
-    by End = no (λ it. other it.1)
-      where
-        other : {op : Op} → End ≡ Do op → ⊥
-        other e = cc
-    by (Depend b a) = no (λ it. other it.1)
-      where
-        other : {op : Op} → Depend b a ≡ Do op → ⊥
-        other e = cc
+    by : (b : Bool) → (is_place step.act || is_keep step.act) ≡ b → Dec (IsOfPool step)
+    by true e = yes e
+    by false e = no (λ is. false≢true (sym e ∙ is))
 
--- all steps are operations, or there is a first one that is not
+-- a pool may have all steps, or there is a first one that it may not have
 abbrev HasOther : List Step → Type 0
 HasOther pool =
-    (front : List Step) × (step : Step) × (rest : List Step) × (front ++ step ∷ rest ≡ pool) × All IsOperation front
-    × (¬ (IsOperation step))
+    (front : List Step) × (step : Step) × (rest : List Step) × (front ++ step ∷ rest ≡ pool) × All IsOfPool front
+    × (¬ (IsOfPool step))
 
-are_operations : (pool : List Step) → All IsOperation pool ⊎ HasOther pool
-are_operations [] = inl (All-nil IsOperation)
-are_operations (step ∷ pool) = by (is_operation step) (are_operations pool)
+are_of_pool : (pool : List Step) → All IsOfPool pool ⊎ HasOther pool
+are_of_pool [] = inl (All-nil IsOfPool)
+are_of_pool (step ∷ pool) = by (is_of_pool step) (are_of_pool pool)
   where
-    by : Dec (IsOperation step) → All IsOperation pool ⊎ HasOther pool → All IsOperation (step ∷ pool)
+    by : Dec (IsOfPool step) → All IsOfPool pool ⊎ HasOther pool → All IsOfPool (step ∷ pool)
         ⊎ HasOther (step ∷ pool)
-    by (no none) rest = inr ([], step, pool, refl, All-nil IsOperation, none)
-    by (yes is) (inl all) = inl (All-cons IsOperation step pool is all)
+    by (no none) rest = inr ([], step, pool, refl, All-nil IsOfPool, none)
+    by (yes is) (inl all) = inl (All-cons IsOfPool step pool is all)
     by (yes is) (inr (front, other, rest, whole, all, none)) = inr (
       step ∷ front,
       other,
       rest,
       joined whole,
-      All-cons IsOperation step front is all,
+      All-cons IsOfPool step front is all,
       none,
     )
       where
@@ -63,9 +50,9 @@ module _ (bytes : List ℕ) (settings : Settings) (IsOn : Disk → List Step →
     (some : (base : Disk) (pool : List Step) → (text : List ℕ) × (number : ℕ) × IsOn base pool text number) where
   from_base : (base : Disk) (pool : List Step) → HasBase bytes settings base pool → (answer : Answer)
       × IsSearched IsOn bytes settings answer
-  from_base base pool start = by (are_operations pool)
+  from_base base pool start = by (are_of_pool pool)
     where
-      by : All IsOperation pool ⊎ HasOther pool → (answer : Answer) × IsSearched IsOn bytes settings answer
+      by : All IsOfPool pool ⊎ HasOther pool → (answer : Answer) × IsSearched IsOn bytes settings answer
       by (inl all) =
           let report = some base pool in (
             Reported report.0 report.1,

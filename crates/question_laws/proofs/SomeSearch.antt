@@ -21,7 +21,7 @@ use Rattle.question_model.specs.SearchReport.{ToldKind, IsToldKind, search_of, s
 use Rattle.question_model.specs.SearchRulesReport.{ToldNeed, IsToldNeed, search_rules_bytes}
 use Rattle.question_model.specs.SearchRulesReport.{IsSearchRulesReport}
 use Rattle.question_model.specs.Sequences.{AreAllSequences, IsFirstSequence}
-use Rattle.question_model.specs.Workloads.{Search, steps_at}
+use Rattle.question_model.specs.Workloads.{Search, steps_at, places_of}
 use Rattle.question_model.specs.declared.found.ShownKind.{ShownKind}
 use Rattle.worked_example_laws.proofs.SomeSections.{some_section}
 use Rattle.question_laws.proofs.Deciding.{both, negation}
@@ -158,7 +158,7 @@ module _ (settings : Settings) (most : ℕ) (base : Disk) (pool : List Step) whe
       let s = search_of settings most base pool in
       let found = some_found s in
       let told = told_kinds settings s found.0.kinds.items found.1.kinds.each in (
-        search_bytes settings most (length pool) found.0 told.0,
+        search_bytes settings most (length (places_of pool)) found.0 told.0,
         (if found.0.failing == 0 then 0 else 1),
         record {
           found = found.0;
@@ -178,7 +178,7 @@ module _ (settings : Settings) (most : ℕ) (base : Disk) (pool : List Step) whe
       let enough = some_minimal (AreEnoughFor s) (are_enough settings s) s.rules in
       let groups = some_needed (AreEnoughFor s) (are_enough settings s) s.rules in
       let needs = told_needs settings s groups.0 (λ group is. (groups.1.exactly group).0 is) in (
-        search_rules_bytes settings most (length pool) found.0 enough.0 needs.0,
+        search_rules_bytes settings most (length (places_of pool)) found.0 enough.0 needs.0,
         (if found.0.failing == 0 then 0 else 1),
         record {
           found = found.0;

@@ -7,7 +7,7 @@ use Rattle.std.proofs.lemmas.List.Elements.{All-head, All-tail, Contains-append_
 use Rattle.patch_sets.proofs.Lists.{front_or_rest, in_front, in_rest, in_none}
 use Rattle.question_model.specs.Sequences.{IsSequenceBefore, AreAllSequences, IsFirstSequence}
 use Rattle.question_laws.proofs.Listing.{all_listed}
-use Rattle.question_laws.proofs.Orders.{in_pairs, key_in}
+use Rattle.worked_example_laws.proofs.Orders.{in_pairs, key_in}
 use Rattle.question_laws.proofs.Sequences.{sequence_trans, sequence_order, first_is}
 use Rattle.question_laws.proofs.SomeSets.{numbers, in_numbers}
 

@@ -10,7 +10,7 @@ use Rattle.crash_model.specs.FaultRows.{IsFirst}
 use Rattle.worked_example_laws.proofs.Sets.{order}
 use Rattle.question_laws.proofs.Deciding.{like, same_number}
 use Rattle.question_laws.proofs.Listing.{all_listed}
-use Rattle.question_laws.proofs.Orders.{Ascends, ascends, in_pairs}
+use Rattle.worked_example_laws.proofs.Orders.{Ascends, ascends, in_pairs}
 
 set_order : (a b : ℕ) → IsBefore a b ⊎ ((a ≡ b) ⊎ IsBefore b a)
 set_order a b = by (eq_or_not a b)

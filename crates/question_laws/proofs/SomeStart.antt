@@ -2,7 +2,7 @@
 use Rattle.std.proofs.Common.{◌≡◌, ℕ, List, Bool, true, false, refl, subst, inl, inr}
 use Rattle.std.specs.Prelude.{◌⊎◌, Result, Ok, Err}
 use Rattle.report_model.specs.Answer.{Answer, Refused, Reported, HasBase, IsUntraced}
-use Rattle.report_model.specs.Answer.{bad_script, bad_geometry, bad_base, bad_trace, ordering_rules}
+use Rattle.report_model.specs.Answer.{bad_script, bad_geometry, bad_base, bad_trace, ordering_rules, asked_by}
 use Rattle.crash_model.specs.Disk.{Disk, new_disk, IsGeometry}
 use Rattle.crash_model.specs.Checker.{Demands}
 use Rattle.crash_model.specs.Refusals.{run_of_script, run_of_trace}
@@ -16,8 +16,8 @@ use Rattle.crash_model.specs.declared.refusals.TraceFault.{TraceFault}
 use Rattle.crash_model.specs.declared.settings.Settings.{Settings}
 use Rattle.crash_model.specs.declared.steps.Step.{Step}
 use Rattle.uniqueness_laws.proofs.Scripts.{script_one, read_or_refused}
-use Rattle.worked_example_laws.specs.Computed.{graph_of, demands_of}
-use Rattle.worked_example_laws.specs.Spelled.{is_geometry}
+use Rattle.worked_example_laws.specs.Computed.{graph_of}
+use Rattle.worked_example_laws.specs.Spelled.{is_geometry, demands_by}
 use Rattle.worked_example_laws.proofs.Answering.{geometry_if, no_geometry}
 use Rattle.worked_example_laws.proofs.Graphs.{graph_is}
 use Rattle.worked_example_laws.proofs.Keeping.{are_demands}
@@ -88,7 +88,7 @@ module _ (bytes : List ℕ) (settings : Settings) where
         by_trace (Err fault) is = (Refused (run_of_trace fault), bad_trace base steps fault start is)
         by_trace (Ok last) is =
             let patches = graph_of (ordering_rules settings) base last in
-            let demands = demands_of settings.strict settings.atomic base steps in
+            let demands = demands_by settings base steps in
             let report = some demands base last patches (graph_is (ordering_rules settings) base last) in (
               Reported report.0 report.1,
               record {
@@ -102,7 +102,7 @@ module _ (bytes : List ℕ) (settings : Settings) where
                   run = is;
                   graph = graph_is (ordering_rules settings) base last;
                 };
-                demanded = are_demands settings.strict settings.atomic base steps;
+                demanded = are_demands (asked_by settings steps) base steps;
                 report = report.2;
               },
             )

@@ -15,7 +15,8 @@ use Rattle.crash_model.specs.declared.patches.Patch.{Patch}
 use Rattle.crash_model.specs.declared.refusals.TraceFault.{TraceFault}
 use Rattle.question_model.specs.Kinds.{kind_of}
 use Rattle.question_model.specs.Refused.{refusal_of}
-use Rattle.question_model.specs.Workloads.{Search, steps_at, trace_at, HasPatches, Fails, IsWorkload, IsFailingWorkload}
+use Rattle.question_model.specs.Workloads.{Search, workload_at, trace_at, HasPatches, Fails, IsWorkload}
+use Rattle.question_model.specs.Workloads.{IsFailingWorkload}
 use Rattle.question_model.specs.Workloads.{IsBeginning, IsRefusedFor, HasKind, ShowsKind}
 use Rattle.question_model.specs.declared.fault_kind.FaultKind.{FaultKind}
 use Rattle.question_model.specs.declared.refusal.Refusal.{Refusal}
@@ -52,7 +53,7 @@ module _ (kind : FaultKind) (demands : Demands) (base : Disk) (patches : List Pa
             (λ it. (it.0, record { failing = failing; found = it.1 }, it.2))
             (λ is. (is.0, is.1.found, is.2))
             (some_in (λ fault. kind_of fault ≡ kind) (λ fault. same_kind (kind_of fault) kind)
-            (faults_under demands (image_after_replay (image_of base patches set))))
+            (faults_under demands set (image_after_replay (image_of base patches set))))
 
     pub first_of_kind : ((set : ℕ) × IsFirst (HasKind kind demands base patches) set)
         ⊎ ((set : ℕ) → ¬ (HasKind kind demands base patches set))
@@ -122,13 +123,13 @@ last_one (f ∷ front) (o ∷ other) place more e =
 module _ (s : Search) where
   -- the patches of a sequence of which none is refused
   pub some_patches : (places : List ℕ) (last : Tracing) → trace_at s places ≡ Ok last
-      → HasPatches s places (demands_of s.strict s.atomic s.base (steps_at s.pool places))
+      → HasPatches s places (demands_of s.asked s.base (workload_at s places))
       (graph_of s.rules s.base last)
   some_patches places last is = record {
     last = last;
     traced = is;
     graph = graph_is s.rules s.base last;
-    told = are_demands s.strict s.atomic s.base (steps_at s.pool places);
+    told = are_demands s.asked s.base (workload_at s places);
   }
 
   -- what can be decided of the patches of a sequence, where there are any
@@ -143,7 +144,7 @@ module _ (s : Search) where
           × P demands patches)
       by (Err fault) e = no (λ it. ok_or_err (trace_at s places) it.2.last fault it.2.traced e)
       by (Ok last) e =
-          let demands = demands_of s.strict s.atomic s.base (steps_at s.pool places) in
+          let demands = demands_of s.asked s.base (workload_at s places) in
           let patches = graph_of s.rules s.base last in
           let has = some_patches places last e in
           like (λ it. (demands, patches, has, it))

@@ -1,22 +1,19 @@
 -- What tests of lists say.
-use Rattle.std.proofs.Common.{◌≡◌, ℕ, zero, suc, ◌+◌, ◌/◌, ◌%◌, ◌^◌, ◌*◌, ◌<◌, List, [], ◌∷◌, length, Bool, true, false}
-use Rattle.std.proofs.Common.{not, ◌&&◌, ◌||◌, nat_lt, arith, refl, sym, subst, ap, ◌∙◌, pow-suc, inl, inr, get_or}
-use Rattle.std.proofs.Common.{add-one}
-use Rattle.std.specs.Prelude.{◌⊎◌, ◌==◌, count_ones, Option, Some, None, if◌then◌else◌}
-use Rattle.std.specs.List.{Contains, list_any, list_all}
+use Rattle.std.proofs.Common.{◌≡◌, ℕ, ◌^◌, ◌<◌, List, [], ◌∷◌, Bool, true, false}
+use Rattle.std.proofs.Common.{not, ◌&&◌, ◌||◌, refl, sym, subst, ap, ◌∙◌, inl, inr}
+use Rattle.std.specs.Prelude.{◌⊎◌, ◌==◌, Option, Some, None, if◌then◌else◌}
+use Rattle.std.specs.List.{Contains, list_all}
 use Rattle.std.specs.Ordering.{is_lt}
 use Rattle.std.specs.declared.cmp.Ordering.{Ordering}
 use Rattle.std.specs.declared.cmp.Ordering.TheVariants.{Less, Equal, Greater}
-use Rattle.std.proofs.lemmas.Bool.{and_parts, ltb-true}
-use Rattle.std.proofs.lemmas.Nat.{ones_le_self}
-use lib.Count.{ones_step}
+use Rattle.std.proofs.lemmas.Bool.{and_parts}
 use Rattle.patch_sets.specs.Sets.{IsBefore, AreAllInOrder}
 use Rattle.patch_sets.proofs.Canonical.{ordered_from_next, before_trans, before_self}
 use Rattle.patch_sets.proofs.Ids.{eq_from_true}
 use Rattle.patch_sets.proofs.Lists.{front_or_rest, in_front, in_rest, in_none}
-use Rattle.worked_example_laws.specs.Computed.{ones_below, is_before, is_ordered, is_in, are_in_order}
+use Rattle.worked_example_laws.specs.Computed.{is_ordered, is_in, are_in_order}
 use Rattle.worked_example_laws.proofs.FailingSets.{next_if, in_if}
-use Rattle.question_laws.proofs.Orders.{Ascends}
+use Rattle.worked_example_laws.proofs.Orders.{Ascends}
 
 pub either_true : (a b : Bool) → (a || b) ≡ true → (a ≡ true) ⊎ (b ≡ true)
 either_true true b e = inl refl

@@ -3,16 +3,17 @@ use Rattle.std.proofs.Common.{◌≡◌, ℕ, List, length, Bool, true, ◌&&◌
 use Rattle.std.specs.Prelude.{◌==◌, Ok}
 use Rattle.std.proofs.lemmas.Bool.{and_parts}
 use Rattle.patch_sets.proofs.Ids.{eq_from_true}
-use Rattle.report_model.specs.Answer.{HasBase, HasGraph, ordering_rules}
+use Rattle.report_model.specs.Answer.{HasBase, HasGraph, ordering_rules, asked_by}
 use Rattle.crash_model.specs.Disk.{new_disk}
 use Rattle.crash_model.specs.Checker.{Demands, AreDemands}
 use Rattle.crash_model.specs.Patches.{deps_of, CountsClosed}
 use Rattle.crash_model.specs.Trace.{Tracing, trace_start, trace_from, base_from}
 use Rattle.crash_model.specs.declared.settings.Settings.{Settings}
 use Rattle.crash_model.specs.declared.steps.Act.{Act}
-use Rattle.worked_example_laws.specs.Computed.{closed_sets, demands_of, trace_of, is_accepted}
+use Rattle.worked_example_laws.specs.Computed.{closed_sets, trace_of, is_accepted}
 use Rattle.worked_example_laws.specs.Examples.{numbered_steps}
 use Rattle.worked_example_laws.specs.Spelled.{are_acts, script, base_of, has_base, trace_steps, graph, is_geometry}
+use Rattle.worked_example_laws.specs.Spelled.{demands_by}
 use Rattle.worked_example_laws.proofs.Answering.{start}
 use Rattle.worked_example_laws.proofs.FailingSets.{accepted_is, counts_closed}
 use Rattle.worked_example_laws.proofs.Graphs.{earlier, graph_is}
@@ -23,7 +24,7 @@ module _ (settings : Settings) (before after : List Act) where
   last_of = trace_of settings.module settings.whole_blocks (base_of settings before) (trace_steps before after)
 
   abbrev pub demanded : Demands
-  demanded = demands_of settings.strict settings.atomic (base_of settings before) (trace_steps before after)
+  demanded = demands_by settings (base_of settings before) (trace_steps before after)
 
   -- the script is read and its base is built
   abbrev pub is_started : Bool
@@ -68,9 +69,10 @@ module _ (settings : Settings) (before after : List Act) where
       }
 
   pub are_demanded : (e : is_traced ≡ true)
-      → AreDemands settings.strict settings.atomic (base_of settings before) (has_graph e).steps demanded
+      → AreDemands (asked_by settings (has_graph e).steps) (base_of settings before) (has_graph e).steps demanded
   unfolding has_graph
-  are_demanded e = are_demands settings.strict settings.atomic (base_of settings before) (trace_steps before after)
+  are_demanded e = are_demands (asked_by settings (trace_steps before after)) (base_of settings before)
+      (trace_steps before after)
 
   pub counted : (closed : ℕ) → (length (closed_sets (deps_of (graph settings before after))) == closed) ≡ true
       → CountsClosed (graph settings before after) closed

@@ -16,7 +16,7 @@ use Rattle.crash_model.specs.declared.patches.Patch.{Patch}
 use Rattle.crash_model.specs.declared.refusals.TraceFault.{TraceFault}
 use Rattle.question_model.specs.Kinds.{kind_of, kind_number}
 use Rattle.question_model.specs.Refused.{refusal_of, refusal_number}
-use Rattle.question_model.specs.Workloads.{Search, steps_at, trace_at, Fails, IsWorkload, IsBeginning}
+use Rattle.question_model.specs.Workloads.{Search, workload_at, trace_at, Fails, IsWorkload, IsBeginning}
 use Rattle.question_model.specs.Workloads.{IsRefusedFor, HasKind, ShowsKind}
 use Rattle.question_model.specs.declared.fault_kind.FaultKind.{FaultKind}
 use Rattle.question_model.specs.declared.refusal.Refusal.{Refusal}
@@ -63,7 +63,7 @@ has_kind_quickly kind demands patches s set = is_kind_among kind (quickly_in (pl
 -- ---- the tests
 
 abbrev pub demands_at : Search → List ℕ → Demands
-demands_at s places = demands_of s.strict s.atomic s.base (steps_at s.pool places)
+demands_at s places = demands_of s.asked s.base (workload_at s places)
 
 abbrev pub failing_of : Search → List ℕ → Result Tracing TraceFault → List ℕ
 failing_of s places (Err fault) = []
@@ -72,14 +72,14 @@ failing_of s places (Ok last) = failing_quickly_under (demands_at s places) s.ba
 abbrev pub fails_at : Search → List ℕ → Bool
 fails_at s places = not (is_no_set (failing_of s places (trace_at s places)))
 
-abbrev pub workload_at : Search → List ℕ → Bool
-workload_at s places =
+abbrev pub is_workload_at : Search → List ℕ → Bool
+is_workload_at s places =
     not (is_nil places) && (nat_le (length places) s.most
     && (list_all (λ place. nat_lt place (length s.pool)) places
     && (is_accepted (trace_at s places) && list_all (λ front. not (fails_at s front)) (fronts_of places))))
 
 abbrev pub beginning_at : Search → List ℕ → Bool
-beginning_at s places = is_nil places || (workload_at s places && not (fails_at s places))
+beginning_at s places = is_nil places || (is_workload_at s places && not (fails_at s places))
 
 abbrev pub refused_at : Search → Refusal → List ℕ → Bool
 refused_at s reason places =
@@ -93,7 +93,7 @@ shows_of s kind places (Ok last) =
     (failing_quickly_under (demands_at s places) s.base (graph_of s.rules s.base last))
 
 abbrev pub shows_at : Search → FaultKind → List ℕ → Bool
-shows_at s kind places = workload_at s places && shows_of s kind places (trace_at s places)
+shows_at s kind places = is_workload_at s places && shows_of s kind places (trace_at s places)
 
 -- the sequences that may be workloads
 abbrev pub all_at : Search → List (List ℕ)
@@ -255,7 +255,7 @@ module _ (s : Search) where
   pub passing : (places : List ℕ) → not (fails_at s places) ≡ true → ¬ (Fails s places)
   passing places e = passes_if places (not_true (fails_at s places) e)
 
-  pub workload_if : (places : List ℕ) → workload_at s places ≡ true → IsWorkload s places
+  pub workload_if : (places : List ℕ) → is_workload_at s places ≡ true → IsWorkload s places
   workload_if places e =
       let one = and_parts (not (is_nil places)) _ e in
       let two = and_parts (nat_le (length places) s.most) _ one.1 in
@@ -272,7 +272,7 @@ module _ (s : Search) where
             (in_fronts places front rest some left whole));
       }
 
-  pub if_workload : (places : List ℕ) → IsWorkload s places → workload_at s places ≡ true
+  pub if_workload : (places : List ℕ) → IsWorkload s places → is_workload_at s places ≡ true
   if_workload places is =
       both_true (not (is_nil places)) _ (nil_to places is.some)
       (both_true (nat_le (length places) s.most) _ (le-leb (length places) s.most is.most)
@@ -286,13 +286,13 @@ module _ (s : Search) where
   beginning_if : (places : List ℕ) → beginning_at s places ≡ true → IsBeginning s places
   beginning_if [] e = inl refl
   beginning_if (x ∷ xs) e =
-      let two = and_parts (workload_at s (x ∷ xs)) (not (fails_at s (x ∷ xs))) e in
+      let two = and_parts (is_workload_at s (x ∷ xs)) (not (fails_at s (x ∷ xs))) e in
       inr (workload_if (x ∷ xs) two.0, passing (x ∷ xs) two.1)
 
   if_beginning : (places : List ℕ) → IsBeginning s places → beginning_at s places ≡ true
   if_beginning places (inl e) = left_true (is_nil places) _ (ap is_nil e)
   if_beginning places (inr is) = right_true (is_nil places) _
-      (both_true (workload_at s places) (not (fails_at s places))
+      (both_true (is_workload_at s places) (not (fails_at s places))
       (if_workload places is.0) (if_passes places is.1))
 
   pub refused_if : (reason : Refusal) (places : List ℕ) → refused_at s reason places ≡ true
@@ -338,7 +338,7 @@ module _ (s : Search) where
 
   pub shows_if : (kind : FaultKind) (places : List ℕ) → shows_at s kind places ≡ true → ShowsKind s kind places
   shows_if kind places e =
-      let two = and_parts (workload_at s places) (shows_of s kind places (trace_at s places)) e in
+      let two = and_parts (is_workload_at s places) (shows_of s kind places (trace_at s places)) e in
       by (workload_if places two.0) (trace_at s places) refl two.1
     where
       by : IsWorkload s places → (r : Result Tracing TraceFault) → trace_at s places ≡ r
@@ -364,7 +364,7 @@ module _ (s : Search) where
 
   pub if_shows : (kind : FaultKind) (places : List ℕ) → ShowsKind s kind places → shows_at s kind places ≡ true
   if_shows kind places is =
-      both_true (workload_at s places) (shows_of s kind places (trace_at s places)) (if_workload places is.workload)
+      both_true (is_workload_at s places) (shows_of s kind places (trace_at s places)) (if_workload places is.workload)
       (by (trace_at s places) refl)
     where
       by : (r : Result Tracing TraceFault) → trace_at s places ≡ r → shows_of s kind places r ≡ true

@@ -11,18 +11,17 @@ use Rattle.question_model.specs.EnoughReport.{IsEnoughReport}
 use Rattle.question_model.specs.Lengths.{operations_of}
 use Rattle.question_model.specs.SearchReport.{IsSearchReport, IsSearchRefusal}
 use Rattle.question_model.specs.SearchRulesReport.{IsSearchRulesReport}
-use Rattle.question_model.specs.Workloads.{IsOperation}
+use Rattle.question_model.specs.Workloads.{IsOfPool}
 use Rattle.question_model.specs.declared.question.Question.{Question}
 use Rattle.question_model.specs.declared.question.Question.TheVariants.{Visit, Decide, Enough, Search, SearchRules}
 
--- the text and the number are those of such a report on the script's steps after the start line, which are a pool of
--- operations
+-- the text and the number are those of such a report on the script's steps after the start line, which are a pool
 pub record IsReportedOfPool (IsOn : Disk → List Step → List ℕ → ℕ → Type 0) (bytes : List ℕ) (settings : Settings)
     (text : List ℕ) (number : ℕ) : Type 0 where
   pub base : Disk
   pub pool : List Step
   pub start : HasBase bytes settings base pool
-  pub operations : All IsOperation pool
+  pub operations : All IsOfPool pool
   pub report : IsOn base pool text number
 
 abbrev pub IsAnswerTo : Question → List ℕ → Settings → Answer → Type 0

@@ -6,7 +6,9 @@ use Rattle.patch_sets.specs.Sets.{AreAllInOrder}
 use Rattle.report_model.specs.Answer.{detail_of, ordering_rules}
 use Rattle.crash_model.specs.Disk.{Disk}
 use Rattle.crash_model.specs.Reasons.{Explanation, explanation}
-use Rattle.report_model.specs.Explain.{explanation_text, trace_json}
+use Rattle.report_model.specs.Explain.{explanation_text, trace_json, told_waits_json}
+use Rattle.report_model.specs.Shows.{shows_json, promises_text, promises_json, counted_json, durable_json}
+use Rattle.crash_model.specs.Promises.{Promise}
 use Rattle.crash_model.specs.Lists.{when}
 use Rattle.crash_model.specs.RuleUse.{HasGraphBy}
 use Rattle.crash_model.specs.Patches.{CountsClosed}
@@ -22,7 +24,7 @@ use Rattle.crash_model.specs.declared.fault.Fault.{Fault}
 use Rattle.crash_model.specs.declared.patches.Patch.{Patch}
 use Rattle.crash_model.specs.declared.rules.Rule.{Rule}
 use Rattle.crash_model.specs.declared.settings.Settings.{Settings}
-use Rattle.question_model.specs.Decision.{ToldDecided, ordering_text, decided_text, decided_json}
+use Rattle.question_model.specs.Decision.{ToldDecided, ordering_text, decided_shows, decided_text, decided_json}
 use Rattle.question_model.specs.declared.decided_fault.DecidedFault.{DecidedFault}
 use Rattle.question_model.specs.Enough.{rules_in, rules_but, IsMinimalEnough, IsNeeded}
 
@@ -54,12 +56,13 @@ abbrev pub IsToldGroup : Detail → List Rule → Disk → Tracing → ToldGroup
 IsToldGroup detail rules base s told =
     HasGraphBy (rules_but rules told.group) base s (λ patches. IsToldFirst detail base patches told.fault)
 
--- how many patches and closed sets there are, and what the patches are if that is asked for; the minimal sets of
--- rules that are enough, the minimal groups of which one is needed, and the first fault of all rules
+-- how many patches and closed sets there are, what the patches are and what is promised if that is asked for; the minimal
+-- sets of rules that are enough, the minimal groups of which one is needed, and the first fault of all rules
 pub record RulesReport : Type 0 where
   pub patches : ℕ
   pub closed : ℕ
   pub explanation : Option Explanation
+  pub promises : Option (List Promise)
   pub enough : List ℕ
   pub needs : List ToldGroup
   pub first : Option ToldDecided
@@ -80,7 +83,8 @@ text_rules_report settings r =
     ordering_text settings
     ++ line (codes "patches " ++ decimal r.patches)
     ++ line (codes "closed " ++ decimal r.closed)
-    ++ explanation_text r.explanation
+    ++ explanation_text r.patches r.explanation
+    ++ promises_text r.patches r.promises
     ++ line (codes "enough " ++ decimal (length r.enough))
     ++ flat_map (rules_text rules (codes "rules")) r.enough
     ++ flat_map (group_text rules r.patches) r.needs
@@ -97,6 +101,7 @@ group_json rules n told =
     ++ replay_json told.fault.first.replay
     ++ codes "\"rules\":" ++ set_json rules told.group
     ++ codes ",\"set\":" ++ ids_json n told.fault.first.set
+    ++ shows_json (decided_shows told.fault)
     ++ codes ",\"writes\":" ++ writes_json n told.fault.first.writes ++ codes "}"
 
 -- a key with the fault, if there is one
@@ -110,13 +115,17 @@ json_rules_report settings r =
     let rules = ordering_rules settings in
     codes "{" ++ first_json settings r.explanation
     ++ codes "\"closed\":" ++ json_string (decimal r.closed)
+    ++ counted_json settings.counted
+    ++ durable_json settings.durable
     ++ codes ",\"enough\":" ++ json_array (map (set_json rules) r.enough)
     ++ first_fault_json r.patches r.first
     ++ before_module settings.generations ++ json_string (module_text settings.module)
     ++ codes ",\"needs\":" ++ json_array (map (group_json rules r.patches) r.needs)
     ++ codes ",\"patches\":" ++ decimal r.patches
+    ++ promises_json r.patches r.promises
     ++ (if settings.strict then codes ",\"strict\":true" else [])
     ++ trace_json r.explanation
+    ++ told_waits_json r.patches r.explanation r.promises
     ++ (if settings.whole_blocks then codes ",\"whole_blocks\":true" else [])
     ++ rules_json (codes "with") (told_with settings)
     ++ rules_json (codes "without") (told_without settings)
@@ -146,6 +155,7 @@ pub record IsEnoughReport (settings : Settings) (demands : Demands) (base : Disk
     patches = length patches;
     closed = total;
     explanation = when settings.explain (explanation (ordering_rules settings) base last patches);
+    promises = if settings.explain then demands.promises else None;
     enough = enough;
     needs = needs;
     first = first;

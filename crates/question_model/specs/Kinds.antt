@@ -15,6 +15,7 @@ kind_of (fault.Wild i s b) = kind.Wild
 kind_of (fault.Lost i) = kind.Lost
 kind_of (fault.NoBlock i) = kind.NoBlock
 kind_of fault.HalfDone = kind.HalfDone
+kind_of (fault.BrokenPromise line) = kind.BrokenPromise
 
 -- the number that a fault's text begins with
 abbrev pub kind_number : FaultKind → ℕ
@@ -27,6 +28,7 @@ kind_number kind.Wild = 6
 kind_number kind.Lost = 7
 kind_number kind.NoBlock = 8
 kind_number kind.HalfDone = 9
+kind_number kind.BrokenPromise = 10
 
 -- the words after it
 abbrev pub kind_name : FaultKind → List ℕ
@@ -39,3 +41,4 @@ kind_name kind.Wild = codes "wild pointer"
 kind_name kind.Lost = codes "lost inode"
 kind_name kind.NoBlock = codes "directory without a block"
 kind_name kind.HalfDone = codes "half-done operation"
+kind_name kind.BrokenPromise = codes "broken promise"

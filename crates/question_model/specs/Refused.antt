@@ -5,7 +5,7 @@ use Rattle.crash_model.specs.declared.refusals.TraceFault.TheVariants as trace
 use Rattle.question_model.specs.declared.refusal.Refusal.{Refusal}
 use Rattle.question_model.specs.declared.refusal.Refusal.TheVariants as refused
 
--- the refusal without its line; that of a group line is not an operation's
+-- the refusal without its line; that of a line that no pool has is not an operation's
 abbrev pub refusal_of : TraceFault → Option Refusal
 refusal_of (trace.TooManyPatches line) = Some refused.TooManyPatches
 refusal_of (trace.NotFound line) = Some refused.NotFound
@@ -20,6 +20,7 @@ refusal_of (trace.FileFull line) = Some refused.FileFull
 refusal_of (trace.LinksFull line) = Some refused.LinksFull
 refusal_of (trace.JournalFull line) = Some refused.JournalFull
 refusal_of (trace.GroupFault line) = None
+refusal_of (trace.OnlyAfterStart line) = None
 refusal_of trace.OutOfMemory = None
 
 abbrev pub refusal_number : Refusal → ℕ

@@ -1,10 +1,11 @@
 -- What a search reports: how many workloads there are and how many fail, and for each kind of fault the first workload
 -- that shows it.
 use Rattle.std.specs.Prelude.{◌≡◌, ℕ, List, [], ◌∷◌, ◌++◌, length, map, flat_map, if◌then◌else◌, codes, decimal}
-use Rattle.std.specs.Prelude.{Bool, ◌==◌}
+use Rattle.std.specs.Prelude.{Bool, ◌==◌, Option, Some, None}
 use Rattle.std.specs.List.{All}
 use Rattle.crash_model.specs.declared.separators.TheConstants.{SPACE}
-use Rattle.report_model.specs.Answer.{HasBase, IsUntraced, ordering_rules}
+use Rattle.report_model.specs.Answer.{HasBase, IsUntraced, ordering_rules, asked_by}
+use Rattle.report_model.specs.Shows.{shows_json, counted_numbers}
 use Rattle.crash_model.specs.Checker.{Demands}
 use Rattle.crash_model.specs.Disk.{Disk}
 use Rattle.crash_model.specs.Lists.{join_of}
@@ -22,7 +23,7 @@ use Rattle.question_model.specs.Decision.{ordering_text}
 use Rattle.question_model.specs.Kinds.{kind_number, kind_name}
 use Rattle.question_model.specs.Refused.{refusal_number, refusal_text}
 use Rattle.question_model.specs.Found.{AreFound}
-use Rattle.question_model.specs.Workloads.{Search, steps_at, IsOperation, HasPatches}
+use Rattle.question_model.specs.Workloads.{Search, steps_at, IsOfPool, places_of, keeps_of, HasPatches}
 use Rattle.question_model.specs.declared.found.Found.{Found}
 use Rattle.question_model.specs.declared.found.RefusedCount.{RefusedCount}
 use Rattle.question_model.specs.declared.found.ShownKind.{ShownKind}
@@ -90,9 +91,19 @@ kind_json t =
     ++ codes ",\"name\":" ++ json_string (kind_name t.shown.kind) ++ codes ","
     ++ replay_json t.first.replay
     ++ codes "\"set\":" ++ ids_json t.patches t.first.set
+    ++ shows_json t.first.shows
     ++ codes ",\"steps\":" ++ json_array (map (λ step. json_string (step_text step)) t.steps)
     ++ codes ",\"workloads\":" ++ decimal t.shown.workloads
     ++ codes ",\"writes\":" ++ writes_json t.patches t.first.writes ++ codes "}"
+
+-- which faults count, if not all do, and that fsyncs promise, if they do, each with a comma after it
+abbrev pub first_counted : Option ℕ → List ℕ
+first_counted None = []
+first_counted (Some counted) = codes "\"counted\":" ++ json_array (map decimal (counted_numbers counted)) ++ codes ","
+
+abbrev pub first_promise_keys : Settings → List ℕ
+first_promise_keys settings =
+    first_counted settings.counted ++ (if settings.durable then codes "\"durable\":true," else [])
 
 -- that inodes have generations, if they have, and then the key of the kinds
 abbrev pub before_kinds : Bool → List ℕ
@@ -100,7 +111,8 @@ before_kinds generations = generations_json generations ++ codes ",\"kinds\":"
 
 unfoldable pub json_search : Settings → ℕ → ℕ → Found → List ToldKind → List ℕ
 json_search settings most pool found kinds =
-    codes "{" ++ atomic_json settings.atomic ++ codes "\"failing\":" ++ decimal found.failing
+    codes "{" ++ atomic_json settings.atomic ++ first_promise_keys settings
+    ++ codes "\"failing\":" ++ decimal found.failing
     ++ before_kinds settings.generations ++ json_array (map kind_json kinds)
     ++ codes ",\"module\":" ++ json_string (module_text settings.module)
     ++ codes ",\"pool\":" ++ decimal pool
@@ -120,16 +132,16 @@ search_bytes settings most pool found kinds =
 
 -- ---- the answer
 
--- the search that the settings ask for, over a base and a pool
+-- the search that the settings ask for, over a base and the lines of a pool
 abbrev pub search_of : Settings → ℕ → Disk → List Step → Search
-search_of settings most base pool = record {
+search_of settings most base lines = record {
   ordering = settings.module;
   rules = ordering_rules settings;
   whole = settings.whole_blocks;
-  strict = settings.strict;
-  atomic = settings.atomic;
+  asked = asked_by settings lines;
   base = base;
-  pool = pool;
+  keeps = keeps_of lines;
+  pool = places_of lines;
   most = most;
 }
 
@@ -141,16 +153,15 @@ pub record IsSearchReport (settings : Settings) (most : ℕ) (base : Disk) (pool
   pub told : List ToldKind
   pub kinds : map (λ t. t.shown) told ≡ found.kinds.items
   pub each : All (IsToldKind (search_of settings most base pool) settings.explain) told
-  pub whole : text ≡ search_bytes settings most (length pool) found told
+  pub whole : text ≡ search_bytes settings most (length (places_of pool)) found told
   pub number_of : number ≡ (if found.failing == 0 then 0 else 1)
 
--- a search is refused: as any other question before the first traced step, or for the first line of the pool that is no
--- operation
+-- a search is refused: as any other question before the first traced step, or for the first line that no pool has
 pub data IsSearchRefusal (bytes : List ℕ) (settings : Settings) : RunFault → Type 0 where
   before_the_pool : (fault : RunFault) → IsUntraced bytes settings fault
       → ((base : Disk) (pool : List Step) → ¬ (HasBase bytes settings base pool))
       → IsSearchRefusal bytes settings fault
   no_operation : (base : Disk) (front rest : List Step) (step : Step)
       → HasBase bytes settings base (front ++ step ∷ rest)
-      → All IsOperation front → (¬ (IsOperation step))
+      → All IsOfPool front → (¬ (IsOfPool step))
       → IsSearchRefusal bytes settings (GroupFault step.line)

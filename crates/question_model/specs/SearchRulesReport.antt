@@ -14,13 +14,14 @@ use Rattle.crash_model.specs.declared.patches.Patch.{Patch}
 use Rattle.crash_model.specs.declared.rules.Rule.{Rule}
 use Rattle.crash_model.specs.declared.settings.Settings.{Settings}
 use Rattle.crash_model.specs.declared.steps.Step.{Step}
-use Rattle.question_model.specs.Decision.{ToldDecided, decided_text}
+use Rattle.question_model.specs.Decision.{ToldDecided, decided_shows, decided_text}
 use Rattle.question_model.specs.Enough.{rules_but}
 use Rattle.question_model.specs.EnoughReport.{IsToldFirst, rules_text, set_json}
 use Rattle.question_model.specs.Found.{AreFound}
-use Rattle.question_model.specs.SearchReport.{refused_json, search_of, search_text, step_text}
+use Rattle.question_model.specs.SearchReport.{refused_json, search_of, search_text, step_text, first_promise_keys}
 use Rattle.question_model.specs.Sequences.{IsFirstSequence}
-use Rattle.question_model.specs.Workloads.{Search, HasPatches, steps_at}
+use Rattle.question_model.specs.Workloads.{Search, HasPatches, steps_at, places_of}
+use Rattle.report_model.specs.Shows.{shows_json}
 use Rattle.question_model.specs.declared.found.Found.{Found}
 use Rattle.question_model.specs.EnoughFor.{FailsBy, IsMinimalInSearch, IsNeededInSearch, search_with}
 
@@ -71,13 +72,15 @@ need_json rules told =
     ++ replay_json told.fault.first.replay
     ++ codes "\"rules\":" ++ set_json rules told.group
     ++ codes ",\"set\":" ++ ids_json told.patches told.fault.first.set
+    ++ shows_json (decided_shows told.fault)
     ++ codes ",\"steps\":" ++ json_array (map (λ step. json_string (step_text step)) told.steps)
     ++ codes ",\"writes\":" ++ writes_json told.patches told.fault.first.writes ++ codes "}"
 
 unfoldable pub json_search_rules : Settings → ℕ → ℕ → Found → List ℕ → List ToldNeed → List ℕ
 json_search_rules settings most pool found enough needs =
     let rules = ordering_rules settings in
-    codes "{" ++ atomic_json settings.atomic ++ codes "\"enough\":" ++ json_array (map (set_json rules) enough)
+    codes "{" ++ atomic_json settings.atomic ++ first_promise_keys settings
+    ++ codes "\"enough\":" ++ json_array (map (set_json rules) enough)
     ++ codes ",\"failing\":" ++ decimal found.failing
     ++ before_module settings.generations ++ json_string (module_text settings.module)
     ++ codes ",\"needs\":" ++ json_array (map (need_json rules) needs)
@@ -110,5 +113,5 @@ pub record IsSearchRulesReport (settings : Settings) (most : ℕ) (base : Disk) 
   pub needs : List ToldNeed
   pub needed : AreAllInOrder (IsNeededInSearch (search_of settings most base pool)) (map (λ t. t.group) needs)
   pub told : All (IsToldNeed (search_of settings most base pool) settings.explain) needs
-  pub whole : text ≡ search_rules_bytes settings most (length pool) found enough needs
+  pub whole : text ≡ search_rules_bytes settings most (length (places_of pool)) found enough needs
   pub number_of : number ≡ (if found.failing == 0 then 0 else 1)

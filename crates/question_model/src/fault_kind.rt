@@ -6,7 +6,7 @@ ghost use Rattle.question_model.specs.Kinds.{kind_of, kind_number, kind_name};
 use crash_model::fault::Fault;
 
 /// How many kinds there are.
-pub const KINDS: usize = 9;
+pub const KINDS: usize = 10;
 
 /// The kind of a fault: its statement, without the inodes, slots and blocks for which it fails.
 #[derive(Clone, Copy, Debug, PartialEq, Eq, Default)]
@@ -21,6 +21,7 @@ pub enum FaultKind {
     Lost,
     NoBlock,
     HalfDone,
+    BrokenPromise,
 }
 
 impl FaultKind {
@@ -38,10 +39,11 @@ impl FaultKind {
             Fault::Lost { .. } => FaultKind::Lost,
             Fault::NoBlock { .. } => FaultKind::NoBlock,
             Fault::HalfDone => FaultKind::HalfDone,
+            Fault::BrokenPromise { .. } => FaultKind::BrokenPromise,
         }
     }
 
-    /// The number that the fault's text begins with, from 1 to 9.
+    /// The number that the fault's text begins with, from 1 to 10.
     pub fn number(self) -> usize
         ensures { result ≡ kind_number self }
     {
@@ -55,6 +57,7 @@ impl FaultKind {
             FaultKind::Lost => 7,
             FaultKind::NoBlock => 8,
             FaultKind::HalfDone => 9,
+            FaultKind::BrokenPromise => 10,
         }
     }
 
@@ -72,6 +75,7 @@ impl FaultKind {
             FaultKind::Lost => "lost inode",
             FaultKind::NoBlock => "directory without a block",
             FaultKind::HalfDone => "half-done operation",
+            FaultKind::BrokenPromise => "broken promise",
         }
     }
 }

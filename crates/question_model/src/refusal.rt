@@ -44,7 +44,9 @@ impl Refusal {
             TraceFault::FileFull { .. } => Some(Refusal::FileFull),
             TraceFault::LinksFull { .. } => Some(Refusal::LinksFull),
             TraceFault::JournalFull { .. } => Some(Refusal::JournalFull),
-            TraceFault::GroupFault { .. } | TraceFault::OutOfMemory => None,
+            TraceFault::GroupFault { .. }
+            | TraceFault::OnlyAfterStart { .. }
+            | TraceFault::OutOfMemory => None,
         }
     }
 

@@ -1,8 +1,8 @@
--- The operations at places of a pool.
+-- The acts at places of a pool.
 use Rattle.std.proofs.Common.{◌≡◌, ℕ, ◌+◌, ◌<◌, List, [], ◌∷◌, ◌++◌, length, get_or, map, take}
-use Rattle.std.proofs.Common.{refl, sym, ap, subst, ◌∙◌, Option, Some, None}
+use Rattle.std.proofs.Common.{refl, sym, ap, ◌∙◌, Option, Some, None}
 use Rattle.std.specs.Prelude.{option_map, option_to_list, slice_get}
-use Rattle.std.specs.List.{All, flat_map}
+use Rattle.std.specs.List.{flat_map}
 use Rattle.std.proofs.lemmas.List.{take_more, append-nil, map-append}
 use Rattle.std.proofs.lemmas.List.Concat.{flat_map-append}
 use Rattle.std.proofs.lemmas.List.Folds.{flat_map-map}
@@ -10,17 +10,13 @@ use Rattle.std.proofs.lemmas.Option.{slice_get_read}
 use Rattle.std.proofs.lemmas.Simd.{map-map}
 use Rattle.crash_model.specs.declared.steps.Act.{Act}
 use Rattle.crash_model.specs.declared.steps.Step.{Step}
-use Rattle.question_model.specs.Workloads.{IsOperation, steps_at}
+use Rattle.question_model.specs.Workloads.{steps_at}
 use Rattle.question_reports.specs.SearchFindings.{acts_at}
 
 abbrev act_of : Step → Act
 act_of step = step.act
 
--- the step that is at a place is an operation, and its act is the one that is there
-pub operation_there : (pool : List Step) (place : ℕ) (step : Step) → All IsOperation pool → place < length pool
-    → step ≡ get_or pool place step → IsOperation step
-operation_there pool place step all within is = subst (λ (s : Step). IsOperation s) (sym is) (all place step within)
-
+-- the act of the step that is at a place
 pub act_there : (pool : List Step) (place : ℕ) (step : Step) (act : Act) → act ≡ step.act → place < length pool
     → step ≡ get_or pool place step → Some act ≡ option_map act_of (slice_get pool place)
 act_there pool place step act same within is =
@@ -53,7 +49,7 @@ acts_more pool places i d so_far after act within told is more =
         ∙ (map-append act_of (steps_at pool (take i places)) (element (get_or places i d) ++ [])
         ∙ ap (λ (t : List Act). before ++ t) (last (slice_get pool (get_or places i d)))))
 
--- with the operation that is there, and without one if there is none
+-- with the act that is there, and without one if there is none
 pub one_more : {X : Type 0} (asks : X → Act) (ops after : List X) (op : X) (here : Option X) → here ≡ Some op
     → after ≡ ops ++ op ∷ [] → map asks after ≡ map asks ops ++ option_to_list (option_map asks here)
 one_more {X = X} asks ops after op here is more =

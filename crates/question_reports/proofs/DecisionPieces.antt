@@ -1,11 +1,13 @@
 -- A decision, written piece by piece.
-use Rattle.std.proofs.Common.{◌≡◌, ℕ, List, [], ◌++◌, length, codes, decimal, Bool, true, false, sym, ap, ◌∙◌}
+use Rattle.std.proofs.Common.{◌≡◌, ℕ, List, [], ◌++◌, length, codes, decimal, Bool, true, false, Option, sym, ap, ◌∙◌}
 use Rattle.std.proofs.Common.{append_assoc}
 use Rattle.std.specs.Prelude.{if◌then◌else◌}
 use Rattle.std.specs.List.{flat_map}
 use Rattle.crash_model.specs.Disk.{Disk}
-use Rattle.report_model.specs.Explain.{trace_json, explanation_text}
+use Rattle.report_model.specs.Explain.{trace_json, explanation_text, told_waits_json}
 use Rattle.crash_model.specs.Lists.{when}
+use Rattle.crash_model.specs.Promises.{Promise}
+use Rattle.report_model.specs.Shows.{counted_json, durable_json, promises_json, promises_text}
 use Rattle.report_model.specs.Report.{Section, ids_json, json_string, replay_json, writes_json}
 use Rattle.crash_model.specs.Texts.{fault_text, module_text}
 use Rattle.report_model.specs.Whole.{first_json, rules_json, told_with, told_without, before_module}
@@ -13,8 +15,8 @@ use Rattle.crash_model.specs.declared.settings.Settings.{Settings}
 use Rattle.question_model.specs.Decision.{ToldDecided, decided_text, decided_json, text_decision, json_decision}
 use Rattle.question_model.specs.Decision.{decision_bytes, ordering_text}
 use Rattle.question_model.specs.declared.decided_fault.DecidedFault.{DecidedFault}
-use Rattle.json_values.specs.Items.{crash_json}
-use Rattle.report_json.specs.JsonReport.{module_key, strict_key, whole_key, from_strict}
+use Rattle.json_values.specs.Items.{crash_json, fault_shows_json}
+use Rattle.report_json.specs.JsonReport.{module_key, promise_keys, strict_key, told_promises, whole_key, from_strict}
 use Rattle.report_sections.specs.Bodies.{explanation_by}
 use Rattle.traced_patches.specs.Traced.{TracedPatches}
 use Rattle.question_reports.specs.declared.decision.findings.Decision.{Decision}
@@ -46,94 +48,112 @@ as_text decision text is wrote = record {
 }
 
 -- the lines of the head
-pub head_pieces : (settings : Settings) (base : Disk) (t : TracedPatches) (closed n : ℕ) (before one two after : List ℕ)
+pub head_pieces : (settings : Settings) (base : Disk) (t : TracedPatches) (promises : Option (List Promise))
+    (closed n : ℕ)
+    (before one two three after : List ℕ)
     → n ≡ length t.patches → one ≡ before ++ ordering_text settings
     → two ≡ one ++ (codes "patches " ++ (decimal n ++ (codes "\nclosed " ++ (decimal closed ++ codes "\n"))))
-    → after ≡ two ++ explanation_text (when settings.explain (explanation_by base t))
-    → after ≡ before ++ head_lines settings base t closed
-head_pieces settings base t closed n before one two after number first second third =
-    let told = explanation_text (when settings.explain (explanation_by base t)) in
+    → three ≡ two ++ explanation_text (length t.patches) (when settings.explain (explanation_by base t))
+    → after ≡ three ++ promises_text (length t.patches) promises
+    → after ≡ before ++ head_lines settings base t promises closed
+head_pieces settings base t promises closed n before one two three after number first second third fourth =
+    let told = explanation_text (length t.patches) (when settings.explain (explanation_by base t)) in
+    let promised = promises_text (length t.patches) promises in
     let ordering = ordering_text settings in
     let numbers = λ (k : ℕ). codes "patches " ++ (decimal k ++ (codes "\nclosed " ++ (decimal closed ++ codes "\n"))) in
-    third ∙ (ap (λ (t : List ℕ). t ++ told) (second ∙ (ap (λ (k : ℕ). one ++ numbers k) number
-    ∙ ap (λ (text : List ℕ). text ++ numbers (length t.patches)) first))
+    fourth ∙ (ap (λ (t : List ℕ). t ++ promised) (third
+    ∙ ap (λ (t : List ℕ). t ++ told) (second ∙ (ap (λ (k : ℕ). one ++ numbers k) number
+    ∙ ap (λ (text : List ℕ). text ++ numbers (length t.patches)) first)))
     ∙ regroup before ordering (codes "patches ") (decimal (length t.patches)) (codes "\n") (codes "closed ")
-    (decimal closed) told)
+    (decimal closed) told promised)
   where
-    regroup : (a b c d e f g h : List ℕ) → a ++ b ++ (c ++ (d ++ ((e ++ f) ++ (g ++ e)))) ++ h
-        ≡ a ++ (b ++ ((c ++ d) ++ e) ++ ((f ++ g) ++ e) ++ h)
-    regroup a b c d e f g h = simp append_assoc
+    regroup : (a b c d e f g h i : List ℕ) → a ++ b ++ (c ++ (d ++ ((e ++ f) ++ (g ++ e)))) ++ h ++ i
+        ≡ a ++ (b ++ ((c ++ d) ++ e) ++ ((f ++ g) ++ e) ++ h ++ i)
+    regroup a b c d e f g h i = simp append_assoc
 
 -- the lines of the head and those of the faults
 pub text_pieces : {A : Type 0} (decision : Decision A) (told : List ToldDecided) (empty head last : List ℕ) → empty ≡ []
-    → head ≡ empty ++ head_lines decision.settings.now decision.base.now decision.traced.now decision.closed
+    → head ≡ empty ++ head_lines decision.settings.now decision.base.now decision.traced.now
+    (told_promises decision.settings.now decision.demands.now) decision.closed
     → last ≡ head ++ flat_map (decided_text (length decision.traced.now.patches)) told
     → last ≡ text_decision decision.settings.now (decision_of decision told)
 unfolding text_decision
 text_pieces decision told empty head last none first second =
     second ∙ ap (λ (t : List ℕ). t ++ flat_map (decided_text (length decision.traced.now.patches)) told)
-    (first ∙ ap (λ (t : List ℕ). t
-    ++ head_lines decision.settings.now decision.base.now decision.traced.now decision.closed) none)
+    (first ∙ ap (λ (t : List ℕ). t ++ head_lines decision.settings.now decision.base.now decision.traced.now
+    (told_promises decision.settings.now decision.demands.now) decision.closed) none)
 
 -- the object of a fault
 pub fault_pieces : (n : ℕ) (decided : DecidedFault) (s : Section) (before one two three after : List ℕ)
     → one ≡ before ++ codes "{\"fault\":"
     → two ≡ one ++ json_string (fault_text decided.fault)
     → three ≡ two ++ codes ","
-    → after ≡ three ++ crash_json n s
+    → after ≡ three ++ crash_json n decided.fault s
     → after ≡ before ++ decided_json n (record { decided = decided; first = s })
 fault_pieces n decided s before one two three after first second third fourth =
     let fault = json_string (fault_text decided.fault) in
-    fourth ∙ (ap (λ (t : List ℕ). t ++ crash_json n s) (third ∙ ap (λ (t : List ℕ). t ++ codes ",")
+    fourth ∙ (ap (λ (t : List ℕ). t ++ crash_json n decided.fault s) (third ∙ ap (λ (t : List ℕ). t ++ codes ",")
     (second ∙ ap (λ (t : List ℕ). t ++ fault) first))
     ∙ regroup before (codes "{\"fault\":") fault (codes ",") (replay_json s.replay) (codes "\"set\":")
-    (ids_json n s.set) (codes ",\"writes\":") (writes_json n s.writes) (codes "}"))
+    (ids_json n s.set) (fault_shows_json decided.fault s) (codes ",\"writes\":") (writes_json n s.writes) (codes "}"))
   where
-    regroup : (before a b c d e f g h i : List ℕ) → before ++ a ++ b ++ c ++ (d ++ e ++ f ++ g ++ h ++ i)
-        ≡ before ++ (a ++ b ++ c ++ d ++ e ++ f ++ g ++ h ++ i)
-    regroup before a b c d e f g h i = simp append_assoc
+    regroup : (before a b c d e f g h i j : List ℕ) → before ++ a ++ b ++ c ++ (d ++ e ++ f ++ g ++ h ++ i ++ j)
+        ≡ before ++ (a ++ b ++ c ++ d ++ e ++ f ++ g ++ h ++ i ++ j)
+    regroup before a b c d e f g h i j = simp append_assoc
 
 -- the keys of the whole
 pub json_pieces : {A : Type 0} (decision : Decision A) (n : ℕ) (told : List ToldDecided)
-    (empty one two three four five six seven last : List ℕ) → n ≡ length decision.traced.now.patches → empty ≡ []
+    (empty one two three four five six seven eight nine ten last : List ℕ)
+    → n ≡ length decision.traced.now.patches → empty ≡ []
     → one ≡ empty ++ codes "{"
     → two ≡ one ++ first_json decision.settings.now (when decision.settings.now.explain
     (explanation_by decision.base.now decision.traced.now))
-    → three ≡ two ++ (codes "\"closed\":\"" ++ decimal decision.closed ++ codes "\",\"faults\":[")
-    → four ≡ three ++ fault_items (length decision.traced.now.patches) told
-    → five ≡ four ++ codes "]"
-    → six ≡ five ++ module_key decision.settings.now.generations decision.settings.now.module n
-    → seven ≡ six ++ from_strict decision.settings.now (explanation_by decision.base.now decision.traced.now)
-    → last ≡ seven ++ codes "}\n"
+    → three ≡ two ++ (codes "\"closed\":\"" ++ decimal decision.closed ++ codes "\"")
+    → four ≡ three ++ promise_keys decision.settings.now
+    → five ≡ four ++ codes ",\"faults\":["
+    → six ≡ five ++ fault_items (length decision.traced.now.patches) told
+    → seven ≡ six ++ codes "]"
+    → eight ≡ seven ++ module_key decision.settings.now.generations decision.settings.now.module n
+    → nine ≡ eight ++ promises_json n (told_promises decision.settings.now decision.demands.now)
+    → ten ≡ nine ++ from_strict decision.settings.now (length decision.traced.now.patches)
+    (explanation_by decision.base.now decision.traced.now) (told_promises decision.settings.now decision.demands.now)
+    → last ≡ ten ++ codes "}\n"
     → last ≡ json_decision decision.settings.now (decision_of decision told)
 unfolding json_decision
-json_pieces decision n told empty one two three four five six seven last number none first second third fourth fifth
-    sixth seventh eighth =
+json_pieces decision n told empty one two three four five six seven eight nine ten last number none first second third
+    fourth fifth sixth seventh eighth ninth tenth eleventh =
     let settings = decision.settings.now in
     let patches = length decision.traced.now.patches in
     let explained = explanation_by decision.base.now decision.traced.now in
+    let promises = told_promises settings decision.demands.now in
     let base = first_json settings (when settings.explain explained) in
-    let closed = codes "\"closed\":\"" ++ decimal decision.closed ++ codes "\",\"faults\":[" in
+    let closed = codes "\"closed\":\"" ++ decimal decision.closed ++ codes "\"" in
+    let keys = promise_keys settings in
     let items = fault_items patches told in
     let key = module_key settings.generations settings.module in
-    let rest = from_strict settings explained in
-    let start : three ≡ codes "{" ++ base ++ closed = third ∙ ap (λ (t : List ℕ). t ++ closed)
-    (second ∙ ap (λ (t : List ℕ). t ++ base) (first ∙ ap (λ (t : List ℕ). t ++ codes "{") none)) in
-    let end : last ≡ three ++ items ++ codes "]" ++ key patches ++ rest ++ codes "}\n" = eighth
-    ∙ ap (λ (t : List ℕ). t ++ codes "}\n") (seventh ∙ ap (λ (t : List ℕ). t ++ rest)
-    (sixth ∙ (ap (λ (k : ℕ). five ++ key k) number ∙ ap (λ (t : List ℕ). t ++ key patches)
-    (fifth ∙ ap (λ (t : List ℕ). t ++ codes "]") fourth)))) in
-    end ∙ (ap (λ (t : List ℕ). t ++ items ++ codes "]" ++ key patches ++ rest ++ codes "}\n") start
-    ∙ regroup (codes "{") base (codes "\"closed\":") (codes "\"") (decimal decision.closed) (codes ",\"faults\":")
-    (codes "[") items (codes "]") (before_module settings.generations) (module_text settings.module) (codes ",\"patches\":")
-    (decimal patches) (strict_key settings.strict) (trace_json (when settings.explain explained))
-    (whole_key settings.whole_blocks)
+    let told_key = promises_json patches promises in
+    let rest = from_strict settings patches explained promises in
+    let start : five ≡ codes "{" ++ base ++ closed ++ keys ++ codes ",\"faults\":[" =
+    fifth ∙ ap (λ (t : List ℕ). t ++ codes ",\"faults\":[") (fourth ∙ ap (λ (t : List ℕ). t ++ keys)
+    (third ∙ ap (λ (t : List ℕ). t ++ closed) (second ∙ ap (λ (t : List ℕ). t ++ base)
+    (first ∙ ap (λ (t : List ℕ). t ++ codes "{") none)))) in
+    let middle : nine ≡ five ++ items ++ codes "]" ++ key patches ++ told_key =
+    ninth ∙ (ap (λ (k : ℕ). eight ++ promises_json k promises) number ∙ ap (λ (t : List ℕ). t ++ told_key)
+    (eighth ∙ (ap (λ (k : ℕ). seven ++ key k) number ∙ ap (λ (t : List ℕ). t ++ key patches)
+    (seventh ∙ ap (λ (t : List ℕ). t ++ codes "]") sixth)))) in
+    eleventh ∙ (ap (λ (t : List ℕ). t ++ codes "}\n") (tenth ∙ ap (λ (t : List ℕ). t ++ rest)
+    (middle ∙ ap (λ (t : List ℕ). t ++ items ++ codes "]" ++ key patches ++ told_key) start))
+    ∙ regroup (codes "{") base (codes "\"closed\":") (codes "\"") (decimal decision.closed)
+    (counted_json settings.counted) (durable_json settings.durable) (codes ",\"faults\":") (codes "[") items (codes "]")
+    (before_module settings.generations) (module_text settings.module) (codes ",\"patches\":") (decimal patches)
+    told_key (strict_key settings.strict) (trace_json (when settings.explain explained))
+    (told_waits_json patches (when settings.explain explained) promises) (whole_key settings.whole_blocks)
     (rules_json (codes "with") (told_with settings)) (rules_json (codes "without") (told_without settings))
     (codes "}\n"))
   where
-    regroup : (a b c d e f g h i j k l m n o w p q r : List ℕ)
-        → a ++ b ++ ((c ++ d) ++ e ++ (d ++ f ++ g)) ++ h ++ i ++ ((j ++ d) ++ k ++ (d ++ l) ++ m) ++ (n ++ o ++ w
-        ++ p ++ q) ++ r
-        ≡ a ++ b ++ c ++ (d ++ e ++ d) ++ f ++ (g ++ h ++ i) ++ j ++ (d ++ k ++ d) ++ l ++ m ++ n ++ o ++ w ++ p ++ q
-        ++ r
-    regroup a b c d e f g h i j k l m n o w p q r = simp append_assoc
+    regroup : (a b c d e f g h i j k l m n o p q r s t u v w : List ℕ)
+        → a ++ b ++ ((c ++ d) ++ e ++ d) ++ (f ++ g) ++ (h ++ i) ++ j ++ k ++ ((l ++ d) ++ m ++ (d ++ n) ++ o) ++ p
+        ++ (q ++ r ++ s ++ t ++ u ++ v) ++ w
+        ≡ a ++ b ++ c ++ (d ++ e ++ d) ++ f ++ g ++ h ++ (i ++ j ++ k) ++ l ++ (d ++ m ++ d) ++ n ++ o ++ p ++ q ++ r
+        ++ s ++ t ++ u ++ v ++ w
+    regroup a b c d e f g h i j k l m n o p q r s t u v w = simp append_assoc

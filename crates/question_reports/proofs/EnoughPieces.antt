@@ -6,18 +6,19 @@ use Rattle.std.specs.List.{flat_map}
 use Rattle.std.proofs.lemmas.List.Folds.{flat_map-map}
 use Rattle.std.proofs.lemmas.Simd.{map-map}
 use Rattle.report_model.specs.Answer.{ordering_rules}
-use Rattle.report_model.specs.Explain.{trace_json}
+use Rattle.report_model.specs.Explain.{trace_json, told_waits_json}
 use Rattle.crash_model.specs.Lists.{join_of, when}
 use Rattle.crash_model.specs.Texts.{fault_text, module_text}
 use Rattle.report_model.specs.Report.{ids_json, json_string, line, replay_json, writes_json}
+use Rattle.report_model.specs.Shows.{counted_json, durable_json, promises_json}
 use Rattle.report_model.specs.Whole.{first_json, rules_json, told_with, told_without, before_module}
 use Rattle.crash_model.specs.declared.rules.Rule.{Rule}
 use Rattle.question_model.specs.Decision.{ToldDecided, decided_text}
 use Rattle.question_reports.specs.DecisionParts.{head_lines}
 use Rattle.question_model.specs.EnoughReport.{ToldGroup, first_fault_json, group_json, group_text, json_rules_report}
 use Rattle.question_model.specs.EnoughReport.{rules_report_bytes, rules_text, set_json, text_rules_report}
-use Rattle.json_values.specs.Items.{leading_json}
-use Rattle.report_json.specs.JsonReport.{strict_key, whole_key, from_strict}
+use Rattle.json_values.specs.Items.{fault_shows_json, leading_json}
+use Rattle.report_json.specs.JsonReport.{promise_keys, strict_key, told_promises, whole_key, from_strict}
 use Rattle.report_sections.specs.Bodies.{explanation_by}
 use Rattle.question_reports.specs.EnoughFindings.{group_head, group_items, group_lines, report_of, set_items}
 use Rattle.question_reports.specs.EnoughFindings.{told_first}
@@ -43,7 +44,8 @@ as_text found is = ap (in_form found) (sym is)
 pub text_pieces : {A : Type 0} (found : EnoughFindings A) (rules : List Rule) (n : ℕ)
     (empty head sets groups last : List ℕ) → rules ≡ ordering_rules found.settings.now
     → n ≡ length found.traced.now.patches → empty ≡ []
-    → head ≡ empty ++ head_lines found.settings.now found.base.now found.traced.now found.closed
+    → head ≡ empty ++ head_lines found.settings.now found.base.now found.traced.now
+    (told_promises found.settings.now found.demands.now) found.closed
     → sets ≡ head ++ line (codes "enough " ++ decimal (length found.enough.now))
     ++ flat_map (rules_text rules (codes "rules")) found.enough.now
     → groups ≡ sets ++ group_lines rules n found.needs.now
@@ -51,7 +53,8 @@ pub text_pieces : {A : Type 0} (found : EnoughFindings A) (rules : List Rule) (n
     → last ≡ text_rules_report found.settings.now (report_of found)
 unfolding text_rules_report
 text_pieces {A = A} found rules n empty head sets groups last same number none first second third fourth =
-    let start = head_lines found.settings.now found.base.now found.traced.now found.closed in
+    let start = head_lines found.settings.now found.base.now found.traced.now
+    (told_promises found.settings.now found.demands.now) found.closed in
     let count = line (codes "enough " ++ decimal (length found.enough.now)) in
     let all = ordering_rules found.settings.now in
     let patches = length found.traced.now.patches in
@@ -93,91 +96,107 @@ group_head_pieces rules group fault before one two three four five after first s
 pub group_pieces : (rules : List Rule) (n : ℕ) (told : ToldGroup) (before one two after : List ℕ)
     → one ≡ before ++ group_head rules told.group told.fault
     → two ≡ one ++ codes ","
-    → after ≡ two ++ leading_json n told.fault.first
+    → after ≡ two ++ leading_json n told.fault.decided.fault told.fault.first
     → after ≡ before ++ group_json rules n told
 group_pieces rules n told before one two after first second third =
     let head = group_head rules told.group told.fault in
-    third ∙ (ap (λ (t : List ℕ). t ++ leading_json n told.fault.first)
+    third ∙ (ap (λ (t : List ℕ). t ++ leading_json n told.fault.decided.fault told.fault.first)
     (second ∙ ap (λ (t : List ℕ). t ++ codes ",") first)
-    ∙ regroup before head (codes ",") (codes "\"set\":") (ids_json n told.fault.first.set) (codes ",\"writes\":")
+    ∙ regroup before head (codes ",") (codes "\"set\":") (ids_json n told.fault.first.set)
+    (fault_shows_json told.fault.decided.fault told.fault.first) (codes ",\"writes\":")
     (writes_json n told.fault.first.writes) (codes "}"))
   where
-    regroup : (before f c g h i j k : List ℕ)
-        → before ++ f ++ c ++ (g ++ h ++ i ++ j ++ k) ≡ before ++ (f ++ (c ++ g) ++ h ++ i ++ j ++ k)
-    regroup before f c g h i j k = simp append_assoc
+    regroup : (before f c g h i j k l : List ℕ)
+        → before ++ f ++ c ++ (g ++ h ++ i ++ j ++ k ++ l) ≡ before ++ (f ++ (c ++ g) ++ h ++ i ++ j ++ k ++ l)
+    regroup before f c g h i j k l = simp append_assoc
 
 -- the keys up to the sets that are enough
-json_start : (base closed items empty one two three four after : List ℕ) → empty ≡ []
+json_start : (base closed keys items empty one two three four five six after : List ℕ) → empty ≡ []
     → one ≡ empty ++ codes "{" → two ≡ one ++ base
-    → three ≡ two ++ (codes "\"closed\":\"" ++ closed ++ codes "\",\"enough\":[") → four ≡ three ++ items
-    → after ≡ four ++ codes "]"
-    → after ≡ codes "{" ++ base ++ (codes "\"closed\":\"" ++ closed ++ codes "\",\"enough\":[") ++ items ++ codes "]"
-json_start base closed items empty one two three four after none first second third fourth fifth =
-    let key = codes "\"closed\":\"" ++ closed ++ codes "\",\"enough\":[" in
-    fifth ∙ ap (λ (t : List ℕ). t ++ codes "]") (fourth ∙ ap (λ (t : List ℕ). t ++ items)
+    → three ≡ two ++ (codes "\"closed\":\"" ++ closed ++ codes "\"") → four ≡ three ++ keys
+    → five ≡ four ++ codes ",\"enough\":[" → six ≡ five ++ items → after ≡ six ++ codes "]"
+    → after ≡ codes "{" ++ base ++ (codes "\"closed\":\"" ++ closed ++ codes "\"") ++ keys ++ codes ",\"enough\":["
+    ++ items
+    ++ codes "]"
+json_start base closed keys items empty one two three four five six after none first second third fourth fifth sixth
+    seventh =
+    let key = codes "\"closed\":\"" ++ closed ++ codes "\"" in
+    seventh ∙ ap (λ (t : List ℕ). t ++ codes "]") (sixth ∙ ap (λ (t : List ℕ). t ++ items)
+    (fifth ∙ ap (λ (t : List ℕ). t ++ codes ",\"enough\":[") (fourth ∙ ap (λ (t : List ℕ). t ++ keys)
     (third ∙ ap (λ (t : List ℕ). t ++ key) (second ∙ ap (λ (t : List ℕ). t ++ base)
-    (first ∙ ap (λ (t : List ℕ). t ++ codes "{") none))))
+    (first ∙ ap (λ (t : List ℕ). t ++ codes "{") none))))))
 
 -- the keys of the whole
 pub json_pieces : {A : Type 0} (found : EnoughFindings A) (rules : List Rule) (n k m : ℕ)
-    (empty one two three four five six seven eight nine ten eleven last : List ℕ)
+    (empty one two three four five six seven eight nine ten eleven twelve thirteen fourteen last : List ℕ)
     → rules ≡ ordering_rules found.settings.now
     → n ≡ length found.traced.now.patches → k ≡ length found.traced.now.patches → m ≡ length found.traced.now.patches
     → empty ≡ [] → one ≡ empty ++ codes "{"
     → two ≡ one ++ first_json found.settings.now
     (when found.settings.now.explain (explanation_by found.base.now found.traced.now))
-    → three ≡ two ++ (codes "\"closed\":\"" ++ decimal found.closed ++ codes "\",\"enough\":[")
-    → four ≡ three ++ set_items rules found.enough.now
-    → five ≡ four ++ codes "]"
-    → six ≡ five ++ first_fault_json k (option_map told_first found.first.now)
-    → seven ≡ six ++ (before_module found.settings.now.generations ++ json_string (module_text found.settings.now.module))
-    → eight ≡ seven ++ codes ",\"needs\":["
-    → nine ≡ eight ++ group_items rules m found.needs.now
-    → ten ≡ nine ++ (codes "],\"patches\":" ++ decimal n)
-    → eleven ≡ ten ++ from_strict found.settings.now (explanation_by found.base.now found.traced.now)
-    → last ≡ eleven ++ codes "}\n"
+    → three ≡ two ++ (codes "\"closed\":\"" ++ decimal found.closed ++ codes "\"")
+    → four ≡ three ++ promise_keys found.settings.now
+    → five ≡ four ++ codes ",\"enough\":["
+    → six ≡ five ++ set_items rules found.enough.now
+    → seven ≡ six ++ codes "]"
+    → eight ≡ seven ++ first_fault_json k (option_map told_first found.first.now)
+    → nine ≡ eight ++ (before_module found.settings.now.generations
+    ++ json_string (module_text found.settings.now.module))
+    → ten ≡ nine ++ codes ",\"needs\":["
+    → eleven ≡ ten ++ group_items rules m found.needs.now
+    → twelve ≡ eleven ++ (codes "],\"patches\":" ++ decimal n)
+    → thirteen ≡ twelve ++ promises_json n (told_promises found.settings.now found.demands.now)
+    → fourteen ≡ thirteen ++ from_strict found.settings.now (length found.traced.now.patches)
+    (explanation_by found.base.now found.traced.now) (told_promises found.settings.now found.demands.now)
+    → last ≡ fourteen ++ codes "}\n"
     → last ≡ json_rules_report found.settings.now (report_of found)
 unfolding json_rules_report
-json_pieces {A = A} found rules n k m empty one two three four five six seven eight nine ten eleven last same n_is k_is
-    m_is none first second third fourth fifth sixth seventh eighth ninth tenth eleventh twelfth =
+json_pieces {A = A} found rules n k m empty one two three four five six seven eight nine ten eleven twelve thirteen
+    fourteen last same n_is k_is m_is none first second third fourth fifth sixth seventh eighth ninth tenth eleventh
+    twelfth thirteenth fourteenth fifteenth =
     let settings = found.settings.now in
     let patches = length found.traced.now.patches in
     let all = ordering_rules settings in
     let explained = explanation_by found.base.now found.traced.now in
+    let promises = told_promises settings found.demands.now in
     let base = first_json settings (when settings.explain explained) in
-    let closed = codes "\"closed\":\"" ++ decimal found.closed ++ codes "\",\"enough\":[" in
+    let closed = codes "\"closed\":\"" ++ decimal found.closed ++ codes "\"" in
+    let keys = promise_keys settings in
     let sets = set_items all found.enough.now in
     let fault = first_fault_json patches (option_map told_first found.first.now) in
     let name = before_module settings.generations ++ json_string (module_text settings.module) in
     let groups = join_of 44 (map (group_json all patches) (map told_group found.needs.now)) in
     let number = codes "],\"patches\":" ++ decimal patches in
-    let rest = from_strict settings explained in
-    let start : five ≡ codes "{" ++ base ++ closed ++ sets ++ codes "]" =
-    json_start base (decimal found.closed) sets empty one two three four five none first second third
-    (fourth ∙ ap (λ (rs : List Rule). three ++ set_items rs found.enough.now) same) fifth in
-    let faults : six ≡ five ++ fault =
-    sixth ∙ ap (λ (j : ℕ). five ++ first_fault_json j (option_map told_first found.first.now)) k_is in
-    let needs : nine ≡ eight ++ groups =
-    ninth ∙ (ap (λ (rs : List Rule). eight ++ group_items rs m found.needs.now) same
-    ∙ (ap (λ (j : ℕ). eight ++ group_items all j found.needs.now) m_is
-    ∙ ap (λ (items : List (List ℕ)). eight ++ join_of 44 items)
+    let promised = promises_json patches promises in
+    let rest = from_strict settings patches explained promises in
+    let start : seven ≡ codes "{" ++ base ++ closed ++ keys ++ codes ",\"enough\":[" ++ sets ++ codes "]" =
+    json_start base (decimal found.closed) keys sets empty one two three four five six seven none first second third
+    fourth fifth (sixth ∙ ap (λ (rs : List Rule). five ++ set_items rs found.enough.now) same) seventh in
+    let faults : eight ≡ seven ++ fault =
+    eighth ∙ ap (λ (j : ℕ). seven ++ first_fault_json j (option_map told_first found.first.now)) k_is in
+    let needs : eleven ≡ ten ++ groups =
+    eleventh ∙ (ap (λ (rs : List Rule). ten ++ group_items rs m found.needs.now) same
+    ∙ (ap (λ (j : ℕ). ten ++ group_items all j found.needs.now) m_is
+    ∙ ap (λ (items : List (List ℕ)). ten ++ join_of 44 items)
     (sym (map-map (group_json all patches) (told_group {A = A}) found.needs.now)))) in
-    let end : ten ≡ nine ++ number =
-    tenth ∙ ap (λ (j : ℕ). nine ++ (codes "],\"patches\":" ++ decimal j)) n_is in
-    twelfth ∙ (ap (λ (t : List ℕ). t ++ codes "}\n") (eleventh ∙ ap (λ (t : List ℕ). t ++ rest)
-    (end ∙ ap (λ (t : List ℕ). t ++ number) (needs ∙ ap (λ (t : List ℕ). t ++ groups)
-    (eighth ∙ ap (λ (t : List ℕ). t ++ codes ",\"needs\":[") (seventh ∙ ap (λ (t : List ℕ). t ++ name)
+    let end : thirteen ≡ eleven ++ number ++ promised =
+    thirteenth ∙ (ap (λ (j : ℕ). twelve ++ promises_json j promises) n_is ∙ ap (λ (t : List ℕ). t ++ promised)
+    (twelfth ∙ ap (λ (j : ℕ). eleven ++ (codes "],\"patches\":" ++ decimal j)) n_is)) in
+    fifteenth ∙ (ap (λ (t : List ℕ). t ++ codes "}\n") (fourteenth ∙ ap (λ (t : List ℕ). t ++ rest)
+    (end ∙ ap (λ (t : List ℕ). t ++ number ++ promised) (needs ∙ ap (λ (t : List ℕ). t ++ groups)
+    (tenth ∙ ap (λ (t : List ℕ). t ++ codes ",\"needs\":[") (ninth ∙ ap (λ (t : List ℕ). t ++ name)
     (faults ∙ ap (λ (t : List ℕ). t ++ fault) start))))))
-    ∙ regroup (codes "{") base (codes "\"closed\":") (codes "\"") (decimal found.closed) (codes ",\"enough\":")
+    ∙ regroup (codes "{") base (codes "\"closed\":") (codes "\"") (decimal found.closed)
+    (counted_json settings.counted) (durable_json settings.durable) (codes ",\"enough\":")
     (codes "[") sets (codes "]") fault (before_module settings.generations) (json_string (module_text settings.module))
-    (codes ",\"needs\":") groups (codes ",\"patches\":") (decimal patches) (strict_key settings.strict)
-    (trace_json (when settings.explain explained)) (whole_key settings.whole_blocks) (rules_json (codes "with")
-    (told_with settings))
+    (codes ",\"needs\":") groups (codes ",\"patches\":") (decimal patches) promised (strict_key settings.strict)
+    (trace_json (when settings.explain explained)) (told_waits_json patches (when settings.explain explained) promises)
+    (whole_key settings.whole_blocks) (rules_json (codes "with") (told_with settings))
     (rules_json (codes "without") (told_without settings)) (codes "}\n"))
   where
-    regroup : (a b c d e f g h i j k m n o p q r s w t u v : List ℕ)
-        → a ++ b ++ ((c ++ d) ++ e ++ (d ++ f ++ g)) ++ h ++ i ++ j ++ (k ++ m) ++ (n ++ g) ++ o ++ ((i ++ p) ++ q)
-        ++ (r ++ s ++ w ++ t ++ u) ++ v
-        ≡ a ++ b ++ c ++ (d ++ e ++ d) ++ f ++ (g ++ h ++ i) ++ j ++ k ++ m ++ n ++ (g ++ o ++ i) ++ p ++ q ++ r ++ s
-        ++ w ++ t ++ u ++ v
-    regroup a b c d e f g h i j k m n o p q r s w t u v = simp append_assoc
+    regroup : (a b c d e x y f g h i j k m n o p q z r s aa w t u v : List ℕ)
+        → a ++ b ++ ((c ++ d) ++ e ++ d) ++ (x ++ y) ++ (f ++ g) ++ h ++ i ++ j ++ (k ++ m) ++ (n ++ g) ++ o
+        ++ ((i ++ p) ++ q) ++ z ++ (r ++ s ++ aa ++ w ++ t ++ u) ++ v
+        ≡ a ++ b ++ c ++ (d ++ e ++ d) ++ x ++ y ++ f ++ (g ++ h ++ i) ++ j ++ k ++ m ++ n ++ (g ++ o ++ i) ++ p ++ q
+        ++ z ++ r ++ s ++ aa ++ w ++ t ++ u ++ v
+    regroup a b c d e x y f g h i j k m n o p q z r s aa w t u v = simp append_assoc

@@ -1,15 +1,13 @@
--- Operations that are lent.
+-- Acts that are lent.
 use denote.Ref.{Bor}
 use Rattle.std.proofs.Common.{ℕ, List, ◌++◌, codes}
 use Rattle.crash_model.specs.Lists.{join_of}
 use Rattle.report_model.specs.Report.{json_string, line}
 use Rattle.crash_model.specs.Script.{words_of}
-use Rattle.crash_model.specs.declared.operations.Op.{Op}
 use Rattle.crash_model.specs.declared.steps.Act.{Act}
-use Rattle.crash_model.specs.declared.steps.Act.TheVariants.{Do}
 
-abbrev pub asked : Bor Op → Act
-asked op = Do op.now
+abbrev pub asked : Bor Act → Act
+asked act = act.now
 
 -- the line of an act, and its JSON text
 abbrev pub act_line : Act → List ℕ

@@ -5,17 +5,21 @@ use Rattle.crash_model.specs.Lists.{join_of}
 use Rattle.crash_model.specs.Texts.{fault_text, module_text}
 use Rattle.report_model.specs.Report.{ids_json, json_array, json_string, replay_json}
 use Rattle.report_model.specs.Report.{write_json}
+use Rattle.report_model.specs.Shows.{shows_json}
 use Rattle.report_model.specs.Whole.{atomic_json, rules_json, told_with, told_without}
 use Rattle.crash_model.specs.declared.settings.Settings.{Settings}
 use Rattle.crash_model.specs.declared.steps.Step.{Step}
 use Rattle.report_json.specs.JsonReport.{strict_key, whole_key}
 use Rattle.report_sections.specs.Replay.{told_replay}
+use Rattle.report_sections.specs.Sections.{section_of}
 use Rattle.question_model.specs.Kinds.{kind_number, kind_name}
 use Rattle.question_model.specs.Refused.{refusal_number, refusal_text}
-use Rattle.question_model.specs.SearchReport.{json_search, kind_json, refused_json, step_text, before_kinds}
+use Rattle.question_model.specs.SearchReport.{first_promise_keys, json_search, kind_json, refused_json, step_text}
+use Rattle.question_model.specs.SearchReport.{before_kinds}
 use Rattle.question_model.specs.declared.found.Found.{Found}
 use Rattle.question_model.specs.declared.found.RefusedCount.{RefusedCount}
-use Rattle.question_reports.specs.SearchFindings.{kind_head, kind_items, last_keys, ordering_keys, told_kind, failing_keys}
+use Rattle.question_reports.specs.SearchFindings.{kind_head, kind_items, last_keys, ordering_keys}
+use Rattle.question_reports.specs.SearchFindings.{told_kind, failing_keys}
 use Rattle.question_reports.specs.SearchFindings.{told_kinds}
 use Rattle.question_reports.specs.declared.search.findings.KindCrash.{KindCrash}
 use Rattle.question_reports.specs.declared.search.findings.SearchFindings.{SearchFindings}
@@ -66,36 +70,39 @@ kind_head_pieces k number name before one two three after number_is name_is firs
 
 -- the object of a kind
 pub kind_pieces : {A : Type 0} (pool : List Step) (k : KindCrash A) (n : ℕ)
-    (before one two three four five six seven after : List ℕ) → n ≡ k.patches
+    (before one two three shown four five six seven after : List ℕ) → n ≡ k.patches
     → one ≡ before ++ kind_head k
     → two ≡ one ++ codes "\"set\":"
     → three ≡ two ++ ids_json k.patches k.section.set
-    → four ≡ three ++ codes ",\"steps\":["
+    → shown ≡ three ++ shows_json (section_of k.section).shows
+    → four ≡ shown ++ codes ",\"steps\":["
     → five ≡ four ++ join_of 44 (map (λ step. json_string (step_text step)) (told_kind pool k).steps)
     → six ≡ five ++ (codes "],\"workloads\":" ++ (decimal k.shown.now.workloads ++ codes ",\"writes\":["))
     → seven ≡ six ++ join_of 44 (map (write_json n) k.section.writes.items)
     → after ≡ seven ++ codes "]}"
     → after ≡ before ++ kind_json (told_kind pool k)
-kind_pieces pool k n before one two three four five six seven after n_is first second third fourth fifth sixth seventh
-    eighth =
+kind_pieces pool k n before one two three shown four five six seven after n_is first second third shows fourth fifth
+    sixth seventh eighth =
     let texts = join_of 44 (map (λ step. json_string (step_text step)) (told_kind pool k).steps) in
     let writes = join_of 44 (map (write_json k.patches) k.section.writes.items) in
     let ids = ids_json k.patches k.section.set in
     let count = codes "],\"workloads\":" ++ (decimal k.shown.now.workloads ++ codes ",\"writes\":[") in
-    let set : three ≡ before ++ kind_head k ++ codes "\"set\":" ++ ids = third ∙ ap (λ (t : List ℕ). t ++ ids)
-    (second ∙ ap (λ (t : List ℕ). t ++ codes "\"set\":") first) in
-    let told : five ≡ before ++ kind_head k ++ codes "\"set\":" ++ ids ++ codes ",\"steps\":[" ++ texts =
+    let showing = shows_json (section_of k.section).shows in
+    let set : shown ≡ before ++ kind_head k ++ codes "\"set\":" ++ ids ++ showing =
+    shows ∙ ap (λ (t : List ℕ). t ++ showing) (third ∙ ap (λ (t : List ℕ). t ++ ids)
+    (second ∙ ap (λ (t : List ℕ). t ++ codes "\"set\":") first)) in
+    let told : five ≡ before ++ kind_head k ++ codes "\"set\":" ++ ids ++ showing ++ codes ",\"steps\":[" ++ texts =
     fifth ∙ ap (λ (t : List ℕ). t ++ texts) (fourth ∙ ap (λ (t : List ℕ). t ++ codes ",\"steps\":[") set) in
     eighth ∙ (ap (λ (t : List ℕ). t ++ codes "]}") (seventh
     ∙ (ap (λ (j : ℕ). six ++ join_of 44 (map (write_json j) k.section.writes.items)) n_is
     ∙ ap (λ (t : List ℕ). t ++ writes) (sixth ∙ ap (λ (t : List ℕ). t ++ count) told)))
-    ∙ regroup before (kind_head k) (codes "\"set\":") ids (codes ",\"steps\":") (codes "[") texts
+    ∙ regroup before (kind_head k) (codes "\"set\":") ids showing (codes ",\"steps\":") (codes "[") texts
     (codes "]") (codes ",\"workloads\":") (decimal k.shown.now.workloads) (codes ",\"writes\":") writes (codes "}"))
   where
-    regroup : (before h s i t o p q w n x y z : List ℕ)
-        → before ++ h ++ s ++ i ++ (t ++ o) ++ p ++ ((q ++ w) ++ (n ++ (x ++ o))) ++ y ++ (q ++ z)
-        ≡ before ++ (h ++ s ++ i ++ t ++ (o ++ p ++ q) ++ w ++ n ++ x ++ (o ++ y ++ q) ++ z)
-    regroup before h s i t o p q w n x y z = simp append_assoc
+    regroup : (before h s i j t o p q w n x y z : List ℕ)
+        → before ++ h ++ s ++ i ++ j ++ (t ++ o) ++ p ++ ((q ++ w) ++ (n ++ (x ++ o))) ++ y ++ (q ++ z)
+        ≡ before ++ (h ++ s ++ i ++ j ++ t ++ (o ++ p ++ q) ++ w ++ n ++ x ++ (o ++ y ++ q) ++ z)
+    regroup before h s i j t o p q w n x y z = simp append_assoc
 
 -- the keys behind the module's
 pub last_pieces : (settings : Settings) (most pool : ℕ) (found : Found) (before one two three four after : List ℕ)
@@ -122,24 +129,26 @@ last_pieces settings most pool found before one two three four after first secon
     regroup before e n f o r p g s k h w i = simp append_assoc
 
 -- the whole object
-pub json_pieces : {A : Type 0} (f : SearchFindings A) (empty zero half one two three four last : List ℕ)
+pub json_pieces : {A : Type 0} (f : SearchFindings A) (empty zero half keyed one two three four last : List ℕ)
     → empty ≡ []
     → zero ≡ empty ++ codes "{"
     → half ≡ zero ++ atomic_json f.settings.now.atomic
-    → one ≡ half ++ failing_keys f.found.now.failing f.settings.now.generations
+    → keyed ≡ half ++ first_promise_keys f.settings.now
+    → one ≡ keyed ++ failing_keys f.found.now.failing f.settings.now.generations
     → two ≡ one ++ kind_items f.pool.now f.kinds.now
     → three ≡ two ++ codes "]"
     → four ≡ three ++ (codes ",\"module\":" ++ json_string (module_text f.settings.now.module))
     → last ≡ four ++ last_keys f.settings.now f.most (length f.pool.now) f.found.now
     → last ≡ json_search f.settings.now f.most (length f.pool.now) f.found.now (told_kinds f)
 unfolding json_search
-json_pieces {A = A} f empty zero half one two three four last none opened atomic_is first second third fourth fifth =
+json_pieces {A = A} f empty zero half keyed one two three four last none opened atomic_is keys_are first second third
+    fourth fifth =
     let settings = f.settings.now in
     let found = f.found.now in
     let pool = length f.pool.now in
     let atomic = atomic_json settings.atomic in
     let fails = failing_keys found.failing settings.generations in
-    let head = (codes "{" ++ atomic) ++ fails in
+    let keys = first_promise_keys settings in
     let kinds = join_of 44 (map kind_json (told_kinds f)) in
     let name = codes ",\"module\":" ++ json_string (module_text settings.module) in
     let end = last_keys settings f.most pool found in
@@ -148,18 +157,20 @@ json_pieces {A = A} f empty zero half one two three four last none opened atomic
     (second ∙ (ap (λ (ts : List (List ℕ)). one ++ join_of 44 ts)
     (sym (map-map kind_json (told_kind {A = A} f.pool.now) f.kinds.now))
     ∙ ap (λ (t : List ℕ). t ++ kinds) (first ∙ ap (λ (t : List ℕ). t ++ fails)
-    (atomic_is ∙ ap (λ (t : List ℕ). t ++ atomic) (opened ∙ ap (λ (t : List ℕ). t ++ codes "{") none)))))))
-    ∙ regroup (codes "{") atomic (codes "\"failing\":") (decimal found.failing) (before_kinds settings.generations) (codes "[") kinds
-    (codes "]")
+    (keys_are ∙ ap (λ (t : List ℕ). t ++ keys)
+    (atomic_is ∙ ap (λ (t : List ℕ). t ++ atomic) (opened ∙ ap (λ (t : List ℕ). t ++ codes "{") none))))))))
+    ∙ regroup (codes "{") atomic keys (codes "\"failing\":") (decimal found.failing) (before_kinds settings.generations)
+    (codes "[") kinds (codes "]")
     (codes ",\"module\":") (json_string (module_text settings.module)) (codes ",\"pool\":") (decimal pool)
     (codes ",\"refused\":") (json_array (map refused_json found.refused.items)) (codes ",\"search\":")
     (decimal f.most) (strict_key settings.strict) (whole_key settings.whole_blocks)
     (rules_json (codes "with") (told_with settings)) (rules_json (codes "without") (told_without settings))
     (codes ",\"workloads\":") (decimal found.workloads) (codes "}\n"))
   where
-    regroup : (j u a b c o k p d m e n f r g s x v y z h w i : List ℕ)
-        → ((j ++ u) ++ (a ++ (b ++ (c ++ o)))) ++ k ++ p ++ (d ++ m)
+    regroup : (j u l a b c o k p d m e n f r g s x v y z h w i : List ℕ)
+        → ((j ++ u ++ l) ++ (a ++ (b ++ (c ++ o)))) ++ k ++ p ++ (d ++ m)
         ++ (e ++ n ++ f ++ r ++ g ++ s ++ (x ++ v ++ y ++ z) ++ h ++ w ++ i)
-        ≡ j ++ u ++ a ++ b ++ c ++ (o ++ k ++ p) ++ d ++ m ++ e ++ n ++ f ++ r ++ g ++ s ++ x ++ v ++ y ++ z ++ h ++ w
+        ≡ j ++ u ++ l ++ a ++ b ++ c ++ (o ++ k ++ p) ++ d ++ m ++ e ++ n ++ f ++ r ++ g ++ s ++ x ++ v ++ y ++ z
+        ++ h ++ w
         ++ i
-    regroup j u a b c o k p d m e n f r g s x v y z h w i = simp append_assoc
+    regroup j u l a b c o k p d m e n f r g s x v y z h w i = simp append_assoc

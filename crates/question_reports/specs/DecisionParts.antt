@@ -1,17 +1,20 @@
 -- What is written of a decision.
-use Rattle.std.specs.Prelude.{◌≡◌, ℕ, List, ◌++◌, length, map, codes, decimal}
+use Rattle.std.specs.Prelude.{◌≡◌, ℕ, List, ◌++◌, length, map, Option, codes, decimal}
 use Rattle.crash_model.specs.declared.separators.TheConstants.{COMMA}
 use Rattle.report_model.specs.Answer.{detail_of}
 use Rattle.crash_model.specs.Disk.{Disk}
 use Rattle.report_model.specs.Explain.{explanation_text}
 use Rattle.crash_model.specs.Lists.{join_of, when}
+use Rattle.crash_model.specs.Promises.{Promise}
 use Rattle.report_model.specs.Report.{Detail, AreSections, line}
+use Rattle.report_model.specs.Shows.{promises_text}
 use Rattle.crash_model.specs.declared.patches.Patch.{Patch}
 use Rattle.crash_model.specs.declared.settings.Settings.{Settings}
 use Rattle.question_model.specs.Decision as model
 use Rattle.question_model.specs.Decision.{ToldDecided, ordering_text, decided_json}
 use Rattle.question_model.specs.declared.decided_fault.DecidedFault.{DecidedFault}
 use Rattle.traced_patches.specs.Traced.{TracedPatches}
+use Rattle.report_json.specs.JsonReport.{told_promises}
 use Rattle.report_sections.specs.Bodies.{AreOnBase, AreClosed, explanation_by}
 use Rattle.question_reports.specs.declared.decision.findings.Decision.{Decision}
 
@@ -30,6 +33,7 @@ decision_of decision told = record {
   patches = length decision.traced.now.patches;
   closed = decision.closed;
   explanation = when decision.settings.now.explain (explanation_by decision.base.now decision.traced.now);
+  promises = told_promises decision.settings.now decision.demands.now;
   faults = told;
 }
 
@@ -50,13 +54,14 @@ pub record WritesFaults (detail : Detail) (base : Disk) (patches : List Patch) (
   pub firsts : AreSections detail base patches (map (λ fault. fault.first) faults) (map (λ t. t.first) told)
   pub whole : new ≡ old ++ form told
 
--- the lines before the first fault
-abbrev pub head_lines : Settings → Disk → TracedPatches → ℕ → List ℕ
-head_lines settings base t closed =
+-- the lines before the first fault, where these are promised
+abbrev pub head_lines : Settings → Disk → TracedPatches → Option (List Promise) → ℕ → List ℕ
+head_lines settings base t promises closed =
     ordering_text settings
     ++ line (codes "patches " ++ decimal (length t.patches))
     ++ line (codes "closed " ++ decimal closed)
-    ++ explanation_text (when settings.explain (explanation_by base t))
+    ++ explanation_text (length t.patches) (when settings.explain (explanation_by base t))
+    ++ promises_text (length t.patches) promises
 
 -- the objects of faults, with a comma between two, where patches are n in all
 abbrev pub fault_items : ℕ → List ToldDecided → List ℕ

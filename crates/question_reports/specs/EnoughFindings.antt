@@ -7,6 +7,7 @@ use Rattle.report_model.specs.Report.{json_string, replay_json}
 use Rattle.crash_model.specs.declared.rules.Rule.{Rule}
 use Rattle.question_model.specs.Decision.{ToldDecided}
 use Rattle.question_model.specs.EnoughReport.{RulesReport, ToldGroup, set_json, group_json, group_text}
+use Rattle.report_json.specs.JsonReport.{told_promises}
 use Rattle.report_sections.specs.Bodies.{explanation_by}
 use Rattle.report_sections.specs.Sections.{section_of}
 use Rattle.question_reports.specs.declared.enough.findings.EnoughFindings.{EnoughFindings}
@@ -24,6 +25,7 @@ report_of f = record {
   patches = length f.traced.now.patches;
   closed = f.closed;
   explanation = when f.settings.now.explain (explanation_by f.base.now f.traced.now);
+  promises = told_promises f.settings.now f.demands.now;
   enough = f.enough.now;
   needs = map told_group f.needs.now;
   first = option_map told_first f.first.now;

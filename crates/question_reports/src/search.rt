@@ -1,8 +1,8 @@
 //! Reports of searches, as text and as JSON.
 
+mod acts;
 pub mod findings;
 pub mod json;
-mod operations;
 pub mod report;
 pub mod text;
 

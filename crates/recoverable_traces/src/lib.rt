@@ -39,7 +39,7 @@ pub fn trace<'a, A: Allocator + Copy>(
     ensures ok { IfOk result (λ t. (s : Tracing)
         × (trace_from ordering.now.«module» (trace_start ordering.now.whole_blocks base.now) steps.now ≡ Ok s)
         × IsGraphOf ordering.now.rules.items base.now s t.patches × (t.emitted ≡ s.emitted) × (t.links ≡ s.links)
-        × (t.whole ≡ s.whole)) }
+        × (t.whole ≡ s.whole) × (t.waits ≡ s.waits)) }
     ensures rules { IfOk result (λ t. t.rules ≡ ordering.now.rules.items) }
     ensures whole { IfOk result (λ t. t.whole ≡ ordering.now.whole_blocks) }
     ensures refused { RefusesAs result

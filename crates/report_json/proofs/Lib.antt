@@ -1,4 +1,6 @@
 pub mod Below
+pub mod Counted
 pub mod JoinedParts
 pub mod Keys
+pub mod Promised
 pub mod Reports

@@ -3,12 +3,14 @@ use Rattle.std.proofs.Common.{◌≡◌, ℕ, ◌+◌, ◌<◌, List, [], ◌∷
 use Rattle.std.proofs.Common.{decimal, refl, sym, ap, ◌∙◌, arith, append_assoc, length-take}
 use Rattle.std.proofs.lemmas.List.{length-map, map-append}
 use Rattle.crash_model.specs.Lists.{when}
-use Rattle.report_model.specs.Explain.{trace_json}
+use Rattle.report_model.specs.Explain.{trace_json, told_waits_json}
 use Rattle.crash_model.specs.Disk.{Disk}
 use Rattle.report_model.specs.Report.{Detail, section_json}
 use Rattle.crash_model.specs.Texts.{module_text}
+use Rattle.report_model.specs.Shows.{counted_json, durable_json, promises_json}
 use Rattle.report_model.specs.Summary.{ToldFault, told_fault_json}
-use Rattle.report_model.specs.Whole.{Body, told_with, told_without, first_json, rules_json, early_json, late_json, before_module}
+use Rattle.report_model.specs.Whole.{Body, told_with, told_without, first_json, rules_json}
+use Rattle.report_model.specs.Whole.{early_json, late_json, before_module}
 use Rattle.report_model.specs.Whole.{json_report}
 use Rattle.crash_model.specs.declared.fault.FaultRow.{FaultRow}
 use Rattle.crash_model.specs.declared.patches.Patch.{Patch}
@@ -17,13 +19,13 @@ use Rattle.report_sections.specs.declared.report.Report.{Report}
 use Rattle.report_sections.specs.declared.section.Section as code
 use Rattle.report_sections.specs.Sections.{section_of, IsSection}
 use Rattle.report_sections.proofs.Joined.{rows_more, firsts_more}
+use Rattle.report_sections.proofs.Pieces.{four_pieces}
 use Rattle.report_sections.proofs.Pushed.{sections_more, length-sections}
 use Rattle.report_json.specs.JsonReport.{WritesSections, WritesFaults, items_from, module_key, strict_key, whole_key}
-use Rattle.report_json.specs.JsonReport.{from_module, from_strict}
+use Rattle.report_json.specs.JsonReport.{from_module, from_strict, promise_keys, told_promises}
 use Rattle.report_json.proofs.JoinedParts.{placed_more}
 use Rattle.json_values.specs.Items.{comma_before}
 use Rattle.json_values.proofs.Commas.{mapped_more}
-use Rattle.json_values.proofs.SectionPieces.{three_pieces}
 
 pub section_more : {A : Type 0} (detail : Detail) (base : Disk) (patches : List Patch) (sets : List ℕ) (place i n : ℕ)
     (old so_far after text : List ℕ) (s : code.Section A) → i < length sets → n ≡ length patches
@@ -81,49 +83,68 @@ fault_more detail base patches rows i n d old so_far after text s within number 
 -- ---- the report around them
 
 -- the keys from the module on, one after another
-pub keys_from_module : {A : Type 0} (report : Report A) (n : ℕ) (body : Body) (before one two last : List ℕ)
+pub keys_from_module : {A : Type 0} (report : Report A) (n : ℕ) (body : Body) (before one two three last : List ℕ)
     → n ≡ length report.traced.now.patches
     → one ≡ before ++ module_key report.settings.now.generations report.settings.now.module n
-    → two ≡ one ++ late_json (length report.traced.now.patches) report.failing body
-    → last ≡ two ++ from_strict report.settings.now (explanation_by report.base.now report.traced.now)
+    → two ≡ one ++ promises_json n (told_promises report.settings.now report.demands.now)
+    → three ≡ two ++ late_json (length report.traced.now.patches) report.failing body
+    → last ≡ three ++ from_strict report.settings.now (length report.traced.now.patches)
+    (explanation_by report.base.now report.traced.now) (told_promises report.settings.now report.demands.now)
     → last ≡ before ++ from_module report body
-keys_from_module report n body before one two last number first second third =
+keys_from_module report n body before one two three last number first second third fourth =
     let kind = report.settings.now.module in
     let generations = report.settings.now.generations in
-    three_pieces before one two last _ _ _ (first ∙ ap (λ (k : ℕ). before ++ module_key generations kind k) number) second third
+    let promises = told_promises report.settings.now report.demands.now in
+    four_pieces before one two three last _ _ _ _
+    (first ∙ ap (λ (k : ℕ). before ++ module_key generations kind k) number)
+    (second ∙ ap (λ (k : ℕ). one ++ promises_json k promises) number) third fourth
 
 -- the pieces of the whole, one after another
-pub whole_text : {A : Type 0} (report : Report A) (body : Body) (empty one two three four five last : List ℕ)
+pub whole_text : {A : Type 0} (report : Report A) (body : Body) (empty one two three four five six last : List ℕ)
     → empty ≡ []
     → one ≡ empty ++ codes "{"
     → two ≡ one ++ first_json report.settings.now
     (when report.settings.now.explain (explanation_by report.base.now report.traced.now))
     → three ≡ two ++ (codes "\"closed\":" ++ decimal report.closed)
-    → four ≡ three ++ early_json (length report.traced.now.patches) report.failing body
-    → five ≡ four ++ from_module report body
-    → last ≡ five ++ codes "}\n"
+    → four ≡ three ++ promise_keys report.settings.now
+    → five ≡ four ++ early_json (length report.traced.now.patches) report.failing body
+    → six ≡ five ++ from_module report body
+    → last ≡ six ++ codes "}\n"
     → last ≡ json_report report.settings.now (whole_of report body)
 unfolding json_report
-whole_text report body empty one two three four five last none first second third fourth fifth sixth =
+whole_text report body empty one two three four five six last none first second third fourth fifth sixth seventh =
     let told = when report.settings.now.explain (explanation_by report.base.now report.traced.now) in
     let patches = length report.traced.now.patches in
     let base = first_json report.settings.now told in
+    let keys = promise_keys report.settings.now in
     let early = early_json patches report.failing body in
     let rest = from_module report body in
-    let start : three ≡ codes "{" ++ base ++ (codes "\"closed\":" ++ decimal report.closed) =
-    third ∙ ap (λ (t : List ℕ). t ++ (codes "\"closed\":" ++ decimal report.closed))
-    (second ∙ ap (λ (t : List ℕ). t ++ base) (first ∙ ap (λ (t : List ℕ). t ++ codes "{") none)) in
-    let end : last ≡ three ++ early ++ rest ++ codes "}\n" = sixth
-    ∙ ap (λ (t : List ℕ). t ++ codes "}\n") (fifth ∙ ap (λ (t : List ℕ). t ++ rest) fourth) in
+    let promises = told_promises report.settings.now report.demands.now in
+    let start : four ≡ codes "{" ++ base ++ (codes "\"closed\":" ++ decimal report.closed) ++ keys =
+    fourth ∙ ap (λ (t : List ℕ). t ++ keys) (third
+    ∙ ap (λ (t : List ℕ). t ++ (codes "\"closed\":" ++ decimal report.closed))
+    (second ∙ ap (λ (t : List ℕ). t ++ base) (first ∙ ap (λ (t : List ℕ). t ++ codes "{") none))) in
+    let end : last ≡ four ++ early ++ rest ++ codes "}\n" = seventh
+    ∙ ap (λ (t : List ℕ). t ++ codes "}\n") (sixth ∙ ap (λ (t : List ℕ). t ++ rest) fifth) in
     end ∙ (ap (λ (t : List ℕ). t ++ early ++ rest ++ codes "}\n") start
-    ∙ regroup (codes "{") base (codes "\"closed\":") (decimal report.closed) early (before_module report.settings.now.generations) (codes "\"")
+    ∙ (front (codes "{") base (codes "\"closed\":") (decimal report.closed) (counted_json report.settings.now.counted)
+    (durable_json report.settings.now.durable) early rest (codes "}\n")
+    ∙ regroup (codes "{" ++ base ++ codes "\"closed\":" ++ decimal report.closed
+    ++ counted_json report.settings.now.counted ++ durable_json report.settings.now.durable ++ early)
+    (before_module report.settings.now.generations) (codes "\"")
     (module_text report.settings.now.module) (codes "\"") (codes ",\"patches\":") (decimal patches)
+    (promises_json patches promises)
     (late_json patches report.failing body) (strict_key report.settings.now.strict) (trace_json told)
+    (told_waits_json patches told promises)
     (whole_key report.settings.now.whole_blocks)
     (rules_json (codes "with") (told_with report.settings.now))
-    (rules_json (codes "without") (told_without report.settings.now)) (codes "}\n"))
+    (rules_json (codes "without") (told_without report.settings.now)) (codes "}\n")))
   where
-    regroup : (a b c d e f g h i j k l m n w o p q : List ℕ)
-        → a ++ b ++ (c ++ d) ++ e ++ ((f ++ g) ++ h ++ (i ++ j) ++ k ++ l ++ (m ++ n ++ w ++ o ++ p)) ++ q
-        ≡ a ++ b ++ c ++ d ++ e ++ f ++ (g ++ h ++ i) ++ j ++ k ++ l ++ m ++ n ++ w ++ o ++ p ++ q
-    regroup a b c d e f g h i j k l m n w o p q = simp append_assoc
+    front : (a b c d e f g h i : List ℕ)
+        → a ++ b ++ (c ++ d) ++ (e ++ f) ++ g ++ h ++ i ≡ a ++ b ++ c ++ d ++ e ++ f ++ g ++ h ++ i
+    front a b c d e f g h i = simp append_assoc
+
+    regroup : (a b c d e f g h i j k l m n o p : List ℕ)
+        → a ++ ((b ++ c) ++ d ++ (e ++ f) ++ g ++ h ++ i ++ (j ++ k ++ l ++ m ++ n ++ o)) ++ p
+        ≡ a ++ b ++ (c ++ d ++ e) ++ f ++ g ++ h ++ i ++ j ++ k ++ l ++ m ++ n ++ o ++ p
+    regroup a b c d e f g h i j k l m n o p = simp append_assoc

@@ -1,11 +1,16 @@
 -- Reports as JSON.
-use Rattle.std.specs.Prelude.{◌≡◌, ℕ, suc, List, [], ◌∷◌, ◌++◌, length, map, if◌then◌else◌, Bool, codes, decimal}
+use Rattle.std.specs.Prelude.{◌≡◌, ℕ, suc, List, [], ◌∷◌, ◌++◌, length, map, if◌then◌else◌, Bool, Option, None}
+use Rattle.std.specs.Prelude.{codes, decimal}
 use Rattle.crash_model.specs.declared.separators.TheConstants.{COMMA}
 use Rattle.crash_model.specs.Lists.{join_of, when}
+use Rattle.crash_model.specs.Checker.{Demands}
 use Rattle.crash_model.specs.Disk.{Disk}
+use Rattle.crash_model.specs.Promises.{Promise}
 use Rattle.crash_model.specs.Reasons.{Explanation, blocks_of, told_patches}
-use Rattle.report_model.specs.Explain.{hex_json, told_json, trace_json}
-use Rattle.report_model.specs.Report.{Detail, Section, AreSections, json_array, section_json}
+use Rattle.report_model.specs.Explain.{hex_json, told_json, trace_json, told_waits_json}
+use Rattle.report_model.specs.Report.{Detail, Section, AreSections, json_array, json_string, section_json}
+use Rattle.report_model.specs.Shows.{counted_json, durable_json, promises_json}
+use Rattle.crash_model.specs.Script.{path_text}
 use Rattle.crash_model.specs.Texts.{module_text}
 use Rattle.report_model.specs.Summary.{ToldFault, told_fault_json}
 use Rattle.report_model.specs.Needs.{told_rule_json}
@@ -14,6 +19,7 @@ use Rattle.report_model.specs.Whole.{early_json, late_json, rules_json, told_wit
 use Rattle.crash_model.specs.declared.fault.FaultRow.{FaultRow}
 use Rattle.crash_model.specs.declared.patches.Patch.{Patch}
 use Rattle.crash_model.specs.declared.modules.Module.{Module}
+use Rattle.crash_model.specs.declared.names.Path.{Path}
 use Rattle.crash_model.specs.declared.settings.Settings.{Settings}
 use Rattle.traced_patches.specs.Traced.{TracedPatches}
 use Rattle.report_sections.specs.Bodies.{detail_by, TellsBody, explanation_by}
@@ -43,11 +49,26 @@ strict_key strict = if strict then codes ",\"strict\":true" else []
 abbrev pub whole_key : Bool → List ℕ
 whole_key whole = if whole then codes ",\"whole_blocks\":true" else []
 
--- the keys from `strict` on, where this explains the patches
-abbrev pub from_strict : Settings → Explanation → List ℕ
-from_strict settings explanation =
+-- the promises that are told: if patches are explained, and a line of the script waits or promises
+abbrev pub told_promises : Settings → Demands → Option (List Promise)
+told_promises settings demands = if settings.explain then demands.promises else None
+
+-- which faults count, if not all do, and that fsyncs promise, if they do
+abbrev pub promise_keys : Settings → List ℕ
+promise_keys settings = counted_json settings.counted ++ durable_json settings.durable
+
+-- the key of the paths of a promise, with a comma before it
+abbrev pub paths_key : Bool → List Path → List ℕ
+paths_key keeps paths =
+    codes "," ++ json_string (if keeps then codes "keep" else codes "hold") ++ codes ":"
+    ++ json_array (map (λ path. json_string (path_text path)) paths)
+
+-- the keys from `strict` on, where these explain the n patches and are promised
+abbrev pub from_strict : Settings → ℕ → Explanation → Option (List Promise) → List ℕ
+from_strict settings n explanation promises =
     strict_key settings.strict
     ++ trace_json (when settings.explain explanation)
+    ++ told_waits_json n (when settings.explain explanation) promises
     ++ whole_key settings.whole_blocks
     ++ rules_json (codes "with") (told_with settings)
     ++ rules_json (codes "without") (told_without settings)
@@ -68,8 +89,10 @@ WritesLate report old new =
 abbrev pub from_module : {A : Type 0} → Report A → whole.Body → List ℕ
 from_module report body =
     module_key report.settings.now.generations report.settings.now.module (length report.traced.now.patches)
+    ++ promises_json (length report.traced.now.patches) (told_promises report.settings.now report.demands.now)
     ++ late_json (length report.traced.now.patches) report.failing body
-    ++ from_strict report.settings.now (explanation_by report.base.now report.traced.now)
+    ++ from_strict report.settings.now (length report.traced.now.patches)
+    (explanation_by report.base.now report.traced.now) (told_promises report.settings.now report.demands.now)
 
 -- the text has those appended
 abbrev pub WritesFromModule : {A : Type 0} → Report A → List ℕ → List ℕ → Type 0

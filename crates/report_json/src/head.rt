@@ -1,6 +1,6 @@
 //! The keys that every report has.
 
-ghost use Rattle.std.specs.Prelude.{◌≡◌, ◌++◌, codes, map, string_bytes, OnOk};
+ghost use Rattle.std.specs.Prelude.{◌≡◌, ◌++◌, codes, decimal, length, map, string_bytes, OnOk};
 ghost use Rattle.crash_model.specs.Disk.{Disk};
 ghost use Rattle.report_model.specs.Explain.{base_json, trace_json};
 ghost use Rattle.crash_model.specs.Lists.{join_of, when};
@@ -10,15 +10,19 @@ ghost use Rattle.crash_model.specs.Rules.{rule_text};
 ghost use Rattle.report_model.specs.Whole.{atomic_json, first_json, rules_json, generations_json, before_module};
 ghost use Rattle.traced_patches.specs.Traced.{TracedPatches};
 ghost use Rattle.report_sections.specs.Bodies.{explanation_by};
-ghost use Rattle.report_json.specs.JsonReport.{module_key, strict_key, whole_key, from_strict};
+ghost use Rattle.report_model.specs.Shows.{counted_json, counted_numbers, durable_json};
+ghost use Rattle.report_json.specs.JsonReport.{module_key, promise_keys, strict_key, told_promises};
+ghost use Rattle.report_json.specs.JsonReport.{whole_key, from_strict};
 
 use crate::patches::{write_base, write_trace};
+use crate::promises::write_waits;
 use crash_model::modules::Module;
 use crash_model::rules::Rule;
 use crash_model::separators::COMMA;
 use crash_model::settings::Settings;
-use disk_image::Image;
+use disk_image::{Demands, Image};
 use json_values::write_comma;
+use patch_sets::set::has;
 use std::alloc::{AllocError, Allocator, Global};
 use traced_patches::Traced;
 
@@ -74,12 +78,15 @@ pub fn write_from_strict<A: Allocator + Copy, B: Allocator>(
     heap: Global,
     settings: &Settings,
     traced: &Traced<'_, A>,
+    demands: &Demands<A>,
 ) -> Result<(), AllocError>
     ensures { OnOk result ((base : Disk) → string_bytes out.new
-        ≡ string_bytes out.old ++ from_strict settings.now (explanation_by base traced.now)) }
+        ≡ string_bytes out.old ++ from_strict settings.now (length traced.now.patches) (explanation_by base traced.now)
+        (told_promises settings.now demands.now)) }
 {
     write_strict_key(out, settings.strict)?;
     write_explained_trace(out, heap, traced, settings.explain)?;
+    write_waits(out, settings, traced, demands)?;
     write_whole_key(out, settings.whole_blocks)?;
     write_rule_key(out, "with", settings.put_in().as_slice())?;
     write_rule_key(out, "without", settings.taken_out().as_slice())?;
@@ -151,6 +158,61 @@ pub fn write_generations_key<B: Allocator>(
 {
     if generations {
         out.push_str(",\"generations\":true")?;
+    }
+    Ok(())
+}
+
+/// The keys behind `closed`: the numbers of the faults that count, if not all do, and that fsyncs promise, each with a
+/// comma before it. It fails only when out of memory.
+pub fn write_promise_keys<B: Allocator>(
+    out: &mut String<B>,
+    settings: &Settings,
+) -> Result<(), AllocError>
+    ensures { OnOk result (string_bytes out.new ≡ string_bytes out.old ++ promise_keys settings.now) }
+{
+    write_counted_key(out, settings.counted)?;
+    write_durable_key(out, settings.durable)
+}
+
+/// The key of a run in which only faults of some numbers count, with a comma before it.
+fn write_counted_key<B: Allocator>(
+    out: &mut String<B>,
+    counted: Option<u16>,
+) -> Result<(), AllocError>
+    ensures { OnOk result (string_bytes out.new ≡ string_bytes out.old ++ counted_json counted) }
+{
+    if let Some(counted) = counted {
+        out.push_str(",\"counted\":[")?;
+        write_counted_numbers(out, counted)?;
+        out.push_str("]")?;
+    }
+    Ok(())
+}
+
+/// The numbers of the faults that count, ascending, with a comma between two. It fails only when out of memory.
+pub fn write_counted_numbers<B: Allocator>(
+    out: &mut String<B>,
+    counted: u16,
+) -> Result<(), AllocError>
+    ensures { OnOk result (string_bytes out.new
+        ≡ string_bytes out.old ++ join_of COMMA (map decimal (counted_numbers counted))) }
+{
+    let mut comma = "";
+    for number in 1..11 {
+        if has(u128::from(counted), number) {
+            write!(out, "{comma}{number}")?;
+            comma = ",";
+        }
+    }
+    Ok(())
+}
+
+/// The key of a run in which fsyncs promise, with a comma before it.
+fn write_durable_key<B: Allocator>(out: &mut String<B>, durable: bool) -> Result<(), AllocError>
+    ensures { OnOk result (string_bytes out.new ≡ string_bytes out.old ++ durable_json durable) }
+{
+    if durable {
+        out.push_str(",\"durable\":true")?;
     }
     Ok(())
 }

@@ -13,8 +13,9 @@ ghost use Rattle.json_values.specs.Items.{comma_before};
 ghost use Rattle.report_json.specs.JsonReport.{WritesEarly, WritesLate, WritesFromModule};
 ghost use Rattle.report_json.specs.JsonReport.{WritesSections, WritesFaults, WritesRules};
 
-use crate::head::{write_first_keys, write_from_strict, write_module};
+use crate::head::{write_first_keys, write_from_strict, write_module, write_promise_keys};
 use crate::parts::SectionObjects;
+use crate::promises::write_promises;
 use crash_model::fault::FaultRow;
 use json_values::{KnownTexts, write_comma};
 use report_sections::{Body, Report, ToldRule};
@@ -70,6 +71,7 @@ where
     write_first_keys(out, report.settings, report.base)?;
     let closed = report.closed;
     write!(out, "\"closed\":{closed}")?;
+    write_promise_keys(out, report.settings)?;
     write_early(out, rt, heap, report, workers)?;
     write_from_module(out, heap, report)?;
     out.push_str("}\n")?;
@@ -85,9 +87,11 @@ fn write_from_module<A: Allocator + Copy>(
     ensures { OnOk result (WritesFromModule report.now (string_bytes out.old) (string_bytes out.new)) }
 {
     let settings = report.settings;
-    write_module(out, settings, report.traced.graph().len())?;
+    let patches = report.traced.graph().len();
+    write_module(out, settings, patches)?;
+    write_promises(out, settings, patches, report.demands)?;
     write_late(out, heap, report)?;
-    write_from_strict(out, heap, settings, report.traced)
+    write_from_strict(out, heap, settings, report.traced, report.demands)
 }
 
 /// The body's key before `module`.

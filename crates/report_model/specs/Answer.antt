@@ -1,5 +1,5 @@
 -- What a run answers, from a script's bytes and the settings. No worker and no order of discovery is in it.
-use Rattle.std.specs.Prelude.{◌≡◌, ℕ, ◌≤◌, List, length, Ok, Err, All}
+use Rattle.std.specs.Prelude.{◌≡◌, ℕ, ◌≤◌, List, length, Ok, Err, All, None, if◌then◌else◌}
 use Rattle.patch_sets.specs.Machine.{CanLeave}
 use Rattle.patch_sets.specs.Sets.{AreAllInOrder}
 use Rattle.crash_model.specs.Disk.{Disk, new_disk, IsGeometry}
@@ -7,7 +7,7 @@ use Rattle.crash_model.specs.Patches.{deps_of, homes_of, CountsClosed, ExceedsLi
 use Rattle.crash_model.specs.Refusals.{run_of_script, run_of_trace}
 use Rattle.crash_model.specs.Rules.{rules_under}
 use Rattle.crash_model.specs.Trace.{Tracing, trace_start, trace_from, base_from, IsGraphOf}
-use Rattle.crash_model.specs.Checker.{Demands, AreDemands, IsFailingUnder}
+use Rattle.crash_model.specs.Checker.{Demands, Asked, AreDemands, IsFailingUnder, has_promises}
 use Rattle.crash_model.specs.Lists.{when}
 use Rattle.report_model.specs.Report.{Detail, AreSections, IsLed}
 use Rattle.crash_model.specs.Reasons.{explanation}
@@ -41,6 +41,17 @@ pub record HasBase (bytes : List ℕ) (settings : Settings) (base : Disk) (steps
 -- the rules of the ordering that the settings ask for
 abbrev pub ordering_rules : Settings → List Rule
 ordering_rules settings = rules_under settings.module settings.without.items settings.with.items
+
+-- what the settings ask a checker for, of a script with these lines
+abbrev pub asked_by : Settings → List Step → Asked
+asked_by settings lines = record {
+  strict = settings.strict;
+  atomic = settings.atomic;
+  durable = settings.durable;
+  counted = settings.counted;
+  tells = has_promises lines;
+  kind = settings.module;
+}
 
 -- the graph of the patches of those steps, with the state that they end in
 pub record HasGraph (bytes : List ℕ) (settings : Settings) (base : Disk) (last : Tracing)
@@ -83,6 +94,7 @@ pub record IsReport (settings : Settings) (by : ReportBy) (limit : ℕ) (demands
     closed = total;
     failing = failing;
     explanation = when settings.explain (explanation (ordering_rules settings) base last patches);
+    promises = if settings.explain then demands.promises else None;
     body = body;
   })
 
@@ -110,7 +122,7 @@ pub record IsReported (IsOn : Demands → Disk → Tracing → List Patch → Li
   pub last : Tracing
   pub patches : List Patch
   pub graph : HasGraph bytes settings base last patches
-  pub demanded : AreDemands settings.strict settings.atomic base graph.steps demands
+  pub demanded : AreDemands (asked_by settings graph.steps) base graph.steps demands
   pub report : IsOn demands base last patches text number
 
 -- the answer of a visit: the first of these three that holds

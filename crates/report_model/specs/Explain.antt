@@ -2,7 +2,9 @@
 use Rattle.std.specs.Prelude.{ℕ, List, [], ◌∷◌, ◌++◌, length, map, flat_map, Option, Some, None, codes, decimal}
 use Rattle.hex.specs.Hex.{encode_lower}
 use Rattle.crash_model.specs.Rules.{part_text}
-use Rattle.report_model.specs.Report.{line, json_string, json_array}
+use Rattle.report_model.specs.Parts.{line, json_string, json_array}
+use Rattle.report_model.specs.Shows.{wait_text, waits_json}
+use Rattle.crash_model.specs.Promises.{Promise}
 use Rattle.crash_model.specs.Texts.{op_text}
 use Rattle.crash_model.specs.Reasons.{Dependency, ToldPatch, Explanation}
 
@@ -26,9 +28,10 @@ told_text t =
     ++ codes " length " ++ decimal (length e.place.new))
     ++ flat_map dependency_text t.after
 
-abbrev pub explanation_text : Option Explanation → List ℕ
-explanation_text None = []
-explanation_text (Some told) = flat_map told_text told.patches
+-- the patches, which are n in all, and the lines that wait
+abbrev pub explanation_text : ℕ → Option Explanation → List ℕ
+explanation_text n None = []
+explanation_text n (Some told) = flat_map told_text told.patches ++ flat_map (wait_text n) told.waits
 
 -- ---- JSON
 
@@ -60,3 +63,8 @@ base_json (Some told) = codes "\"base\":" ++ json_array (map hex_json told.base)
 abbrev pub trace_json : Option Explanation → List ℕ
 trace_json None = []
 trace_json (Some told) = codes ",\"trace\":" ++ json_array (map told_json told.patches)
+
+-- the key of the lines that wait, where promises are told
+abbrev pub told_waits_json : ℕ → Option Explanation → Option (List Promise) → List ℕ
+told_waits_json n None promises = []
+told_waits_json n (Some told) promises = waits_json n told.waits promises

@@ -1,3 +1,5 @@
+pub mod Parts
+pub mod Shows
 pub mod Report
 pub mod Explain
 pub mod Summary

@@ -1,20 +1,22 @@
 -- What reports are made of: words, and the section of a set.
 use Rattle.std.specs.Prelude.{◌≡◌, ℕ, ◌∷◌, List, [], ◌++◌, map, flat_map, Bool, if◌then◌else◌, not, bytes_eq, Option}
-use Rattle.std.specs.Prelude.{Some, None, codes, decimal}
-use Rattle.crash_model.specs.declared.separators.TheConstants.{COMMA}
+use Rattle.std.specs.Prelude.{Some, None, option_map, codes, decimal}
 use Rattle.hex.specs.Hex.{encode_lower}
 use Rattle.patch_sets.specs.Machine.{LeadTo}
 use Rattle.patch_sets.specs.Sets.{ids_of}
 use Rattle.patch_sets.specs.Writes.{AreRuns, events_of}
 use Rattle.patch_sets.specs.declared.write.BlockWrite.{BlockWrite}
-use Rattle.crash_model.specs.Lists.{join_of, some_below, when}
+use Rattle.crash_model.specs.Lists.{some_below, when}
 use Rattle.crash_model.specs.Disk.{Disk, block_of}
 use Rattle.crash_model.specs.Patches.{deps_of, homes_of, image_of}
 use Rattle.crash_model.specs.Replay.{image_after_replay}
 use Rattle.crash_model.specs.Checker.{Demands, faults_under}
 use Rattle.crash_model.specs.declared.fault.Fault.{Fault}
 use Rattle.crash_model.specs.declared.patches.Patch.{Patch}
+use Rattle.crash_model.specs.declared.showing.Shown.{Shown}
 use Rattle.crash_model.specs.Texts.{fault_text}
+pub use Rattle.report_model.specs.Parts.{line, numbers, json_string, json_array, ids_json}
+use Rattle.report_model.specs.Shows.{broken_shown, faults_text, shows_if, shows_json}
 
 -- ---- the section of a set
 
@@ -41,10 +43,17 @@ pub record Section : Type 0 where
   pub writes : List BlockWrite
   pub replay : Option (List ReplayedBlock)
   pub found : List Fault
+  -- what the paths of each broken promise among them show, in their order, if that is explained
+  pub shows : Option (List (List Shown))
 
 -- what replay changes in an image, if it is to be explained
 abbrev pub replay_of : Bool → Disk → Option (List ReplayedBlock)
 replay_of explain image = if explain then Some (changed_blocks image (image_after_replay image)) else None
+
+-- what the paths of broken promises show, if that is to be explained and a line of the script waits or promises
+abbrev pub shows_of : Detail → ℕ → Disk → List Fault → Option (List (List Shown))
+shows_of detail set d found =
+    if detail.explain then option_map (λ promises. broken_shown promises set d found) detail.demands.promises else None
 
 -- the sections of these sets, in their order
 abbrev pub AreSections : Detail → Disk → List Patch → List ℕ → List Section → Type 0
@@ -56,23 +65,16 @@ AreSections detail base patches (set ∷ sets) sections =
       set = set;
       writes = writes;
       replay = replay_of detail.explain (image_of base patches set);
-      found = faults_under detail.demands (image_after_replay (image_of base patches set));
+      found = faults_under detail.demands set (image_after_replay (image_of base patches set));
+      shows = shows_of detail set (image_after_replay (image_of base patches set))
+          (faults_under detail.demands set (image_after_replay (image_of base patches set)));
     } ∷ rest)
 
 -- the section's block writes lead to its set
 abbrev pub IsLed : List Patch → Section → Type 0
 IsLed patches s = LeadTo (deps_of patches) (homes_of patches) (events_of s.writes) s.set
 
--- ---- words that text and JSON share
-
 -- ---- text
-
-abbrev pub line : List ℕ → List ℕ
-line text = text ++ codes "\n"
-
--- each number after a space
-abbrev pub numbers : List ℕ → List ℕ
-numbers ns = flat_map (λ n. codes " " ++ decimal n) ns
 
 -- patches are n in all
 abbrev pub write_text : ℕ → BlockWrite → List ℕ
@@ -91,19 +93,9 @@ crash_text n s =
     line (codes "set" ++ numbers (ids_of n s.set)) ++ flat_map (write_text n) s.writes ++ replay_text s.replay
 
 abbrev pub section_text : ℕ → Section → List ℕ
-section_text n s = crash_text n s ++ flat_map (λ f. line (codes "fault " ++ fault_text f)) s.found
+section_text n s = crash_text n s ++ faults_text s.found (shows_if s.shows)
 
 -- ---- JSON
-
-abbrev pub json_string : List ℕ → List ℕ
-json_string text = codes "\"" ++ text ++ codes "\""
-
--- the items with a comma between two
-abbrev pub json_array : List (List ℕ) → List ℕ
-json_array items = codes "[" ++ join_of COMMA items ++ codes "]"
-
-abbrev pub ids_json : ℕ → ℕ → List ℕ
-ids_json n set = json_array (map decimal (ids_of n set))
 
 abbrev pub write_json : ℕ → BlockWrite → List ℕ
 write_json n w = codes "{\"block\":" ++ decimal w.block ++ codes ",\"patches\":" ++ ids_json n w.ids ++ codes "}"
@@ -125,4 +117,5 @@ section_json n s =
     codes "{\"faults\":" ++ json_array (map (λ f. json_string (fault_text f)) s.found) ++ codes ","
     ++ replay_json s.replay
     ++ codes "\"set\":" ++ ids_json n s.set
+    ++ shows_json s.shows
     ++ codes ",\"writes\":" ++ writes_json n s.writes ++ codes "}"

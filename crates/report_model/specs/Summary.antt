@@ -1,8 +1,9 @@
 -- A summary of the sets that fail: each fault once, with the number of the sets that have it and the first of them.
-use Rattle.std.specs.Prelude.{ℕ, List, ◌++◌, map, codes, decimal}
+use Rattle.std.specs.Prelude.{ℕ, List, ◌++◌, map, option_map, codes, decimal}
 use Rattle.crash_model.specs.Disk.{Disk}
 use Rattle.report_model.specs.Report.{Detail, Section, AreSections, line, crash_text, json_string, ids_json}
 use Rattle.report_model.specs.Report.{replay_json, writes_json}
+use Rattle.report_model.specs.Shows.{shown_of, told_shows, shows_json}
 use Rattle.crash_model.specs.Texts.{fault_text}
 use Rattle.crash_model.specs.declared.fault.FaultRow.{FaultRow}
 use Rattle.crash_model.specs.declared.patches.Patch.{Patch}
@@ -22,6 +23,7 @@ pub record AreToldFaults (detail : Detail) (base : Disk) (patches : List Patch) 
 abbrev pub told_fault_text : ℕ → ToldFault → List ℕ
 told_fault_text n t =
     line (codes "fault " ++ fault_text t.row.fault)
+    ++ told_shows (option_map (shown_of t.row.fault t.first.found) t.first.shows)
     ++ line (codes "sets " ++ decimal t.row.sets)
     ++ crash_text n t.first
 
@@ -31,4 +33,5 @@ told_fault_json n t =
     ++ replay_json t.first.replay
     ++ codes "\"set\":" ++ ids_json n t.first.set
     ++ codes ",\"sets\":" ++ decimal t.row.sets
+    ++ shows_json (option_map (shown_of t.row.fault t.first.found) t.first.shows)
     ++ codes ",\"writes\":" ++ writes_json n t.first.writes ++ codes "}"

@@ -4,7 +4,9 @@ use Rattle.crash_model.specs.Rules.{rule_text, rules_taken_out, rules_put_in}
 use Rattle.report_model.specs.Report.{Section, line, section_text, json_string, json_array, section_json}
 use Rattle.crash_model.specs.Texts.{module_text}
 use Rattle.crash_model.specs.Reasons.{Explanation, explanation}
-use Rattle.report_model.specs.Explain.{explanation_text, base_json, trace_json}
+use Rattle.crash_model.specs.Promises.{Promise}
+use Rattle.report_model.specs.Shows.{counted_text, counted_json, durable_json, promises_text, promises_json}
+use Rattle.report_model.specs.Explain.{explanation_text, base_json, trace_json, told_waits_json}
 use Rattle.report_model.specs.Summary.{ToldFault, told_fault_text, told_fault_json}
 use Rattle.report_model.specs.Needs.{ToldRule, told_rule_text, told_rule_json}
 use Rattle.crash_model.specs.declared.rules.Rule.{Rule}
@@ -16,12 +18,14 @@ pub data Body : Type 0 where
   Faults : List ToldFault → Body
   Rules : List ToldRule → Body
 
--- how many patches, closed sets and failing sets there are; what the patches are, if that is asked for; and the body
+-- how many patches, closed sets and failing sets there are; what the patches are, and what is promised, if that is asked
+-- for; and the body
 pub record Report : Type 0 where
   pub patches : ℕ
   pub closed : ℕ
   pub failing : ℕ
   pub explanation : Option Explanation
+  pub promises : Option (List Promise)
   pub body : Body
 
 -- the rules that a report lists as taken out and as put in
@@ -52,6 +56,8 @@ head_text settings patches closed failing =
     ++ blocks_text settings.generations settings.whole_blocks
     ++ (if settings.strict then line (codes "strict") else [])
     ++ (if settings.atomic then line (codes "atomic") else [])
+    ++ (if settings.durable then line (codes "durable") else [])
+    ++ counted_text settings.counted
     ++ line (codes "patches " ++ decimal patches)
     ++ line (codes "closed " ++ decimal closed)
     ++ line (codes "failing " ++ decimal failing)
@@ -63,7 +69,8 @@ body_text n (Rules told) = flat_map (told_rule_text n) told
 
 unfoldable pub text_report : Settings → Report → List ℕ
 text_report settings r =
-    head_text settings r.patches r.closed r.failing ++ explanation_text r.explanation ++ body_text r.patches r.body
+    head_text settings r.patches r.closed r.failing ++ explanation_text r.patches r.explanation
+    ++ promises_text r.patches r.promises ++ body_text r.patches r.body
 
 -- ---- JSON: one compact object, its keys in ascending order, and a line feed
 
@@ -104,12 +111,16 @@ unfoldable pub json_report : Settings → Report → List ℕ
 json_report settings r =
     codes "{" ++ first_json settings r.explanation
     ++ codes "\"closed\":" ++ decimal r.closed
+    ++ counted_json settings.counted
+    ++ durable_json settings.durable
     ++ early_json r.patches r.failing r.body
     ++ before_module settings.generations ++ json_string (module_text settings.module)
     ++ codes ",\"patches\":" ++ decimal r.patches
+    ++ promises_json r.patches r.promises
     ++ late_json r.patches r.failing r.body
     ++ (if settings.strict then codes ",\"strict\":true" else [])
     ++ trace_json r.explanation
+    ++ told_waits_json r.patches r.explanation r.promises
     ++ (if settings.whole_blocks then codes ",\"whole_blocks\":true" else [])
     ++ rules_json (codes "with") (told_with settings)
     ++ rules_json (codes "without") (told_without settings)

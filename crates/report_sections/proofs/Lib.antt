@@ -2,3 +2,5 @@ pub mod Pieces
 pub mod Pushed
 pub mod Firsts
 pub mod Joined
+pub mod Shown
+pub mod Items

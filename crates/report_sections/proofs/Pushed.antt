@@ -17,6 +17,7 @@ sections_push detail base patches [] set sections s are is =
     let of_set = is.of_set in
     let replay = is.replay in
     let faults = is.faults in
+    let shows = is.shows in
     (s.writes.items, [], is.runs, refl, ap (λ (ss : List report.Section). ss ++ section_of s ∷ []) are ∙ cc)
 sections_push detail base patches (x ∷ xs) set sections s (writes, rest, runs, more, whole) is = (
   writes,

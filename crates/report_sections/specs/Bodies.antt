@@ -1,5 +1,5 @@
 -- What a report's data say.
-use Rattle.std.specs.Prelude.{◌≡◌, ℕ, ◌<◌, List, [], length, map}
+use Rattle.std.specs.Prelude.{◌≡◌, ℕ, ◌<◌, List, [], length, map, if◌then◌else◌, None}
 use Rattle.std.specs.List.{All}
 use Rattle.patch_sets.specs.Closed.{IsClosed}
 use Rattle.report_model.specs.Answer.{detail_of}
@@ -53,7 +53,11 @@ TellsBody detail base patches (Rules rules) body = body ≡ whole.Rules (map tol
 
 abbrev pub explanation_by : Disk → TracedPatches → Explanation
 explanation_by base t =
-    record { base = blocks_of base; patches = told_patches t.rules t.whole t.links t.emitted t.patches }
+    record {
+      base = blocks_of base;
+      patches = told_patches t.rules t.whole t.links t.emitted t.patches;
+      waits = t.waits;
+    }
 
 -- the report with this body as the definition sees it
 abbrev pub whole_of : {A : Type 0} → Report A → whole.Body → whole.Report
@@ -62,5 +66,6 @@ whole_of report body = record {
   closed = report.closed;
   failing = report.failing;
   explanation = when report.settings.now.explain (explanation_by report.base.now report.traced.now);
+  promises = if report.settings.now.explain then report.demands.now.promises else None;
   body = body;
 }

@@ -1,4 +1,5 @@
 pub mod Bodies
 pub mod Replay
 pub mod Sections
+pub mod Showing
 pub mod ToldRules

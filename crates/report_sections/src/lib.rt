@@ -2,6 +2,7 @@
 #![tactic(auto)]
 
 pub mod places;
+pub mod promises;
 pub mod replayed;
 pub mod report;
 pub mod rules;

@@ -11,7 +11,7 @@ pub const FAULT_PLACES: usize = 256;
 pub fn place_of_fault(fault: Fault) -> usize
     ensures { result < FAULT_PLACES }
 {
-    let [kind, holder, place, target] = fault.numbers();
+    let [kind, holder, place, target] = fault.numbers().map(|number| (number % 256) as u8);
     let mixed: u8 = kind ^ holder.rotate_left(3) ^ place.rotate_left(6) ^ target.rotate_left(5);
     usize::from(mixed)
 }

@@ -3,3 +3,5 @@ pub mod HeadLines
 pub mod JoinedParts
 pub mod Reports
 pub mod RuleLines
+pub mod CountedNumbers
+pub mod PromiseLines

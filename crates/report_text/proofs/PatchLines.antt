@@ -42,7 +42,7 @@ patch_told t id q p before first after emitted patch one two =
 
 -- if there is no reason, nothing is written
 pub none_told : (t : TracedPatches) (q p : Emitted) (earlier n : ℕ) (before : List ℕ)
-    → slice_get t.emitted earlier ≡ Some p → depends t.rules t.whole t.links q p ≡ not (n == 0) → n ≡ 0
+    → slice_get t.emitted earlier ≡ Some p → depends t.rules t.whole t.links q earlier p ≡ not (n == 0) → n ≡ 0
     → before ≡ before ++ flat_map dependency_text (option_to_list (dependency_at t q earlier))
 none_told t q p earlier n before at some none =
     sym (append-nil before) ∙ ap (λ (o : Option Dependency). before ++ flat_map dependency_text (option_to_list o))
@@ -50,10 +50,10 @@ none_told t q p earlier n before at some none =
 
 -- if there are some, they are written
 pub some_told : (t : TracedPatches) (q p : Emitted) (earlier n : ℕ) (texts : List (List ℕ))
-    (before one two after : List ℕ) → slice_get t.emitted earlier ≡ Some p → depends t.rules t.whole t.links q p ≡ not
-    (n == 0)
-    → 0 < n
-    → texts ≡ reasons t.rules t.whole t.links q p → one ≡ before ++ (codes "after " ++ decimal earlier ++ codes ": ")
+    (before one two after : List ℕ) → slice_get t.emitted earlier ≡ Some p
+    → depends t.rules t.whole t.links q earlier p ≡ not (n == 0) → 0 < n
+    → texts ≡ reasons t.rules t.whole t.links q earlier p
+    → one ≡ before ++ (codes "after " ++ decimal earlier ++ codes ": ")
     → two ≡ one ++ list_text texts → after ≡ two ++ codes "\n"
     → after ≡ before ++ flat_map dependency_text (option_to_list (dependency_at t q earlier))
 some_told t q p earlier n texts before one two after at some any are first second third =

@@ -1,10 +1,12 @@
 -- Reports, one set or fault after another.
-use Rattle.std.proofs.Common.{◌≡◌, ℕ, ◌+◌, ◌<◌, List, [], ◌∷◌, ◌++◌, length, get_or, take, codes, Bool, true, false}
-use Rattle.std.proofs.Common.{Some, refl, sym, subst, ap, ap₂, ◌∙◌, append_assoc}
+use Rattle.std.proofs.Common.{◌≡◌, ℕ, ◌+◌, ◌<◌, List, [], ◌∷◌, ◌++◌, length, get_or, take, codes, None, refl}
+use Rattle.std.proofs.Common.{sym, subst, ap, ◌∙◌, append_assoc}
+use Rattle.std.specs.Prelude.{Option, if◌then◌else◌}
 use Rattle.std.specs.List.{flat_map}
 use Rattle.std.proofs.lemmas.List.{append-nil, take_more}
 use Rattle.std.proofs.lemmas.List.Concat.{flat_map-append}
 use Rattle.patch_sets.specs.Sets.{ids_of}
+use Rattle.patch_sets.specs.declared.write.BlockWrite.{BlockWrite}
 use Rattle.crash_model.specs.Disk.{Disk}
 use Rattle.crash_model.specs.Patches.{image_of}
 use Rattle.crash_model.specs.Replay.{image_after_replay}
@@ -13,18 +15,22 @@ use Rattle.report_model.specs.Report.{Detail, line, numbers, replay_of, replay_t
 use Rattle.crash_model.specs.Checker.{faults_under}
 use Rattle.report_model.specs.Explain.{explanation_text}
 use Rattle.crash_model.specs.Lists.{when}
+use Rattle.report_model.specs.Shows.{faults_text, shows_if, promises_text}
 use Rattle.report_model.specs.Summary.{ToldFault, told_fault_text}
 use Rattle.report_model.specs.Whole.{Body, head_text, body_text, text_report}
+use Rattle.crash_model.specs.declared.fault.Fault.{Fault}
+use Rattle.crash_model.specs.declared.fault.Fault.TheVariants.{BrokenPromise}
 use Rattle.crash_model.specs.declared.fault.FaultRow.{FaultRow}
 use Rattle.crash_model.specs.declared.patches.Patch.{Patch}
+use Rattle.crash_model.specs.declared.showing.Shown.{Shown}
 use Rattle.report_sections.specs.Bodies.{explanation_by, whole_of}
 use Rattle.report_sections.specs.declared.report.Report.{Report}
 use Rattle.report_sections.specs.declared.section.Section as code
 use Rattle.report_sections.specs.declared.section.Outcome.{Outcome}
 use Rattle.report_sections.specs.Replay.{told_replay}
-use Rattle.report_sections.specs.Sections.{section_of, IsSection, IsOutcome}
+use Rattle.report_sections.specs.Sections.{section_of, shows_for, IsSection, IsOutcome}
+use Rattle.report_sections.specs.Showing.{shown_lists}
 use Rattle.report_sections.proofs.Joined.{rows_more, firsts_more}
-use Rattle.traced_patches.specs.Traced.{TracedPatches}
 use Rattle.section_lines.specs.Cache.{fault_line}
 use Rattle.report_text.specs.TextReport.{WritesSections, WritesFaults}
 use Rattle.section_lines.specs.Runs.{WritesRuns}
@@ -48,40 +54,56 @@ section_more detail base patches sets i head text after within so_far one =
     subst (λ (xs : List ℕ). WritesSections detail base patches xs head after) (sym (take_more sets i 0 within))
     (sections_after detail base patches (take i sets) (get_or sets i 0 ∷ []) head text after so_far one)
 
+-- the lines of faults of which nothing is shown
+pub faults_alone : (found : List Fault) → faults_text found [] ≡ flat_map fault_line found
+faults_alone [] = refl
+faults_alone (BrokenPromise line ∷ found) =
+    ap (λ (t : List ℕ). fault_line (BrokenPromise line) ++ t) (faults_alone found)
+faults_alone (fault ∷ found) = ap (λ (t : List ℕ). fault_line fault ++ t) (faults_alone found)
+
+abbrev made : ℕ → List BlockWrite → Option (List report.ReplayedBlock) → List Fault → Option (List (List Shown))
+    → report.Section
+made set writes replay found shows =
+    record { set = set; writes = writes; replay = replay; found = found; shows = shows }
+
 -- the lines of one set, written part by part
 pub section_one : {A : Type 0} (detail : Detail) (base : Disk) (patches : List Patch) (set n : ℕ) (o : Outcome A)
     (old first second third new : List ℕ) → n ≡ length patches → IsOutcome detail base patches set o
     → first ≡ old ++ line (codes "set" ++ numbers (ids_of n set)) → WritesRuns patches set first second
-    → third ≡ second ++ replay_text (told_replay o.replay) → new ≡ third ++ flat_map fault_line o.faults.items
+    → third ≡ second ++ replay_text (told_replay o.replay)
+    → new ≡ third ++ faults_text o.faults.items (shows_if (shown_lists o.shows))
     → WritesSections detail base patches (set ∷ []) old new
 section_one detail base patches set n o old first second third new number is heads runs replays ends = record {
   sections = section ∷ [];
   are = (runs.writes, [], runs.runs, refl, refl);
-  whole = ends ∙ (ap (λ (t : List ℕ). t ++ flat_map fault_line o.faults.items)
+  whole = ends ∙ (ap (λ (t : List ℕ). t ++ faults_text o.faults.items (shows_if (shown_lists o.shows)))
       (replays ∙ ap (λ (t : List ℕ). t ++ replay_text (told_replay o.replay))
       (runs.whole ∙ ap (λ (t : List ℕ). t ++ flat_map (write_text (length patches)) runs.writes) heads))
       ∙ (ap (λ (k : ℕ). old ++ line (codes "set" ++ numbers (ids_of k set)) ++ flat_map (write_text (length patches))
-      runs.writes ++ replay_text (told_replay o.replay) ++ flat_map fault_line o.faults.items) number
+      runs.writes ++ replay_text (told_replay o.replay) ++ faults_text o.faults.items (shows_if (shown_lists o.shows)))
+      number
       ∙ (pieces old (line (codes "set" ++ numbers (ids_of (length patches) set)))
       (flat_map (write_text (length patches)) runs.writes) (replay_text (told_replay o.replay))
-      (flat_map fault_line o.faults.items)
+      (faults_text o.faults.items (shows_if (shown_lists o.shows)))
       ∙ ap (λ (s : report.Section). old ++ flat_map (section_text (length patches)) (s ∷ [])) (sym same))));
 }
   where
     section : report.Section
-    section = record {
-      set = set;
-      writes = runs.writes;
-      replay = replay_of detail.explain (image_of base patches set);
-      found = faults_under detail.demands (image_after_replay (image_of base patches set));
-    }
+    section = made set runs.writes (replay_of detail.explain (image_of base patches set))
+        (faults_under detail.demands set (image_after_replay (image_of base patches set)))
+        (shows_for detail base patches set)
 
     told : report.Section
-    told = record { set = set; writes = runs.writes; replay = told_replay o.replay; found = o.faults.items }
+    told = made set runs.writes (told_replay o.replay) o.faults.items (shown_lists o.shows)
 
     same : section ≡ told
-    same = ap₂ (λ r f. let s : report.Section = record { set = set; writes = runs.writes; replay = r; found = f } in s)
-        (sym is.replay) (sym is.faults)
+    same = ap (λ (r : Option (List report.ReplayedBlock)). made set runs.writes r
+        (faults_under detail.demands set (image_after_replay (image_of base patches set)))
+        (shows_for detail base patches set)) (sym is.replay)
+        ∙ (ap (λ (f : List Fault). made set runs.writes (told_replay o.replay) f (shows_for detail base patches set))
+        (sym is.faults)
+        ∙ ap (λ (w : Option (List (List Shown))). made set runs.writes (told_replay o.replay) o.faults.items w)
+        (sym is.shows))
 
     pieces : (a b c d e : List ℕ) → a ++ b ++ c ++ d ++ e ≡ a ++ ((b ++ c ++ d ++ e) ++ [])
     pieces a b c d e = simp (append_assoc, append-nil)
@@ -103,30 +125,21 @@ fault_more detail base patches rows i n d head text after s within number so_far
     one : ToldFault
     one = record { row = get_or rows i d; first = section_of s }
 
--- a text, where patches are explained and where they are not
-pub explained : (base : Disk) (traced : TracedPatches) (explain : Bool) (first second : List ℕ) → explain ≡ true
-    → second ≡ first ++ explanation_text (Some (explanation_by base traced))
-    → second ≡ first ++ explanation_text (when explain (explanation_by base traced))
-explained base traced explain first second is more = more ∙ ap
-    (λ (e : Bool). first ++ explanation_text (when e (explanation_by base traced))) (sym is)
-
-pub unexplained : (base : Disk) (traced : TracedPatches) (explain : Bool) (first second : List ℕ) → explain ≡ false
-    → second ≡ first → second ≡ first ++ explanation_text (when explain (explanation_by base traced))
-unexplained base traced explain first second is same = same
-    ∙ (sym (append-nil first) ∙ ap (λ (e : Bool). first ++ explanation_text
-    (when e (explanation_by base traced))) (sym is))
-
-pub whole_text : {A : Type 0} (report : Report A) (n : ℕ) (body : Body) (empty first second last : List ℕ) → empty ≡ []
-    → n ≡ length report.traced.now.patches
+pub whole_text : {A : Type 0} (report : Report A) (n : ℕ) (body : Body) (empty first second third last : List ℕ)
+    → empty ≡ [] → n ≡ length report.traced.now.patches
     → first ≡ empty ++ head_text report.settings.now n report.closed report.failing
-    → second ≡ first ++ explanation_text (when report.settings.now.explain
+    → second ≡ first ++ explanation_text (length report.traced.now.patches) (when report.settings.now.explain
     (explanation_by report.base.now report.traced.now))
-    → last ≡ second ++ body_text (length report.traced.now.patches) body
+    → third ≡ second ++ promises_text (length report.traced.now.patches)
+    (if report.settings.now.explain then report.demands.now.promises else None)
+    → last ≡ third ++ body_text (length report.traced.now.patches) body
     → last ≡ text_report report.settings.now (whole_of report body)
 unfolding text_report
-whole_text report n body empty first second last none number heads explains bodies =
+whole_text report n body empty first second third last none number heads explains promises bodies =
     bodies ∙ ap (λ (t : List ℕ). t ++ body_text (length report.traced.now.patches) body)
-    (explains ∙ ap (λ (t : List ℕ). t ++ explanation_text
+    (promises ∙ ap (λ (t : List ℕ). t ++ promises_text (length report.traced.now.patches)
+    (if report.settings.now.explain then report.demands.now.promises else None))
+    (explains ∙ ap (λ (t : List ℕ). t ++ explanation_text (length report.traced.now.patches)
     (when report.settings.now.explain (explanation_by report.base.now report.traced.now)))
     (heads ∙ (ap (λ (t : List ℕ). t ++ head_text report.settings.now n report.closed report.failing) none
-    ∙ ap (λ (k : ℕ). head_text report.settings.now k report.closed report.failing) number)))
+    ∙ ap (λ (k : ℕ). head_text report.settings.now k report.closed report.failing) number))))

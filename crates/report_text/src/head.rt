@@ -1,12 +1,15 @@
 //! The head of a report.
 
-ghost use Rattle.std.specs.Prelude.{◌≡◌, ◌++◌, [], if◌then◌else◌, codes, decimal, string_bytes, OnOk};
-ghost use Rattle.report_model.specs.Report.{line};
+ghost use Rattle.std.specs.Prelude.{◌≡◌, ◌<◌, ◌++◌, [], ◌∷◌, filter, if◌then◌else◌, codes, decimal, string_bytes, OnOk};
+ghost use Rattle.patch_sets.specs.Sets.{has};
+ghost use Rattle.report_model.specs.Report.{line, numbers};
+ghost use Rattle.report_model.specs.Shows.{counted_text, counted_numbers};
 ghost use Rattle.crash_model.specs.Texts.{module_text};
 ghost use Rattle.report_model.specs.Whole.{head_text, rule_lines, told_with, told_without, blocks_text};
 
 use crash_model::rules::Rule;
 use crash_model::settings::Settings;
+use patch_sets::set::has;
 use std::alloc::{AllocError, Allocator};
 
 /// The lines before the first failing set.
@@ -42,8 +45,8 @@ fn write_numbers<A: Allocator>(
 }
 
 /// The lines that say which ordering and which checker a run uses: the module, each rule that is taken out or put in,
-/// whether inodes have generations, whether blocks are written whole, whether the run is strict, and whether operations
-/// are to be atomic. It fails only when out of memory.
+/// whether inodes have generations, whether blocks are written whole, whether the run is strict, whether operations are
+/// to be atomic, whether fsyncs promise, and which faults count. It fails only when out of memory.
 pub fn write_ordering<A: Allocator>(
     out: &mut String<A>,
     settings: &Settings,
@@ -54,15 +57,45 @@ pub fn write_ordering<A: Allocator>(
         ++ rule_lines (codes "with") (told_with settings.now)
         ++ blocks_text settings.now.generations settings.now.whole_blocks
         ++ (if settings.now.strict then line (codes "strict") else [])
-        ++ (if settings.now.atomic then line (codes "atomic") else []))) }
+        ++ (if settings.now.atomic then line (codes "atomic") else [])
+        ++ (if settings.now.durable then line (codes "durable") else [])
+        ++ counted_text settings.now.counted)) }
+{
+    write_rules_and_disk(out, settings)?;
+    write_checker(out, settings)
+}
+
+/// The lines of the module, of each rule that is taken out or put in, and of the disk and its blocks.
+fn write_rules_and_disk<A: Allocator>(
+    out: &mut String<A>,
+    settings: &Settings,
+) -> Result<(), AllocError>
+    ensures { OnOk result (string_bytes out.new ≡ string_bytes out.old
+        ++ (line (codes "module " ++ module_text settings.now.module)
+        ++ rule_lines (codes "without") (told_without settings.now)
+        ++ rule_lines (codes "with") (told_with settings.now)
+        ++ blocks_text settings.now.generations settings.now.whole_blocks)) }
 {
     let name = settings.module.name();
     write!(out, "module {name}\n")?;
     write_rule_lines(out, "without", settings.taken_out().as_slice())?;
     write_rule_lines(out, "with", settings.put_in().as_slice())?;
-    write_blocks_lines(out, settings.generations, settings.whole_blocks)?;
+    write_blocks_lines(out, settings.generations, settings.whole_blocks)
+}
+
+/// The lines of the checker: whether it is strict, whether operations are to be atomic, whether fsyncs promise, and
+/// which faults count.
+fn write_checker<A: Allocator>(out: &mut String<A>, settings: &Settings) -> Result<(), AllocError>
+    ensures { OnOk result (string_bytes out.new ≡ string_bytes out.old
+        ++ ((if settings.now.strict then line (codes "strict") else [])
+        ++ (if settings.now.atomic then line (codes "atomic") else [])
+        ++ (if settings.now.durable then line (codes "durable") else [])
+        ++ counted_text settings.now.counted)) }
+{
     write_strict_line(out, settings.strict)?;
-    write_atomic_line(out, settings.atomic)
+    write_atomic_line(out, settings.atomic)?;
+    write_durable_line(out, settings.durable)?;
+    write_counted_line(out, settings.counted)
 }
 
 /// The lines of a run on a disk with generations, and of one in which blocks are written whole.
@@ -89,6 +122,58 @@ fn write_strict_line<A: Allocator>(out: &mut String<A>, strict: bool) -> Result<
 {
     if strict {
         out.push_str("strict\n")?;
+    }
+    Ok(())
+}
+
+/// The line of a run in which only faults of some numbers count.
+fn write_counted_line<A: Allocator>(
+    out: &mut String<A>,
+    counted: Option<u16>,
+) -> Result<(), AllocError>
+    ensures { OnOk result (string_bytes out.new ≡ string_bytes out.old ++ counted_text counted) }
+{
+    if let Some(counted) = counted {
+        out.push_str("faults")?;
+        write_counted(out, u128::from(counted))?;
+        out.push_str("\n")?;
+    }
+    Ok(())
+}
+
+/// The numbers of the faults that count, each after a space.
+fn write_counted<A: Allocator>(out: &mut String<A>, counted: u128) -> Result<(), AllocError>
+    ensures { OnOk result (string_bytes out.new ≡ string_bytes out.old ++ numbers (counted_numbers counted)) }
+{
+    for number in 1..11 {
+        write_if_counted(out, counted, number)?;
+    }
+    Ok(())
+}
+
+/// A number after a space, if the faults of that number count.
+fn write_if_counted<A: Allocator>(
+    out: &mut String<A>,
+    counted: u128,
+    number: usize,
+) -> Result<(), AllocError>
+    requires { number < 128 }
+    ensures { OnOk result (string_bytes out.new
+        ≡ string_bytes out.old ++ numbers (filter (has counted) (number ∷ []))) }
+{
+    if has(counted, number) {
+        write!(out, " {number}")?;
+    }
+    Ok(())
+}
+
+/// The line of a run whose fsyncs promise.
+fn write_durable_line<A: Allocator>(out: &mut String<A>, durable: bool) -> Result<(), AllocError>
+    ensures { OnOk result (string_bytes out.new
+        ≡ string_bytes out.old ++ (if durable then line (codes "durable") else [])) }
+{
+    if durable {
+        out.push_str("durable\n")?;
     }
     Ok(())
 }

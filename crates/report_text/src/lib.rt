@@ -4,10 +4,12 @@
 mod head;
 mod parts;
 mod patches;
+mod promises;
 pub mod report;
 mod rules;
 mod summary;
 
 pub use head::write_ordering;
 pub use patches::write_explanation;
+pub use promises::write_promises;
 pub use report::report_text;

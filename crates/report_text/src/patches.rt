@@ -14,11 +14,13 @@ ghost use Rattle.traced_patches.specs.Traced.{told_at, dependency_at};
 ghost use Rattle.report_sections.specs.Bodies.{explanation_by};
 ghost use Rattle.report_text.specs.Patches.{patch_line, gap_before};
 
+use crate::promises::write_waits;
 use crash_model::patches::Patch;
 use std::alloc::{AllocError, Allocator};
 use traced_patches::{Label, Reason, Traced};
 
-/// The lines of each patch, if an explanation is asked for. It fails only when out of memory.
+/// The lines of each patch, and of each line that waits, if an explanation is asked for. It fails only when out of
+/// memory.
 ///
 /// They are the same over each base.
 pub fn write_explanation<A: Allocator, B: Allocator + Copy>(
@@ -26,11 +28,12 @@ pub fn write_explanation<A: Allocator, B: Allocator + Copy>(
     traced: &Traced<'_, B>,
     explain: bool,
 ) -> Result<(), AllocError>
-    ensures { OnOk result ((base : Disk) → string_bytes out.new
-        ≡ string_bytes out.old ++ explanation_text (when explain (explanation_by base traced.now))) }
+    ensures { OnOk result ((base : Disk) → string_bytes out.new ≡ string_bytes out.old
+        ++ explanation_text (length traced.now.patches) (when explain (explanation_by base traced.now))) }
 {
     if explain {
         write_patches(out, traced)?;
+        write_waits(out, traced.len(), traced.waits())?;
     }
     Ok(())
 }

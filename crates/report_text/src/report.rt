@@ -3,22 +3,25 @@
 ghost use Rattle.std.specs.Prelude.{◌≡◌, ◌++◌, [], ◌∷◌, length, map, string_bytes, IfOk, OnOk};
 ghost use Rattle.patch_sets.specs.Closed.{IsClosed};
 ghost use Rattle.crash_model.specs.Patches.{deps_of};
+ghost use Rattle.report_model.specs.Shows.{faults_text, shows_if};
 ghost use Rattle.report_model.specs.Summary.{told_fault_text};
 ghost use Rattle.report_model.specs.Whole.{Body as WholeBody, text_report};
 ghost use Rattle.report_sections.specs.Bodies.{detail_by, CanTell, TellsBody, AreOnBase, AreClosed, whole_of};
 ghost use Rattle.report_sections.specs.Sections.{section_of, IsSection};
+ghost use Rattle.report_sections.specs.Showing.{shown_lists};
 ghost use Rattle.report_sections.specs.declared.section.Section.{Section};
 ghost use Rattle.report_text.specs.TextReport.{WritesSections, WritesFaults};
 
 use crate::head::write_head;
 use crate::parts::SectionLines;
 use crate::patches::write_explanation;
+use crate::promises::write_promises;
 use crate::rules::write_rules;
 use crate::summary::write_told_fault;
 use crash_model::fault::FaultRow;
 use report_sections::{Body, Outcome, Report};
 use section_lines::LineCache;
-use section_lines::lines::{write_replay, write_set};
+use section_lines::lines::{write_faults as write_fault_lines, write_replay, write_set};
 use section_maker::{SectionMaker, write_together};
 use std::alloc::{AllocError, Allocator};
 use std::thread::Threads;
@@ -67,6 +70,7 @@ where
     let patches = report.traced.graph().len();
     write_head(out, report.settings, patches, report.closed, report.failing)?;
     write_explanation(out, report.traced, report.settings.explain)?;
+    write_promises(out, report.traced, report.demands, report.settings.explain)?;
     match report.body {
         Body::Sets(sets) => write_together(out, rt, &SectionLines { report }, sets, workers)?,
         Body::Faults(rows) => write_faults(out, report, rows)?,
@@ -141,8 +145,24 @@ fn write_one<A: Allocator + Copy>(
     write_set(out, lines.patches(), set)?;
     lines.push_writes(out, set)?;
     write_replay(out, &outcome.replay)?;
-    lines.push_faults(out, &outcome.faults)?;
-    Ok(())
+    write_found(out, lines, outcome)
+}
+
+/// The lines of the faults of a set, with what is shown where promises are broken. Those of which nothing is shown are
+/// copied if they come again.
+fn write_found<A: Allocator + Copy>(
+    out: &mut String<A>,
+    lines: &mut LineCache<'_, A>,
+    outcome: &Outcome<A>,
+) -> Result<(), AllocError>
+    ensures text { OnOk result (string_bytes out.new ≡ string_bytes out.old
+        ++ faults_text outcome.now.faults.items (shows_if (shown_lists outcome.now.shows))) }
+    ensures kept { lines.new ≡ lines.old }
+{
+    if outcome.shows.is_some() {
+        return write_fault_lines(out, &outcome.faults, &outcome.shows);
+    }
+    lines.push_faults(out, &outcome.faults)
 }
 
 /// The lines of each of the faults, with the first set that has it.

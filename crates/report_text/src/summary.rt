@@ -6,7 +6,7 @@ ghost use Rattle.report_sections.specs.Sections.{section_of};
 
 use crash_model::fault::FaultRow;
 use report_sections::Section;
-use section_lines::lines::write_crash;
+use section_lines::lines::{write_crash, write_told_shows};
 use std::alloc::{AllocError, Allocator};
 
 /// The lines of a fault: its text, how many failing sets have it, and the crash that leaves the first of them, which is
@@ -22,6 +22,8 @@ pub(crate) fn write_told_fault<A: Allocator + Copy, B: Allocator>(
 {
     let fault = row.fault;
     let sets = row.sets;
-    write!(out, "fault {fault}\nsets {sets}\n")?;
+    write!(out, "fault {fault}\n")?;
+    write_told_shows(out, first.shows_of(fault))?;
+    write!(out, "sets {sets}\n")?;
     write_crash(out, patches, first)
 }

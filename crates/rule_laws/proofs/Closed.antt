@@ -37,7 +37,8 @@ length-deps rules base s patches graph =
 -- two graphs of the same patches, where what depends on an earlier patch in the first does so in the second
 module _ (some all : List Rule) (base : Disk) (s t : Tracing) (few more : List Patch) (set : ℕ)
     (same : t.emitted ≡ s.emitted)
-    (adds : (q p : Emitted) → depends some s.whole s.links q p ≡ true → depends all t.whole t.links q p ≡ true)
+    (adds : (q : Emitted) (id : ℕ) (p : Emitted) → depends some s.whole s.links q id p ≡ true
+    → depends all t.whole t.links q id p ≡ true)
     (graph : IsGraphOf some base s few) (wider : IsGraphOf all base t more) where
   at_other : (id : ℕ) (x : Emitted) → slice_get s.emitted id ≡ Some x → slice_get t.emitted id ≡ Some x
   at_other id x at = ap (λ (es : List Emitted). slice_get es id) same ∙ at
@@ -60,7 +61,7 @@ module _ (some all : List Rule) (base : Disk) (s t : Tracing) (few more : List P
             let earlier = get_some s.emitted p (omega arith) in
             let waits = (graph.exactly q p later.0 earlier.0 before later.1 earlier.1).0 dep in
             closed.whole q p has ((wider.exactly q p later.0 earlier.0 before (at_other q later.0 later.1)
-            (at_other p earlier.0 earlier.1)).1 (adds later.0 earlier.0 waits));
+            (at_other p earlier.0 earlier.1)).1 (adds later.0 p earlier.0 waits));
       }
 
   pub failing_both : IsFailing base more set → IsFailing base few set
@@ -75,14 +76,15 @@ module _ (some all : List Rule) (base : Disk) (s t : Tracing) (few more : List P
   failing_under_both demands failing = record {
     closed = closed_both failing.closed;
     unclean = λ clean. failing.unclean (subst (λ (ps : List Place).
-        IsCleanUnder demands (image_after_replay (image_from 0 base ps set))) same_places clean);
+        IsCleanUnder demands set (image_after_replay (image_from 0 base ps set))) same_places clean);
   }
 
 -- by more rules
 module _ (some all : List Rule) (base : Disk) (s : Tracing) (few more : List Patch) (set : ℕ)
     (among : AreAmong some all) (graph : IsGraphOf some base s few) (wider : IsGraphOf all base s more) where
-  adds_rules : (q p : Emitted) → depends some s.whole s.links q p ≡ true → depends all s.whole s.links q p ≡ true
-  adds_rules q p = depends-among some all s.whole s.links q p among
+  adds_rules : (q : Emitted) (id : ℕ) (p : Emitted) → depends some s.whole s.links q id p ≡ true
+      → depends all s.whole s.links q id p ≡ true
+  adds_rules q id p = depends-among some all s.whole s.links q id p among
 
   pub closed_more : IsClosed (deps_of more) set → IsClosed (deps_of few) set
   closed_more = closed_both some all base s s few more set refl adds_rules graph wider

@@ -1,6 +1,6 @@
 -- A trace where blocks are written whole, and the same one where they are not.
 use Rattle.std.proofs.Common.{◌≡◌, ℕ, List, [], ◌∷◌, ◌++◌, Bool, true, false, not, nat_lt, length, refl, ◌∙◌, ap}
-use Rattle.std.specs.Prelude.{◌+◌, ◌||◌, Option, Some, None, is_some, Result, Ok, Err, bytes_eq}
+use Rattle.std.specs.Prelude.{◌+◌, ◌||◌, Option, Some, None, is_some, Result, Ok, Err, bytes_eq, if◌then◌else◌}
 use Rattle.std.specs.List.{list_any}
 use Rattle.patch_sets.specs.Closed.{IsClosed}
 use Rattle.crash_model.specs.Disk.{Disk}
@@ -8,7 +8,7 @@ use Rattle.crash_model.specs.Failing.{IsFailing}
 use Rattle.crash_model.specs.Patches.{overlap, deps_of}
 use Rattle.crash_model.specs.Plan.{then_ok, unless, with_found, plan_of, with_changes}
 use Rattle.crash_model.specs.Checker.{Demands, IsFailingUnder}
-use Rattle.crash_model.specs.Trace.{Emitted, Tracing, IsGraphOf, depends, shares_block, groups_depend, applies}
+use Rattle.crash_model.specs.Trace.{Emitted, Tracing, IsGraphOf, depends, shares_block, groups_depend, waits_for, applies}
 use Rattle.crash_model.specs.Trace.{trace_from, step, trace_of_plan, is_among, is_same_group, origin_at}
 use Rattle.crash_model.specs.Trace.{patches_by, journal_blocks}
 use Rattle.crash_model.specs.declared.operations.Op.{Op}
@@ -20,7 +20,11 @@ use Rattle.crash_model.specs.declared.refusals.TraceFault.TheVariants as no
 use Rattle.crash_model.specs.declared.rules.Rule.{Rule}
 use Rattle.crash_model.specs.declared.modules.Module.{Module}
 use Rattle.crash_model.specs.declared.steps.Act.{Act}
-use Rattle.crash_model.specs.declared.steps.Act.TheVariants.{Do, Group, End, Depend}
+use Rattle.crash_model.specs.Paths.{is_same_path}
+use Rattle.crash_model.specs.Trace.{with_wait, when_found, target_found}
+use Rattle.crash_model.specs.Waiting.{forced_by_fsync}
+use Rattle.crash_model.specs.declared.steps.Act.TheVariants.{Do, Group, End, Depend, Sync, Fsync, Keep, Hold, Spare}
+use Rattle.crash_model.specs.declared.steps.Target.TheVariants.{At}
 use Rattle.crash_model.specs.declared.steps.Step.{Step}
 use Rattle.rule_laws.specs.Whole.{with_whole, written_whole}
 use Rattle.rule_laws.proofs.Closed.{closed_both, failing_both, failing_under_both}
@@ -31,6 +35,17 @@ on_test : (whole test : Bool) (fault : TraceFault) (answer : Result Tracing Trac
     → unless test fault (written_whole whole answer) ≡ written_whole whole (unless test fault answer)
 on_test whole true fault answer = refl
 on_test whole false fault answer = refl
+
+on_found : (whole : Bool) (line : ℕ) (found : Result ℕ FsFault) (next : Tracing)
+    → when_found line found (with_whole whole next) ≡ written_whole whole (when_found line found next)
+on_found whole line (Ok inode) next = refl
+on_found whole line (Err e) next = refl
+
+on_same : (whole : Bool) (line : ℕ) (same : Bool) (found : Result ℕ FsFault) (s : Tracing)
+    → (if same then Ok (with_whole whole s) else when_found line found (with_whole whole s))
+    ≡ written_whole whole (if same then Ok s else when_found line found s)
+on_same whole line true found s = refl
+on_same whole line false found s = on_found whole line found s
 
 on_end : (whole : Bool) (line : ℕ) (s : Tracing) (open_group : Option (List ℕ))
     → with_found open_group (no.GroupFault line)
@@ -45,7 +60,7 @@ on_plan : (kind : Module) (whole : Bool) (line : ℕ) (op : Op) (s : Tracing) (p
 on_plan kind whole line op s (Err e) = refl
 on_plan kind whole line op s (Ok cs) =
     let after : Disk = with_changes s.disk cs in
-    let more : List Emitted = patches_by kind after s.turn s.journal (origin_at line op s.current) cs in
+    let more : List Emitted = patches_by kind after s.turn s.journal (origin_at line op s.current s.forced) cs in
     let next : ℕ = s.journal + journal_blocks kind s.disk.blocks cs in
     let last : Tracing = record s { disk = after; emitted = s.emitted ++ more; turn = s.turn + 1; journal = next } in
     let full : Bool = nat_lt (4 + s.disk.journal) next in
@@ -64,6 +79,13 @@ on_step kind whole s line (Depend b a) =
     on_test whole (not (is_among a s.ended) || bytes_eq b a
     || list_any (λ e. is_same_group e.origin.group b) s.emitted)
     (no.GroupFault line) (Ok (record s { links = s.links ++ (b, a) ∷ [] }))
+on_step kind whole s line Sync = refl
+on_step kind whole s line (Fsync target) = on_found whole line (target_found s.disk target)
+    (with_wait line (Fsync target) (forced_by_fsync kind s.disk target s.emitted) s)
+on_step kind whole s line (Keep paths) = refl
+on_step kind whole s line (Hold path) = refl
+on_step kind whole s line (Spare path other) =
+    on_same whole line (is_same_path path other) (target_found s.disk (At other)) s
 
 on_then : (whole : Bool) (answer : Result Tracing TraceFault) (next : Tracing → Result Tracing TraceFault)
     → ((s : Tracing) → next (with_whole whole s) ≡ written_whole whole (next s))
@@ -82,14 +104,15 @@ traced_same kind s (x ∷ xs) whole =
 
 -- ---- they wait for more
 
-more_waits : (a b c d : Bool) → (a || false || c || d) ≡ true → (a || b || c || d) ≡ true
-more_waits true b c d h = refl
-more_waits false true c d h = refl
-more_waits false false c d h = h
+more_waits : (a b c w d : Bool) → (a || false || c || w || d) ≡ true → (a || b || c || w || d) ≡ true
+more_waits true b c w d h = refl
+more_waits false true c w d h = refl
+more_waits false false c w d h = h
 
-depends_whole : (rules : List Rule) (links : List (List ℕ × List ℕ)) (q p : Emitted)
-    → depends rules false links q p ≡ true → depends rules true links q p ≡ true
-depends_whole rules links q p = more_waits (overlap q.place p.place) (shares_block true q p) (groups_depend links q p)
+depends_whole : (rules : List Rule) (links : List (List ℕ × List ℕ)) (q : Emitted) (id : ℕ) (p : Emitted)
+    → depends rules false links q id p ≡ true → depends rules true links q id p ≡ true
+depends_whole rules links q id p =
+    more_waits (overlap q.place p.place) (shares_block true q p) (groups_depend links q p) (waits_for q id)
     (list_any (λ rule. applies rule q p) rules)
 
 module _ (rules : List Rule) (base : Disk) (s : Tracing) (few more : List Patch) (set : ℕ)

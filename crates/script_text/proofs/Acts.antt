@@ -5,9 +5,12 @@ use Rattle.std.specs.List.{All, Contains, list_all}
 use Rattle.std.specs.Str.{bytes_eq}
 use Rattle.std.proofs.lemmas.Bool.{and_parts, false≢true}
 use Rattle.std.proofs.lemmas.Bool.Decides.{nat_tests}
-use Rattle.std.proofs.lemmas.List.Elements.{All-head, All-tail, All-nil, All-cons}
+use Rattle.std.proofs.lemmas.List.Elements.{All-head, All-tail, All-nil, All-cons, All-append}
 use Rattle.crash_model.specs.Names.{IsName, IsGroupName, is_name_byte, is_group_byte}
 use Rattle.crash_model.specs.Script.{AreWords, IsPath, path_text, Operand, PathOperand, GroupOperand, SlotOperand}
+use Rattle.crash_model.specs.Script.{IsTarget, target_text, TargetOperand, PathsOperand}
+use Rattle.crash_model.specs.declared.steps.Target.{Target}
+use Rattle.crash_model.specs.declared.steps.Target.TheVariants as target
 use Rattle.crash_model.specs.Script.{said, operand_words, AreLawful, words_of, Fits, HasBadSlot, Reads}
 use Rattle.crash_model.specs.Slots.{slot_text}
 use Rattle.crash_model.specs.declared.operations.Slot.{Slot}
@@ -22,6 +25,7 @@ use Rattle.crash_model.proofs.Paths.{slash_text, names_of, names_are}
 use Rattle.script_text.specs.declared.verb.Verb.{Verb}
 use Rattle.script_text.specs.declared.verb.Verb.TheVariants.{Create, Write, Link, Unlink, Rename, Mkdir, Rmdir}
 use Rattle.script_text.specs.declared.verb.Verb.TheVariants.{Overwrite, Truncate, Replace, Group, End, Depend, Start}
+use Rattle.script_text.specs.declared.verb.Verb.TheVariants.{Sync, Fsync, Keep, Hold, Spare}
 use Rattle.script_text.specs.Words.{spelling, operands_of}
 use Rattle.script_text.proofs.Cuts.{lacks_none}
 use Rattle.script_text.proofs.Spaces.{words_once}
@@ -69,10 +73,24 @@ slot_plain slot.One = lacks_none 32 (codes "1") ((λ e. omega (arith, e)), tt)
 slot_plain slot.Two = lacks_none 32 (codes "2") ((λ e. omega (arith, e)), tt)
 slot_plain slot.Three = lacks_none 32 (codes "3") ((λ e. omega (arith, e)), tt)
 
+target_plain : (target : Target) → IsTarget target → IsPlain (target_text target)
+target_plain target.Root is = lacks_none 32 (codes "/") ((λ e. omega (arith, e)), tt)
+target_plain (target.At path) is = path_plain path is
+
+paths_plain : (paths : List Path) → All IsPath paths → All IsPlain (map path_text paths)
+paths_plain [] are = All-nil IsPlain
+paths_plain (p ∷ ps) are =
+    All-cons IsPlain (path_text p) (map path_text ps) (path_plain p (All-head IsPath p ps are))
+    (paths_plain ps (All-tail IsPath p ps are))
+
 operands_plain : (operands : List Operand) → AreLawful operands → All IsPlain (flat_map operand_words operands)
 operands_plain [] are = All-nil IsPlain
 operands_plain (PathOperand p ∷ os) are =
     All-cons IsPlain (path_text p) (flat_map operand_words os) (path_plain p are.0) (operands_plain os are.1)
+operands_plain (TargetOperand t ∷ os) are =
+    All-cons IsPlain (target_text t) (flat_map operand_words os) (target_plain t are.0) (operands_plain os are.1)
+operands_plain (PathsOperand ps ∷ os) are =
+    All-append IsPlain (map path_text ps) (flat_map operand_words os) (paths_plain ps are.2) (operands_plain os are.3)
 operands_plain (GroupOperand a ∷ os) are =
     All-cons IsPlain a (flat_map operand_words os) (group_plain a are.0) (operands_plain os are.1)
 operands_plain (SlotOperand None ∷ os) are = operands_plain os are
@@ -89,7 +107,7 @@ spelt_so (verb ∷ verbs) word = cond (bytes_eq word (spelling verb)) (Some verb
 abbrev verb_of : List ℕ → Option Verb
 verb_of word =
     spelt_so (Create ∷ Write ∷ Link ∷ Unlink ∷ Rename ∷ Mkdir ∷ Rmdir ∷ Overwrite ∷ Truncate ∷ Replace ∷ Group ∷ End
-    ∷ Depend ∷ Start ∷ []) word
+    ∷ Depend ∷ Sync ∷ Fsync ∷ Keep ∷ Hold ∷ Spare ∷ Start ∷ []) word
 
 -- its spelling leads back to a verb, and has small letters alone
 spelling_of : (verb : Verb) → (verb_of (spelling verb) ≡ Some verb) × (list_all is_name_byte (spelling verb) ≡ true)
@@ -106,6 +124,11 @@ spelling_of Replace = (refl, refl)
 spelling_of Group = (refl, refl)
 spelling_of End = (refl, refl)
 spelling_of Depend = (refl, refl)
+spelling_of Sync = (refl, refl)
+spelling_of Fsync = (refl, refl)
+spelling_of Keep = (refl, refl)
+spelling_of Hold = (refl, refl)
+spelling_of Spare = (refl, refl)
 spelling_of Start = (refl, refl)
 
 -- no two verbs have one spelling
@@ -137,6 +160,11 @@ verb_of_act (act.Do (op.Replace p q)) = (Replace, refl, (λ words fits. fits), (
 verb_of_act (act.Group a) = (Group, refl, (λ words fits. fits), (λ words bad. bad), (λ e. cc))
 verb_of_act act.End = (End, refl, (λ words fits. fits), (λ words bad. bad), (λ e. cc))
 verb_of_act (act.Depend b a) = (Depend, refl, (λ words fits. fits), (λ words bad. bad), (λ e. cc))
+verb_of_act act.Sync = (Sync, refl, (λ words fits. fits), (λ words bad. bad), (λ e. cc))
+verb_of_act (act.Fsync t) = (Fsync, refl, (λ words fits. fits), (λ words bad. bad), (λ e. cc))
+verb_of_act (act.Keep ps) = (Keep, refl, (λ words fits. fits), (λ words bad. bad), (λ e. cc))
+verb_of_act (act.Hold p) = (Hold, refl, (λ words fits. fits), (λ words bad. bad), (λ e. cc))
+verb_of_act (act.Spare p q) = (Spare, refl, (λ words fits. fits), (λ words bad. bad), (λ e. cc))
 
 -- ---- lines
 

@@ -1,10 +1,11 @@
 -- Lines by their words: what they say, and why they are refused.
 use Rattle.std.proofs.Common.{◌≡◌, ◌≢◌, ℕ, ◌≤◌, ◌<◌, ◌↔◌, IsTrue, Bool, false, Option, Some, None, suc, List, [], ◌∷◌}
-use Rattle.std.proofs.Common.{length, codes, refl, sym, ap, ◌∙◌, subst, arith}
+use Rattle.std.proofs.Common.{length, codes, sym, ap, ◌∙◌, subst, arith}
 use Rattle.std.specs.Str.{IsUtf8}
 use Rattle.std.proofs.lemmas.Bool.{false≢true}
 use Rattle.crash_model.specs.Lists.{join_of}
-use Rattle.crash_model.specs.Script.{Operand, PathOperand, GroupOperand, SlotOperand, said, Fits, HasPaths, HasBadSlot}
+use Rattle.crash_model.specs.Script.{Operand, PathOperand, TargetOperand, PathsOperand, GroupOperand, SlotOperand}
+use Rattle.crash_model.specs.Script.{said, Fits, HasPaths, HasBadSlot}
 use Rattle.crash_model.specs.Script.{HasForm, AreWords, IsSkipped}
 use Rattle.crash_model.specs.declared.steps.Act.{Act}
 use Rattle.script_text.specs.declared.line.Line.{Line}
@@ -13,7 +14,7 @@ use Rattle.script_text.specs.declared.line.Line.TheVariants as line
 use Rattle.script_text.specs.declared.line.LineFault.{LineFault}
 use Rattle.script_text.specs.declared.line.LineFault.TheVariants.{BadUtf8, BadLine, BadPath}
 use Rattle.script_text.specs.declared.verb.Verb.{Verb}
-use Rattle.script_text.specs.declared.verb.Verb.TheVariants.{Link, Rename, Overwrite, Replace, Depend, Start}
+use Rattle.script_text.specs.declared.verb.Verb.TheVariants.{Link, Rename, Overwrite, Replace, Depend, Keep, Spare, Start}
 use Rattle.script_text.specs.Words.{some_act, form, spelling, operands_of, IsNoVerb, SaysWords, SaysLine}
 use Rattle.script_text.specs.Words.{IsOperandFault, IsLineFault}
 use Rattle.script_text.proofs.Acts.{verb_once, verb_of_act, start_words}
@@ -22,22 +23,36 @@ use Rattle.script_text.proofs.Spaces.{words_once}
 pub not_so : {P : Type 0} (test : Bool) → (IsTrue test ↔ P) → test ≡ false → ¬ P
 not_so test decides failed holds = false≢true (sym failed ∙ decides.1 holds)
 
-few_operands : (verb : Verb) → length (operands_of verb) ≤ 2
+-- the most words that operands can be
+abbrev most_words : List Operand → ℕ
+most_words [] = 0
+most_words (PathsOperand ps ∷ os) = 4
+most_words (_ ∷ os) = suc (most_words os)
+
+few_operands : (verb : Verb) → most_words (operands_of verb) ≤ 4
 few_operands Link = omega arith
 few_operands Rename = omega arith
 few_operands Overwrite = omega arith
 few_operands Replace = omega arith
 few_operands Depend = omega arith
+few_operands Keep = omega arith
+few_operands Spare = omega arith
 few_operands _ = omega arith
 
-fits_length : (operands : List Operand) (words : List (List ℕ)) → Fits operands words → length words ≤ length operands
+fits_length : (operands : List Operand) (words : List (List ℕ)) → Fits operands words
+    → length words ≤ most_words operands
 fits_length [] [] fits = omega arith
 fits_length [] (w ∷ ws) fits = absurd fits
 fits_length (PathOperand p ∷ os) [] fits = absurd fits
+fits_length (TargetOperand t ∷ os) [] fits = absurd fits
 fits_length (GroupOperand a ∷ os) [] fits = absurd fits
+fits_length (PathsOperand ps ∷ []) words fits = fits.1
+fits_length (PathsOperand ps ∷ o ∷ os) [] fits = absurd fits
+fits_length (PathsOperand ps ∷ o ∷ os) (w ∷ ws) fits = absurd fits
 fits_length (SlotOperand s ∷ os) [] fits = omega arith
 fits_length (SlotOperand s ∷ []) (w ∷ ws) fits = let rest = fits_length [] ws fits.1 in omega arith
 fits_length (PathOperand p ∷ os) (w ∷ ws) fits = let rest = fits_length os ws fits.1 in omega arith
+fits_length (TargetOperand t ∷ os) (w ∷ ws) fits = let rest = fits_length os ws fits.1 in omega arith
 fits_length (GroupOperand a ∷ os) (w ∷ ws) fits = let rest = fits_length os ws fits.1 in omega arith
 fits_length (SlotOperand s ∷ o ∷ os) (w ∷ ws) fits = let rest = fits_length (o ∷ os) ws fits.1 in omega arith
 
@@ -61,7 +76,7 @@ bad_line text utf8 says none = (utf8, says, no_start, no_act)
         verb.3 words (none verb.0 words cut (verb.2 words form.fits))
 
 pub too_many_words : (text : List ℕ) → IsUtf8 text → ¬ (IsSkipped text)
-    → ((words : List (List ℕ)) → AreWords text words → 3 < length words) → IsLineFault text BadLine
+    → ((words : List (List ℕ)) → AreWords text words → 5 < length words) → IsLineFault text BadLine
 too_many_words text utf8 says many = bad_line text utf8 says none
   where
     none : (verb : Verb) (words : List (List ℕ)) → AreWords text (spelling verb ∷ words)

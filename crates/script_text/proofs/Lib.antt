@@ -1,6 +1,7 @@
 pub mod Cuts
 pub mod Spaces
 pub mod Pairs
+pub mod PathLists
 pub mod Forms
 pub mod LineLists
 pub mod Steps

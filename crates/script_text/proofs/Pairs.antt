@@ -4,6 +4,12 @@ use Rattle.std.proofs.Common.{arith}
 use Rattle.std.proofs.lemmas.Grind.{common_steps}
 use denote.Ref.{Bor}
 
+pub one_word : (words : List (Bor (List ℕ))) (d : Bor (List ℕ)) (a : List ℕ) → 1 ≤ length words → length words < 2
+    → (get_or words 0 d).now ≡ a → map (λ word. word.now) words ≡ a ∷ []
+one_word [] d a least below is = absurd (omega arith)
+one_word (x ∷ []) d a least below is = ap (λ (w : List ℕ). w ∷ []) is
+one_word (x ∷ y ∷ ys) d a least below is = absurd (omega arith)
+
 pub two_words : (words : List (Bor (List ℕ))) (d e : Bor (List ℕ)) (a b : List ℕ) → 2 ≤ length words → length words < 3
     → (get_or words 0 d).now ≡ a → (get_or words 1 e).now ≡ b → map (λ word. word.now) words ≡ a ∷ b ∷ []
 two_words [] d e a b least below first second = absurd (omega arith)

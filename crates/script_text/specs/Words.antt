@@ -7,6 +7,7 @@ use Rattle.crash_model.specs.declared.names.Path.{Path}
 use Rattle.crash_model.specs.declared.operations.Op.TheVariants as operations
 use Rattle.crash_model.specs.declared.refusals.ScriptFault.{ScriptFault}
 use Rattle.crash_model.specs.declared.refusals.ScriptFault.TheVariants as S
+use Rattle.crash_model.specs.declared.steps.Target.TheVariants.{Root}
 use Rattle.crash_model.specs.declared.steps.Act.{Act}
 use Rattle.crash_model.specs.declared.steps.Act.TheVariants as acts
 use Rattle.script_text.specs.declared.line.Line.{Line}
@@ -14,6 +15,7 @@ use Rattle.script_text.specs.declared.line.Line.TheVariants.{Skipped, Start, Say
 use Rattle.script_text.specs.declared.verb.Verb.{Verb}
 use Rattle.script_text.specs.declared.verb.Verb.TheVariants.{Create, Write, Link, Unlink, Rename, Mkdir, Rmdir}
 use Rattle.script_text.specs.declared.verb.Verb.TheVariants.{Overwrite, Truncate, Replace, Group, End, Depend}
+use Rattle.script_text.specs.declared.verb.Verb.TheVariants.{Sync, Fsync, Keep, Hold, Spare}
 use Rattle.script_text.specs.declared.verb.Verb.TheVariants as verb
 use Rattle.script_text.specs.declared.line.LineFault.{LineFault}
 use Rattle.script_text.specs.declared.line.LineFault.TheVariants.{BadUtf8, BadLine, BadPath}
@@ -50,6 +52,11 @@ some_act Replace = Some (acts.Do (operations.Replace anywhere anywhere))
 some_act Group = Some (acts.Group [])
 some_act End = Some acts.End
 some_act Depend = Some (acts.Depend [] [])
+some_act Sync = Some acts.Sync
+some_act Fsync = Some (acts.Fsync Root)
+some_act Keep = Some (acts.Keep (record { items = [] }))
+some_act Hold = Some (acts.Hold anywhere)
+some_act Spare = Some (acts.Spare anywhere anywhere)
 some_act verb.Start = None
 
 -- the first word and the operands of that act, or of the start line

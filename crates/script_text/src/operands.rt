@@ -1,13 +1,20 @@
 //! Operands: the words of a line after the first.
 
-ghost use Rattle.std.specs.Prelude.{◌≡◌, [], ◌∷◌, map, flat_map, None, MatchResult};
+ghost use Rattle.std.specs.Prelude.{◌≡◌, ◌<◌, ◌≤◌, ◌↔◌, [], ◌∷◌, length, map, flat_map, None, MatchResult, IsTrue};
+ghost use Rattle.std.specs.Prelude.{All, Contains};
 ghost use Rattle.crash_model.specs.Names.{IsGroupName};
-ghost use Rattle.crash_model.specs.Script.{IsPath, path_text, PathOperand, GroupOperand, SlotOperand, operand_words};
+ghost use Rattle.crash_model.specs.Script.{IsPath, IsTarget, path_text, target_text, operand_words, PathOperand};
+ghost use Rattle.crash_model.specs.Script.{TargetOperand, PathsOperand, GroupOperand, SlotOperand};
+ghost use Rattle.crash_model.specs.declared.promises.TheConstants.{MOST_PATHS};
+ghost use Rattle.crash_model.specs.declared.steps.Target.TheVariants.{Root};
 ghost use Rattle.script_text.specs.Words.{anywhere, IsOperandFault};
 
 use crate::line::LineFault;
+use arrayvec::ArrayVec;
 use crash_model::names::{GroupName, Path};
 use crash_model::operations::Slot;
+use crash_model::promises::{MOST_PATHS, Paths};
+use crash_model::steps::Target;
 
 /// No operands.
 pub(crate) fn none(operands: &[&str]) -> Result<(), LineFault>
@@ -50,6 +57,58 @@ pub(crate) fn two_paths(operands: &[&str]) -> Result<(Path, Path), LineFault>
         (Some(old), Some(new)) => Ok((old, new)),
         _ => Err(LineFault::BadPath),
     }
+}
+
+/// A path, or `/` for the root directory.
+pub(crate) fn target(operands: &[&str]) -> Result<Target, LineFault>
+    ensures { MatchResult result (λ target. IsTarget target
+        × (map (λ word. word.now) operands.now ≡ target_text target ∷ []))
+        (IsOperandFault (TargetOperand Root ∷ []) (map (λ word. word.now) operands.now)) }
+{
+    let [word] = operands else {
+        return Err(LineFault::BadLine);
+    };
+    if word.is_empty() {
+        return Err(LineFault::BadLine);
+    }
+    if *word == "/" {
+        return Ok(Target::Root);
+    }
+    match Path::read(word) {
+        Some(path) => Ok(Target::At(path)),
+        None => Err(LineFault::BadPath),
+    }
+}
+
+/// One to four paths.
+pub(crate) fn paths(operands: &[&str]) -> Result<Paths, LineFault>
+    ensures { MatchResult result (λ paths. (0 < length paths.items) × (length paths.items ≤ MOST_PATHS)
+        × All IsPath paths.items × (map (λ word. word.now) operands.now ≡ map path_text paths.items))
+        (IsOperandFault (PathsOperand [] ∷ []) (map (λ word. word.now) operands.now)) }
+{
+    if operands.is_empty() || operands.len() > MOST_PATHS || has_empty(operands) {
+        return Err(LineFault::BadLine);
+    }
+    let mut paths = ArrayVec::new();
+    for word in operands {
+        match Path::read(word) {
+            Some(path) => paths.push(path),
+            None => return Err(LineFault::BadPath),
+        }
+    }
+    Ok(paths)
+}
+
+/// Whether a word is empty.
+fn has_empty(words: &[&str]) -> bool
+    ensures { IsTrue result ↔ Contains (map (λ word. word.now) words.now) [] }
+{
+    for word in words {
+        if word.is_empty() {
+            return true;
+        }
+    }
+    false
 }
 
 /// A path, and perhaps a slot.

@@ -24,6 +24,11 @@ pub(crate) enum Verb {
     Group,
     End,
     Depend,
+    Sync,
+    Fsync,
+    Keep,
+    Hold,
+    Spare,
     Start,
 }
 
@@ -46,6 +51,11 @@ impl Verb {
             "group" => Some(Verb::Group),
             "end" => Some(Verb::End),
             "depend" => Some(Verb::Depend),
+            "sync" => Some(Verb::Sync),
+            "fsync" => Some(Verb::Fsync),
+            "keep" => Some(Verb::Keep),
+            "hold" => Some(Verb::Hold),
+            "spare" => Some(Verb::Spare),
             "start" => Some(Verb::Start),
             _ => None,
         }
@@ -87,6 +97,17 @@ impl Verb {
             Verb::Depend => {
                 let (later, earlier) = operands::two_groups(operands)?;
                 Line::Says(Act::Depend(later, earlier))
+            }
+            Verb::Sync => {
+                operands::none(operands)?;
+                Line::Says(Act::Sync)
+            }
+            Verb::Fsync => Line::Says(Act::Fsync(operands::target(operands)?)),
+            Verb::Keep => Line::Says(Act::Keep(operands::paths(operands)?)),
+            Verb::Hold => Line::Says(Act::Hold(operands::path(operands)?)),
+            Verb::Spare => {
+                let (path, other) = operands::two_paths(operands)?;
+                Line::Says(Act::Spare(path, other))
             }
             Verb::Start => {
                 operands::none(operands)?;

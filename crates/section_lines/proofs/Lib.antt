@@ -2,3 +2,4 @@ pub mod Told
 pub mod Runs
 pub mod WriteLines
 pub mod EmptyTables
+pub mod ShownLines

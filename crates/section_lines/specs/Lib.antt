@@ -1,3 +1,4 @@
 pub mod Cache
 pub mod Numbers
 pub mod Runs
+pub mod Shows

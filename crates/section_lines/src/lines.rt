@@ -7,10 +7,16 @@ ghost use Rattle.report_model.specs.Report.{line, numbers, write_text, replayed_
 ghost use Rattle.report_model.specs.Report.{crash_text, section_text};
 ghost use Rattle.report_sections.specs.Replay.{told_block, told_replay};
 ghost use Rattle.report_sections.specs.Sections.{section_of};
+ghost use Rattle.report_sections.specs.Showing.{shown_lists, shown_once};
+ghost use Rattle.crash_model.specs.ShownTexts.{shown_text};
+ghost use Rattle.report_model.specs.Shows.{faults_text, shows_if, shows_text, together};
 ghost use Rattle.section_lines.specs.Cache.{fault_line};
+ghost use Rattle.section_lines.specs.Shows.{bar_before};
 
 use crate::numbers::numbers_between;
 use crash_model::fault::Fault;
+use crash_model::promises::Shows;
+use crash_model::showing::Shown;
 use patch_sets::leading::{below, first_run};
 use patch_sets::write::BlockWrite;
 use report_sections::{ReplayedBlock, Section};
@@ -27,7 +33,7 @@ pub fn write_section<A: Allocator + Copy, B: Allocator>(
         ≡ string_bytes out.old ++ section_text patches (section_of section.now)) }
 {
     write_crash(out, patches, section)?;
-    write_faults(out, &section.faults)
+    write_faults(out, &section.faults, &section.shows)
 }
 
 /// The lines of a crash: its set, a line for each block write that leads to it, and one for each block that replay
@@ -142,7 +148,11 @@ fn write_write<A: Allocator>(
 }
 
 /// The ids of the set, ascending, each after a space. A run of consecutive ids is written at once.
-fn write_ids<A: Allocator>(out: &mut String<A>, patches: usize, set: u128) -> Result<(), AllocError>
+pub fn write_ids<A: Allocator>(
+    out: &mut String<A>,
+    patches: usize,
+    set: u128,
+) -> Result<(), AllocError>
     ensures { OnOk result (string_bytes out.new ≡ string_bytes out.old ++ numbers (ids_of patches set)) }
 {
     let mut left = below(set, patches);
@@ -162,14 +172,93 @@ fn write_block<A: Allocator>(out: &mut String<A>, block: u8) -> Result<(), Alloc
     Ok(())
 }
 
-/// A line for each fault.
-fn write_faults<A: Allocator>(out: &mut String<A>, faults: &[Fault]) -> Result<(), AllocError>
-    ensures { OnOk result (string_bytes out.new ≡ string_bytes out.old ++ flat_map fault_line faults.now) }
+/// A line for each fault, and one behind that of a broken promise for what its paths show, if that is told. It fails
+/// only when out of memory.
+pub fn write_faults<A: Allocator, B: Allocator>(
+    out: &mut String<A>,
+    faults: &[Fault],
+    shows: &Option<Vec<Shows, B>>,
+) -> Result<(), AllocError>
+    ensures { OnOk result (string_bytes out.new
+        ≡ string_bytes out.old ++ faults_text faults.now (shows_if (shown_lists shows.now))) }
 {
+    write_shown_faults(out, faults, told_lists(shows))
+}
+
+/// What the paths of each broken promise show, or nothing.
+fn told_lists<B: Allocator>(shows: &Option<Vec<Shows, B>>) -> &[Shows]
+    ensures { map (λ list. list.items) result.now ≡ shows_if (shown_lists shows.now) }
+{
+    match shows {
+        Some(shows) => shows.as_slice(),
+        None => &[],
+    }
+}
+
+/// A line for each fault, and one behind that of a broken promise for what its paths show, as far as that is told.
+fn write_shown_faults<A: Allocator>(
+    out: &mut String<A>,
+    faults: &[Fault],
+    shows: &[Shows],
+) -> Result<(), AllocError>
+    ensures { OnOk result (string_bytes out.new
+        ≡ string_bytes out.old ++ faults_text faults.now (map (λ list. list.items) shows.now)) }
+{
+    let mut place = 0;
     for fault in faults {
         write_fault(out, *fault)?;
+        match *fault {
+            Fault::BrokenPromise { .. } => {
+                write_told_shows(out, shows.get(place))?;
+                place += 1;
+            }
+            _ => {}
+        }
     }
     Ok(())
+}
+
+/// The line of what paths show, if that is told. It fails only when out of memory.
+pub fn write_told_shows<A: Allocator>(
+    out: &mut String<A>,
+    shows: Option<&Shows>,
+) -> Result<(), AllocError>
+    ensures { OnOk result (string_bytes out.new
+        ≡ string_bytes out.old ++ flat_map shows_text (shown_once shows.entry)) }
+{
+    if let Some(shows) = shows {
+        write_shows(out, shows.as_slice())?;
+    }
+    Ok(())
+}
+
+/// The line of what paths show, with a bar between two. It fails only when out of memory.
+pub fn write_shows<A: Allocator>(out: &mut String<A>, shows: &[Shown]) -> Result<(), AllocError>
+    ensures { OnOk result (string_bytes out.new ≡ string_bytes out.old ++ shows_text shows.now) }
+{
+    out.push_str("shows ")?;
+    write_together(out, shows)?;
+    out.push_str("\n")
+}
+
+/// What paths show, with a bar between two. It fails only when out of memory.
+pub fn write_together<A: Allocator>(out: &mut String<A>, shows: &[Shown]) -> Result<(), AllocError>
+    ensures { OnOk result (string_bytes out.new ≡ string_bytes out.old ++ together shows.now) }
+{
+    for (at, shown) in shows.iter().enumerate() {
+        write_shown(out, at, *shown)?;
+    }
+    Ok(())
+}
+
+/// What a path shows at this place of a list, with a bar before it if it is not the first.
+fn write_shown<A: Allocator>(out: &mut String<A>, at: usize, shown: Shown) -> Result<(), AllocError>
+    ensures { OnOk result (string_bytes out.new ≡ string_bytes out.old ++ bar_before at ++ shown_text shown) }
+{
+    if at > 0 {
+        out.push_str(" | ")?;
+    }
+    write!(out, "{shown}")
 }
 
 /// The line of a fault.

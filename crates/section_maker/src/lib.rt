@@ -5,6 +5,7 @@
 pub mod maker;
 pub mod parts;
 mod replayed;
+mod shown;
 
 pub use maker::SectionMaker;
 pub use parts::{WriteSets, write_together};

@@ -1,13 +1,14 @@
 //! Sections made from set to set.
 
-ghost use Rattle.std.specs.Prelude.{◌≡◌, IfOk, OnOk};
+ghost use Rattle.std.specs.Prelude.{◌≡◌, None, Some, IfOk, MatchOption, OnOk, if◌then◌else◌};
 ghost use Rattle.patch_sets.specs.Closed.{IsClosed};
 ghost use Rattle.crash_model.specs.Patches.{deps_of};
 ghost use Rattle.report_sections.specs.Bodies.{AreOnBase};
 
 use crate::replayed::changed_by_replay;
+use crate::shown::broken_shown;
 use crash_image::Replayer;
-use disk_image::{Demands, Image};
+use disk_image::{Demands, Image, Promise};
 use fs_check::list_faults_under;
 use patch_graph::Graph;
 use report_sections::{Outcome, Section};
@@ -87,12 +88,17 @@ impl<'a, A: Allocator + Copy> SectionMaker<'a, A> {
         let writes = self.graph.writes_to(set)?;
         let mut outcome = Outcome::new(self.alloc);
         self.tell(set, &mut outcome)?;
-        let Outcome { replay, faults } = outcome;
+        let Outcome {
+            replay,
+            faults,
+            shows,
+        } = outcome;
         Ok(Section {
             set,
             writes,
             replay,
             faults,
+            shows,
         })
     }
 
@@ -105,6 +111,29 @@ impl<'a, A: Allocator + Copy> SectionMaker<'a, A> {
     {
         self.images.move_to(set);
         outcome.replay = changed_by_replay(self.alloc, &self.images, self.explain)?;
-        list_faults_under(&mut outcome.faults, self.images.image(), self.demands)
+        list_faults_under(&mut outcome.faults, self.images.image(), set, self.demands)?;
+        outcome.shows = match self.told_promises() {
+            Some(promises) => Some(broken_shown(
+                self.alloc,
+                self.images.image(),
+                set,
+                promises,
+                outcome.faults.as_slice(),
+            )?),
+            None => None,
+        };
+        Ok(())
+    }
+
+    /// The promises, if it is explained what their paths show where they are broken.
+    fn told_promises(&self) -> Option<&[Promise<A>]>
+        ensures { let told = if self.now.detail.explain then self.now.detail.demands.promises else None in
+            MatchOption result (told ≡ None) (λ promises. told ≡ Some promises.now) }
+    {
+        if self.explain && self.demands.has_promises() {
+            Some(self.demands.promises())
+        } else {
+            None
+        }
     }
 }

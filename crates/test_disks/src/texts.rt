@@ -46,6 +46,10 @@ const STEPS: &[(TraceFault, &str)] = &[
     (TraceFault::LinksFull { line: 7 }, "19 too many links"),
     (TraceFault::JournalFull { line: 7 }, "20 journal full"),
     (TraceFault::GroupFault { line: 7 }, "21 group fault"),
+    (
+        TraceFault::OnlyAfterStart { line: 7 },
+        "22 only after start",
+    ),
     (TraceFault::OutOfMemory, "99 out of memory"),
 ];
 

@@ -21,6 +21,8 @@ pub fn plain_settings(module: Module) -> Settings {
         generations: false,
         strict: false,
         atomic: false,
+        durable: false,
+        counted: None,
     }
 }
 

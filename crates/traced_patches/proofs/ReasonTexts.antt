@@ -11,7 +11,7 @@ use Rattle.crash_model.specs.declared.rules.Rule as rules
 use Rattle.traced_patches.specs.Reasons.{reason_text, first_reasons}
 use Rattle.traced_patches.specs.Traced.{TracedPatches, AreReasons}
 use Rattle.traced_patches.specs.declared.reasons.Reason.{Reason}
-use Rattle.traced_patches.specs.declared.reasons.Reason.TheVariants.{Rule}
+use Rattle.traced_patches.specs.declared.reasons.Reason.TheVariants.{Block, Group, Wait, Rule}
 use Rattle.traced_patches.specs.declared.reasons.Reasons.{Reasons}
 
 -- ---- their texts
@@ -20,25 +20,40 @@ rule_texts : (some : List rules.Rule) → map reason_text (map Rule some) ≡ ma
 rule_texts [] = refl
 rule_texts (r ∷ rs) = ap (λ (ts : List (List ℕ)). rule_text r ∷ ts) (rule_texts rs)
 
-texts_of : (overlap block group : Bool) (some : List rules.Rule)
-    → map reason_text (first_reasons overlap block group ++ map Rule some)
-    ≡ (if overlap then codes "overlap" ∷ [] else []) ++ (if block then codes "block" ∷ [] else [])
-    ++ (if group then codes "group" ∷ [] else []) ++ map rule_text some
-texts_of true true true some =
-    ap (λ (ts : List (List ℕ)). codes "overlap" ∷ codes "block" ∷ codes "group" ∷ ts) (rule_texts some)
-texts_of true true false some = ap (λ (ts : List (List ℕ)). codes "overlap" ∷ codes "block" ∷ ts) (rule_texts some)
-texts_of true false true some = ap (λ (ts : List (List ℕ)). codes "overlap" ∷ codes "group" ∷ ts) (rule_texts some)
-texts_of true false false some = ap (λ (ts : List (List ℕ)). codes "overlap" ∷ ts) (rule_texts some)
-texts_of false true true some = ap (λ (ts : List (List ℕ)). codes "block" ∷ codes "group" ∷ ts) (rule_texts some)
-texts_of false true false some = ap (λ (ts : List (List ℕ)). codes "block" ∷ ts) (rule_texts some)
-texts_of false false true some = ap (λ (ts : List (List ℕ)). codes "group" ∷ ts) (rule_texts some)
-texts_of false false false some = rule_texts some
+after_group : (wait : Bool) (some : List rules.Rule)
+    → map reason_text ((if wait then Wait ∷ [] else []) ++ map Rule some)
+    ≡ (if wait then codes "wait" ∷ [] else []) ++ map rule_text some
+after_group true some = ap (λ (ts : List (List ℕ)). codes "wait" ∷ ts) (rule_texts some)
+after_group false some = rule_texts some
 
-pub texts_are : (t : TracedPatches) (q p : Emitted) (r : Reasons) (items : List Reason)
-    → items ≡ first_reasons r.overlap r.block r.group ++ map Rule r.rules.items → AreReasons t q p r
-    → map reason_text items ≡ reasons t.rules t.whole t.links q p
-texts_are t q p r items is are = ap (map reason_text) is
-    ∙ (texts_of r.overlap r.block r.group r.rules.items ∙ rw (are.overlap, are.block, are.group, are.rules) refl)
+after_block : (group wait : Bool) (some : List rules.Rule)
+    → map reason_text (((if group then Group ∷ [] else []) ++ (if wait then Wait ∷ [] else [])) ++ map Rule some)
+    ≡ (if group then codes "group" ∷ [] else []) ++ (if wait then codes "wait" ∷ [] else []) ++ map rule_text some
+after_block true wait some = ap (λ (ts : List (List ℕ)). codes "group" ∷ ts) (after_group wait some)
+after_block false wait some = after_group wait some
+
+after_overlap : (block group wait : Bool) (some : List rules.Rule)
+    → map reason_text (((if block then Block ∷ [] else []) ++ (if group then Group ∷ [] else [])
+    ++ (if wait then Wait ∷ [] else [])) ++ map Rule some)
+    ≡ (if block then codes "block" ∷ [] else []) ++ (if group then codes "group" ∷ [] else [])
+    ++ (if wait then codes "wait" ∷ [] else []) ++ map rule_text some
+after_overlap true group wait some = ap (λ (ts : List (List ℕ)). codes "block" ∷ ts) (after_block group wait some)
+after_overlap false group wait some = after_block group wait some
+
+texts_of : (overlap block group wait : Bool) (some : List rules.Rule)
+    → map reason_text (first_reasons overlap block group wait ++ map Rule some)
+    ≡ (if overlap then codes "overlap" ∷ [] else []) ++ (if block then codes "block" ∷ [] else [])
+    ++ (if group then codes "group" ∷ [] else []) ++ (if wait then codes "wait" ∷ [] else []) ++ map rule_text some
+texts_of true block group wait some =
+    ap (λ (ts : List (List ℕ)). codes "overlap" ∷ ts) (after_overlap block group wait some)
+texts_of false block group wait some = after_overlap block group wait some
+
+pub texts_are : (t : TracedPatches) (q : Emitted) (id : ℕ) (p : Emitted) (r : Reasons) (items : List Reason)
+    → items ≡ first_reasons r.overlap r.block r.group r.wait ++ map Rule r.rules.items → AreReasons t q id p r
+    → map reason_text items ≡ reasons t.rules t.whole t.links q id p
+texts_are t q id p r items is are = ap (map reason_text) is
+    ∙ (texts_of r.overlap r.block r.group r.wait r.rules.items
+    ∙ rw (are.overlap, are.block, are.group, are.wait, are.rules) refl)
 
 -- ---- there is one where a patch depends on the earlier one
 
@@ -55,16 +70,18 @@ any_applies test (r ∷ rs) = by_test (test r) (any_applies test rs)
     by_test true rest = none_is_not _
     by_test false rest = rest
 
-some_of : (overlap block group : Bool) (test : rules.Rule → Bool) (some : List rules.Rule)
-    → (overlap || block || group || list_any test some) ≡ not (length
-    (first_reasons overlap block group ++ map Rule (filter test some)) == 0)
-some_of true block group test some = none_is_not _
-some_of false true group test some = none_is_not _
-some_of false false true test some = none_is_not _
-some_of false false false test some = any_applies test some
+some_of : (overlap block group wait : Bool) (test : rules.Rule → Bool) (some : List rules.Rule)
+    → (overlap || block || group || wait || list_any test some) ≡ not (length
+    (first_reasons overlap block group wait ++ map Rule (filter test some)) == 0)
+some_of true block group wait test some = none_is_not _
+some_of false true group wait test some = none_is_not _
+some_of false false true wait test some = none_is_not _
+some_of false false false true test some = none_is_not _
+some_of false false false false test some = any_applies test some
 
-pub some_are : (t : TracedPatches) (q p : Emitted) (r : Reasons) (items : List Reason)
-    → items ≡ first_reasons r.overlap r.block r.group ++ map Rule r.rules.items → AreReasons t q p r
-    → depends t.rules t.whole t.links q p ≡ not (length items == 0)
-some_are t q p r items is are =
-    rw (is, are.rules, are.overlap, are.block, are.group) (some_of _ _ _ (λ rule. applies rule q p) t.rules)
+pub some_are : (t : TracedPatches) (q : Emitted) (id : ℕ) (p : Emitted) (r : Reasons) (items : List Reason)
+    → items ≡ first_reasons r.overlap r.block r.group r.wait ++ map Rule r.rules.items → AreReasons t q id p r
+    → depends t.rules t.whole t.links q id p ≡ not (length items == 0)
+some_are t q id p r items is are =
+    rw (is, are.rules, are.overlap, are.block, are.group, are.wait)
+    (some_of _ _ _ _ (λ rule. applies rule q p) t.rules)

@@ -39,22 +39,22 @@ emitted_is (e ∷ es) (suc id) within = emitted_is es id (omega arith)
 
 -- the dependency on a patch, by whether there is one
 abbrev dependency_if : TracedPatches → Emitted → Emitted → ℕ → Bool → Option Dependency
-dependency_if t q p earlier test = when test (record { id = earlier; reasons = reasons t.rules t.whole t.links q p })
+dependency_if t q p earlier test = when test (record { id = earlier; reasons = reasons t.rules t.whole t.links q earlier p })
 
 found_at : (t : TracedPatches) (q p : Emitted) (earlier : ℕ) → slice_get t.emitted earlier ≡ Some p
-    → dependency_at t q earlier ≡ dependency_if t q p earlier (depends t.rules t.whole t.links q p)
+    → dependency_at t q earlier ≡ dependency_if t q p earlier (depends t.rules t.whole t.links q earlier p)
 found_at t q p earlier at = ap by_emitted at
   where
     by_emitted : Option Emitted → Option Dependency
     by_emitted o = elim o [
-      | Some e ↦ when (depends t.rules t.whole t.links q e)
-          (record { id = earlier; reasons = reasons t.rules t.whole t.links q e })
+      | Some e ↦ when (depends t.rules t.whole t.links q earlier e)
+          (record { id = earlier; reasons = reasons t.rules t.whole t.links q earlier e })
       | None ↦ None
     ]
 
 -- where there is no reason, there is no dependency
 pub no_dependency : (t : TracedPatches) (q p : Emitted) (earlier n : ℕ) → slice_get t.emitted earlier ≡ Some p
-    → depends t.rules t.whole t.links q p ≡ not (n == 0) → n ≡ 0 → dependency_at t q earlier ≡ None
+    → depends t.rules t.whole t.links q earlier p ≡ not (n == 0) → n ≡ 0 → dependency_at t q earlier ≡ None
 no_dependency t q p earlier n at some none = found_at t q p earlier at
     ∙ ap (dependency_if t q p earlier) (some ∙ ap (λ (k : ℕ). not (k == 0)) none)
 
@@ -63,8 +63,8 @@ some_is n = grind (arith, nat_tests)
 
 -- where there are some, they are those of the dependency
 pub dependency_is : (t : TracedPatches) (q p : Emitted) (earlier n : ℕ) (texts : List (List ℕ))
-    → slice_get t.emitted earlier ≡ Some p → depends t.rules t.whole t.links q p ≡ not (n == 0) → 0 < n
-    → texts ≡ reasons t.rules t.whole t.links q p → dependency_at t q earlier ≡ Some (record { id = earlier; reasons = texts })
+    → slice_get t.emitted earlier ≡ Some p → depends t.rules t.whole t.links q earlier p ≡ not (n == 0) → 0 < n
+    → texts ≡ reasons t.rules t.whole t.links q earlier p → dependency_at t q earlier ≡ Some (record { id = earlier; reasons = texts })
 dependency_is t q p earlier zero texts at some any are = absurd (omega arith)
 dependency_is t q p earlier (suc n) texts at some any are =
     found_at t q p earlier at ∙ (ap (dependency_if t q p earlier) (some ∙ sym (some_is n))

@@ -2,7 +2,8 @@
 use Rattle.std.specs.Prelude.{◌≡◌, ℕ, List, Bool, Option}
 use Rattle.crash_model.specs.Reasons.{Dependency, ToldPatch, dependency, told_patch}
 use Rattle.crash_model.specs.Patches.{overlap}
-use Rattle.crash_model.specs.Trace.{Emitted, shares_block, groups_depend, rules_between}
+use Rattle.crash_model.specs.Trace.{Emitted, shares_block, groups_depend, waits_for, rules_between}
+use Rattle.crash_model.specs.Waiting.{Wait}
 use Rattle.crash_model.specs.declared.patches.Patch.{Patch}
 use Rattle.crash_model.specs.declared.rules.Rule.{Rule}
 use Rattle.traced_patches.specs.declared.reasons.Reasons.{Reasons}
@@ -16,12 +17,15 @@ pub record TracedPatches : Type 0 where
   pub rules : List Rule
   -- whether blocks are written whole
   pub whole : Bool
+  -- the lines that wait
+  pub waits : List Wait
 
--- all that makes patch q wait for the earlier patch p
-pub record AreReasons (t : TracedPatches) (q p : Emitted) (reasons : Reasons) : Type 0 where
+-- all that makes patch q wait for the earlier patch p, of this id
+pub record AreReasons (t : TracedPatches) (q : Emitted) (id : ℕ) (p : Emitted) (reasons : Reasons) : Type 0 where
   pub overlap : reasons.overlap ≡ overlap q.place p.place
   pub block : reasons.block ≡ shares_block t.whole q p
   pub group : reasons.group ≡ groups_depend t.links q p
+  pub wait : reasons.wait ≡ waits_for q id
   pub rules : reasons.rules.items ≡ rules_between t.rules q p
 
 -- the explanation of the patch of an id, and of an earlier one that patch q depends on

@@ -1,20 +1,24 @@
 //! What a patch is of its operation, and which patches wait for which.
 
-ghost use Rattle.std.specs.Prelude.{◌≡◌, ◌||◌};
+ghost use Rattle.std.specs.Prelude.{◌≡◌, ◌<◌, ◌||◌};
 ghost use Rattle.std.specs.List.{list_any};
-ghost use Rattle.crash_model.specs.Trace.{is_same_group, groups_depend, applies};
+ghost use Rattle.crash_model.specs.Trace.{is_same_group, groups_depend, waits_for, applies};
 ghost use Rattle.traced_patches.specs.Labels.{group_by, links_by, emitted_of};
 
 use crash_model::names::GroupName;
 use crash_model::operations::Op;
 use crash_model::rules::{Part, Rule};
+use crash_model::steps::Step;
+use patch_sets::set::has;
 
-/// Where a patch comes from: its operation, the line that has it in the script, and the group that was open.
+/// Where a patch comes from: its operation, the line that has it in the script, the group that was open, and the ids
+/// that lines before it wait for, as a set.
 #[derive(Clone, Copy)]
 pub struct Origin<'a> {
     pub line: usize,
     pub op: &'a Op,
     pub group: Option<&'a GroupName>,
+    pub waits_for: u128,
 }
 
 /// What a patch is: its part, the number of its operation, from 1, and where it comes from.
@@ -32,13 +36,36 @@ pub struct Link<'a> {
     pub earlier: &'a GroupName,
 }
 
-/// Whether a patch waits for an earlier one, by the groups or by a rule.
-pub fn waits(rules: &[Rule], links: &[Link<'_>], later: &Label<'_>, earlier: &Label<'_>) -> bool
+/// A line `sync` or `fsync`, and the ids that it waits for, as a set.
+#[derive(Clone, Copy)]
+pub struct Wait<'a> {
+    pub step: &'a Step,
+    pub ids: u128,
+}
+
+/// Whether a patch waits for an earlier one, of this id: by the groups, by a line between them, or by a rule.
+pub fn waits(
+    rules: &[Rule],
+    links: &[Link<'_>],
+    later: &Label<'_>,
+    id: usize,
+    earlier: &Label<'_>,
+) -> bool
+    requires { id < 128 }
     ensures { result
-        ≡ (groups_depend (links_by links.now) (emitted_of later.now) (emitted_of earlier.now) || list_any (λ rule.
-        applies rule (emitted_of later.now) (emitted_of earlier.now)) rules.now) }
+        ≡ (groups_depend (links_by links.now) (emitted_of later.now) (emitted_of earlier.now)
+        || waits_for (emitted_of later.now) id
+        || list_any (λ rule. applies rule (emitted_of later.now) (emitted_of earlier.now)) rules.now) }
 {
-    is_linked(links, later, earlier) || is_ordered(rules, later, earlier)
+    is_linked(links, later, earlier) || is_forced(later, id) || is_ordered(rules, later, earlier)
+}
+
+/// Whether a line before a patch waits for the patch of an id.
+pub fn is_forced(later: &Label<'_>, id: usize) -> bool
+    requires { id < 128 }
+    ensures { result ≡ waits_for (emitted_of later.now) id }
+{
+    has(later.origin.waits_for, id)
 }
 
 /// Whether any rule makes a patch wait for an earlier one.

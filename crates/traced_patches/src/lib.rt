@@ -9,6 +9,6 @@ mod pairs;
 mod reasons;
 mod traced;
 
-pub use labels::{Label, Link, Origin, applies, is_in_group, waits};
+pub use labels::{Label, Link, Origin, Wait, applies, is_forced, is_in_group, waits};
 pub use reasons::{Reason, Reasons};
 pub use traced::Traced;

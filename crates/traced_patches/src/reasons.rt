@@ -1,6 +1,6 @@
 //! Why a patch depends on an earlier one.
 
-ghost use Rattle.std.specs.Prelude.{◌≡◌, ◌==◌, not, map, length};
+ghost use Rattle.std.specs.Prelude.{◌≡◌, ℕ, ◌==◌, not, map, length};
 ghost use Rattle.crash_model.specs.Reasons.{reasons};
 ghost use Rattle.crash_model.specs.Trace.{Emitted, depends};
 ghost use Rattle.traced_patches.specs.Traced.{TracedPatches, AreReasons};
@@ -11,16 +11,18 @@ use crash_model::orderings::MAX_RULES;
 use crash_model::rules::Rule;
 use std::fmt;
 
-/// The reasons that there can be: an overlap, a block that is written whole, a link of groups, and each rule.
-const MAX_REASONS: usize = MAX_RULES + 3;
+/// The reasons that there can be: an overlap, a block that is written whole, a link of groups, a line that waits, and
+/// each rule.
+const MAX_REASONS: usize = MAX_RULES + 4;
 
 /// Why a patch depends on an earlier one: they overlap, they change a block that is written whole, their groups are
-/// linked, or these rules apply to them.
+/// linked, a line between them waits, or these rules apply to them.
 #[derive(Drop)]
 pub struct Reasons {
     pub overlap: bool,
     pub block: bool,
     pub group: bool,
+    pub wait: bool,
     pub rules: ArrayVec<Rule, MAX_RULES>,
 }
 
@@ -31,6 +33,7 @@ pub enum Reason {
     Overlap,
     Block,
     Group,
+    Wait,
     Rule(Rule),
 }
 
@@ -45,6 +48,7 @@ impl fmt::Display for Reason {
             Reason::Overlap => write!(f, "overlap"),
             Reason::Block => write!(f, "block"),
             Reason::Group => write!(f, "group"),
+            Reason::Wait => write!(f, "wait"),
             Reason::Rule(rule) => write!(f, "{rule}"),
         }
     }
@@ -54,10 +58,10 @@ impl Reasons {
     /// The reasons one by one, in the order of the report. There is one exactly if the patch depends on
     /// the earlier one.
     pub fn list(&self) -> ArrayVec<Reason, MAX_REASONS>
-        ensures texts { (t : TracedPatches) (q p : Emitted) → AreReasons t q p self.now
-            → map reason_text result.items ≡ reasons t.rules t.whole t.links q p }
-        ensures some { (t : TracedPatches) (q p : Emitted) → AreReasons t q p self.now
-            → depends t.rules t.whole t.links q p ≡ not (length result.items == 0) }
+        ensures texts { (t : TracedPatches) (q : Emitted) (id : ℕ) (p : Emitted) → AreReasons t q id p self.now
+            → map reason_text result.items ≡ reasons t.rules t.whole t.links q id p }
+        ensures some { (t : TracedPatches) (q : Emitted) (id : ℕ) (p : Emitted) → AreReasons t q id p self.now
+            → depends t.rules t.whole t.links q id p ≡ not (length result.items == 0) }
     {
         let mut list = ArrayVec::new();
         if self.overlap {
@@ -68,6 +72,9 @@ impl Reasons {
         }
         if self.group {
             list.push(Reason::Group);
+        }
+        if self.wait {
+            list.push(Reason::Wait);
         }
         for rule in self.rules.as_slice() {
             list.push(Reason::Rule(*rule));

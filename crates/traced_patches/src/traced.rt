@@ -1,37 +1,39 @@
 //! The patches of a trace, with what each of them is.
 
-ghost use Rattle.std.specs.Prelude.{◌≡◌, ℕ, ◌<◌, ◌≤◌, length, Some, slice_get};
+ghost use Rattle.std.specs.Prelude.{◌≡◌, ℕ, ◌<◌, ◌≤◌, [], length, Some, slice_get};
 ghost use Rattle.crash_model.specs.Patches.{place, places_of};
 ghost use Rattle.crash_model.specs.declared.patches.Patch.{Patch};
 ghost use Rattle.crash_model.specs.Trace.{Emitted, rules_between, shares_block};
-ghost use Rattle.traced_patches.specs.Labels.{links_by, emitted_at, emitted_by, emitted_of};
+ghost use Rattle.traced_patches.specs.Labels.{links_by, emitted_at, emitted_by, emitted_of, waits_by};
 ghost use Rattle.traced_patches.specs.Traced.{AreReasons};
 
-use crate::labels::{Label, Link, applies, is_linked};
+use crate::labels::{Label, Link, Wait, applies, is_forced, is_linked};
 use crate::reasons::Reasons;
 use arrayvec::ArrayVec;
 use crash_model::orderings::{MAX_RULES, Ordering};
 use crash_model::rules::Rule;
-use patch_graph::{Graph, overlaps};
+use patch_graph::{Graph, MAX_PATCHES, overlaps};
 use std::alloc::Allocator;
 use std::marker::Model;
 
 /// The patches of a trace: their graph, and for each what it is.
 ///
-/// Contracts see the patches of the graph, the same as they were emitted, the links of groups, and the rules.
+/// Contracts see the patches of the graph, the same as they were emitted, the links of groups, the rules, and the lines
+/// that wait.
 #[derive(Drop)]
 pub struct Traced<'a, A: Allocator + Copy> {
     pub(crate) graph: Graph<A>,
     pub(crate) labels: Vec<Label<'a>, A>,
     pub(crate) links: Vec<Link<'a>, A>,
     pub(crate) ordering: &'a Ordering,
+    pub(crate) waits: Option<Vec<Wait<'a>, A>>,
 }
 
 impl<'a, A: Allocator + Copy> Model for Traced<'a, A> {
     ghost use Rattle.traced_patches.specs.Traced.{TracedPatches};
-    ghost use Rattle.traced_patches.specs.Labels.{emitted_by, links_by};
+    ghost use Rattle.traced_patches.specs.Labels.{emitted_by, links_by, waits_if};
     ghost use Rattle.crash_model.specs.Patches.{places_of};
-    ghost use Rattle.std.specs.Prelude.{◌≡◌, length};
+    ghost use Rattle.std.specs.Prelude.{◌≡◌, length, option_map};
 
     ghost Value = { TracedPatches };
 
@@ -42,6 +44,7 @@ impl<'a, A: Allocator + Copy> Model for Traced<'a, A> {
           links = links_by t.links.items;
           rules = t.ordering.now.rules.items;
           whole = t.ordering.now.whole_blocks;
+          waits = waits_if (option_map (λ v. v.items) t.waits);
         } };
 
     ghost invariant = { λ t. length t.labels.items ≡ length t.graph };
@@ -61,12 +64,37 @@ impl<'a, A: Allocator + Copy> Traced<'a, A> {
         ensures links { result.links ≡ links_by links.entry.items }
         ensures rules { result.rules ≡ ordering.now.rules.items }
         ensures whole { result.whole ≡ ordering.now.whole_blocks }
+        ensures waits { result.waits ≡ [] }
     {
         Traced {
             graph,
             labels,
             links,
             ordering,
+            waits: None,
+        }
+    }
+
+    /// The same with the lines that wait, in their order.
+    pub fn with_waits(self, waits: Vec<Wait<'a>, A>) -> Traced<'a, A>
+        ensures { result ≡ record self.entry { waits = waits_by waits.entry.items } }
+    {
+        Traced {
+            graph: self.graph,
+            labels: self.labels,
+            links: self.links,
+            ordering: self.ordering,
+            waits: Some(waits),
+        }
+    }
+
+    /// The lines that wait, in their order.
+    pub fn waits(&self) -> &[Wait<'a>]
+        ensures { waits_by result.now ≡ self.now.waits }
+    {
+        match &self.waits {
+            Some(waits) => waits.as_slice(),
+            None => &[],
         }
     }
 
@@ -148,8 +176,10 @@ impl<'a, A: Allocator + Copy> Traced<'a, A> {
         requires later { later < length self.now.patches }
         requires earlier { earlier < length self.now.patches }
         ensures { (q p : Emitted) → slice_get self.now.emitted later ≡ Some q
-            → slice_get self.now.emitted earlier ≡ Some p → AreReasons self.now q p result }
+            → slice_get self.now.emitted earlier ≡ Some p → AreReasons self.now q earlier p result }
     {
+        let few = self.graph.len() <= MAX_PATCHES;
+        prove!(few);
         let labels = self.labels.as_slice();
         let last = label_of(labels, later);
         let first = label_of(labels, earlier);
@@ -157,6 +187,7 @@ impl<'a, A: Allocator + Copy> Traced<'a, A> {
             overlap: overlaps(self.graph.patch(earlier), self.graph.patch(later)),
             block: self.shares_block(later, earlier),
             group: is_linked(self.links.as_slice(), last, first),
+            wait: is_forced(last, earlier),
             rules: rules_between(self.ordering.rules.as_slice(), last, first),
         }
     }

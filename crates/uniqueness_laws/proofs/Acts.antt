@@ -1,13 +1,14 @@
 -- Which act words are, and which form of an act they have.
 use Rattle.std.proofs.Common.{◌≡◌, ℕ, ◌≤◌, List, [], ◌∷◌, ◌++◌, length, Bool, true, false, ◌&&◌, nat_lt, nat_le, arith}
 use Rattle.std.proofs.Common.{refl, sym, subst, ap, ◌∙◌}
-use Rattle.std.specs.Prelude.{if◌then◌else◌, codes, Option, Some, None, option_map, bytes_eq}
+use Rattle.std.specs.Prelude.{if◌then◌else◌, codes, map, Option, Some, None, option_map, bytes_eq}
 use Rattle.std.specs.List.{All, list_all}
 use Rattle.std.proofs.lemmas.Bool.{and_parts, lt-ltb, le-leb}
 use Rattle.std.proofs.lemmas.List.Elements.{All-head, All-tail, All-push}
 use Rattle.crash_model.proofs.Cuts.{Lacks}
 use Rattle.crash_model.specs.Names.{IsWord, IsName, is_name_byte, is_group_byte}
-use Rattle.crash_model.specs.Script.{IsPath, IsPathWord, path_text, Operand, PathOperand, GroupOperand, SlotOperand}
+use Rattle.crash_model.specs.Script.{IsPath, IsPathWord, path_text, target_text, IsTarget, Operand, PathOperand}
+use Rattle.crash_model.specs.Script.{TargetOperand, PathsOperand, GroupOperand, SlotOperand}
 use Rattle.crash_model.specs.Script.{said, Fits, HasPaths, HasSlots, words_of, IsAct}
 use Rattle.crash_model.specs.Slots.{slot_text}
 use Rattle.crash_model.specs.declared.operations.Slot.{Slot}
@@ -16,7 +17,9 @@ use Rattle.crash_model.specs.declared.operations.Op.TheVariants.{Create, Write, 
 use Rattle.crash_model.specs.declared.operations.Op.TheVariants.{Overwrite, Truncate, Replace}
 use Rattle.crash_model.specs.declared.names.Path.{Path}
 use Rattle.crash_model.specs.declared.steps.Act.{Act}
-use Rattle.crash_model.specs.declared.steps.Act.TheVariants.{Do, Group, End, Depend}
+use Rattle.crash_model.specs.declared.steps.Act.TheVariants.{Do, Group, End, Depend, Sync, Fsync, Keep, Hold, Spare}
+use Rattle.crash_model.specs.declared.steps.Target.{Target}
+use Rattle.crash_model.specs.declared.steps.Target.TheVariants.{Root, At}
 use Rattle.uniqueness_laws.specs.Words.{is_word}
 use Rattle.uniqueness_laws.proofs.Pieces.{pieces, AreLacking, pieces_slashed}
 
@@ -91,6 +94,32 @@ path_is path is =
 pub no_path : (word : List ℕ) → path_of word ≡ None → ¬ (IsPathWord word)
 no_path word none (path, is, spelt) = let one : path_of word ≡ Some path = ap path_of spelt ∙ path_is path is in cc
 
+-- ---- targets, and lists of paths
+
+abbrev pub target_by : Option Path → List ℕ → Option Target
+target_by (Some path) word = Some (At path)
+target_by None word = if bytes_eq word (codes "/") then Some Root else None
+
+abbrev pub target_of : List ℕ → Option Target
+target_of word = target_by (path_of word) word
+
+target_is : (target : Target) → IsTarget target → target_of (target_text target) ≡ Some target
+target_is Root is = refl
+target_is (At path) is = ap (λ (o : Option Path). target_by o (path_text path)) (path_is path is)
+
+abbrev pub path_before : Option Path → Option (List Path) → Option (List Path)
+path_before (Some path) (Some paths) = Some (path ∷ paths)
+path_before _ _ = None
+
+abbrev pub paths_of : List (List ℕ) → Option (List Path)
+paths_of [] = Some []
+paths_of (word ∷ words) = path_before (path_of word) (paths_of words)
+
+paths_are : (paths : List Path) → All IsPath paths → paths_of (map path_text paths ++ []) ≡ Some paths
+paths_are [] all = refl
+paths_are (path ∷ paths) all =
+    rw (path_is path (All-head IsPath path paths all), paths_are paths (All-tail IsPath path paths all)) refl
+
 -- ---- slots
 
 abbrev pub slot_of : List ℕ → Option Slot
@@ -137,9 +166,16 @@ abbrev pub with_groups : List (List ℕ) → Option Act
 with_groups (b ∷ a ∷ []) = if is_word is_group_byte b && is_word is_group_byte a then Some (Depend b a) else None
 with_groups _ = None
 
-abbrev pub with_none : List (List ℕ) → Option Act
-with_none [] = Some End
-with_none _ = None
+abbrev pub with_none : Act → List (List ℕ) → Option Act
+with_none act [] = Some act
+with_none act _ = None
+
+abbrev pub with_target : List (List ℕ) → Option Act
+with_target (word ∷ []) = option_map Fsync (target_of word)
+with_target _ = None
+
+abbrev pub with_path_list : List (List ℕ) → Option Act
+with_path_list words = option_map (λ paths. Keep (record { items = paths })) (paths_of words)
 
 abbrev pub act_of : List (List ℕ) → Option Act
 act_of [] = None
@@ -155,8 +191,13 @@ act_of (first ∷ args) =
     if bytes_eq first (codes "truncate") then with_path (λ p. Do (Truncate p)) args else
     if bytes_eq first (codes "replace") then with_paths (λ p q. Do (Replace p q)) args else
     if bytes_eq first (codes "group") then with_group args else
-    if bytes_eq first (codes "end") then with_none args else
-    if bytes_eq first (codes "depend") then with_groups args else None
+    if bytes_eq first (codes "end") then with_none End args else
+    if bytes_eq first (codes "depend") then with_groups args else
+    if bytes_eq first (codes "sync") then with_none Sync args else
+    if bytes_eq first (codes "fsync") then with_target args else
+    if bytes_eq first (codes "keep") then with_path_list args else
+    if bytes_eq first (codes "hold") then with_path (λ p. Hold p) args else
+    if bytes_eq first (codes "spare") then with_paths (λ p q. Spare p q) args else None
 
 pub act_is : (act : Act) → IsAct act → act_of (words_of act) ≡ Some act
 act_is (Do (Create p)) is = rw (path_is p is.0) refl
@@ -173,6 +214,11 @@ act_is (Do (Replace p q)) is = rw (path_is p is.0, path_is q is.1.0) refl
 act_is (Group a) is = rw (word_is is_group_byte a is.0) refl
 act_is End is = refl
 act_is (Depend b a) is = rw (word_is is_group_byte b is.0, word_is is_group_byte a is.1.0) refl
+act_is Sync is = refl
+act_is (Fsync target) is = rw (target_is target is.0) refl
+act_is (Keep paths) is = rw (paths_are paths.items is.2) refl
+act_is (Hold p) is = rw (path_is p is.0) refl
+act_is (Spare p q) is = rw (path_is p is.0, path_is q is.1.0) refl
 
 -- ---- forms
 
@@ -184,7 +230,8 @@ abbrev pub samples : List Act
 samples =
     Do (Create anywhere) ∷ Do (Write anywhere) ∷ Do (Link anywhere anywhere) ∷ Do (Unlink anywhere)
     ∷ Do (Rename anywhere anywhere) ∷ Do (Mkdir anywhere) ∷ Do (Rmdir anywhere) ∷ Do (Overwrite anywhere None)
-    ∷ Do (Truncate anywhere) ∷ Do (Replace anywhere anywhere) ∷ Group [] ∷ End ∷ Depend [] [] ∷ []
+    ∷ Do (Truncate anywhere) ∷ Do (Replace anywhere anywhere) ∷ Group [] ∷ End ∷ Depend [] [] ∷ Sync
+    ∷ Fsync Root ∷ Keep (record { items = [] }) ∷ Hold anywhere ∷ Spare anywhere anywhere ∷ []
 
 -- the first of these acts that begins with the word
 abbrev pub begun_by : List ℕ → List Act → Option Act
@@ -226,6 +273,11 @@ sampled (Do (Replace p q)) = (Do (Replace anywhere anywhere), refl, alike (PathO
 sampled (Group a) = (Group [], refl, alike (GroupOperand a ∷ []), refl)
 sampled End = (End, refl, alike [], refl)
 sampled (Depend b a) = (Depend [] [], refl, alike (GroupOperand b ∷ GroupOperand a ∷ []), refl)
+sampled Sync = (Sync, refl, alike [], refl)
+sampled (Fsync target) = (Fsync Root, refl, alike (TargetOperand target ∷ []), refl)
+sampled (Keep paths) = (Keep (record { items = [] }), refl, alike (PathsOperand paths.items ∷ []), refl)
+sampled (Hold p) = (Hold anywhere, refl, alike (PathOperand p ∷ []), refl)
+sampled (Spare p q) = (Spare anywhere anywhere, refl, alike (PathOperand p ∷ PathOperand q ∷ []), refl)
 
 -- acts with the same first word take the same paths
 pub paths_alike : (act other : Act) → (said act).0 ≡ (said other).0 → (words : List (List ℕ))

@@ -1,17 +1,19 @@
 -- What a line says, computed from its words: a line says at most one thing.
-use Rattle.std.proofs.Common.{◌≡◌, ◌≢◌, ℕ, zero, suc, ◌<◌, List, [], ◌∷◌, ◌++◌, map, Bool, true, false, ◌&&◌, nat_lt}
+use Rattle.std.proofs.Common.{◌≡◌, ◌≢◌, ℕ, zero, suc, ◌<◌, List, [], ◌∷◌, ◌++◌, length, map}
+use Rattle.std.proofs.Common.{Bool, true, false, ◌&&◌, nat_lt, nat_le}
 use Rattle.std.proofs.Common.{arith, refl, sym, subst, ap, ◌∙◌, inl, inr}
 use Rattle.std.specs.Prelude.{◌==◌, if◌then◌else◌, flat_map, codes, Option, Some, None, bytes_eq, IsUtf8}
 use Rattle.std.specs.Str.{IsAscii}
 use Rattle.std.specs.List.{All, Contains, list_all}
-use Rattle.std.proofs.lemmas.Bool.{and_parts, ltb-true}
+use Rattle.std.proofs.lemmas.Bool.{and_parts, ltb-true, lt-ltb, le-leb}
 use Rattle.std.proofs.lemmas.Bool.Decides.{nat_tests}
 use Rattle.std.proofs.lemmas.List.Elements.{All-head, All-tail, All-nil, All-cons}
 use Rattle.std.proofs.lemmas.Str.{IsUtf8-from_ascii}
 use Rattle.crash_model.proofs.Cuts.{Lacks}
 use Rattle.crash_model.specs.Lists.{join_of}
 use Rattle.crash_model.specs.Names.{IsName, IsGroupName, is_name_byte, is_group_byte}
-use Rattle.crash_model.specs.Script.{IsPath, path_text, Operand, PathOperand, GroupOperand, SlotOperand, said}
+use Rattle.crash_model.specs.Script.{IsPath, IsPathWord, path_text, target_text, IsTarget, IsTargetWord, said}
+use Rattle.crash_model.specs.Script.{Operand, PathOperand, TargetOperand, PathsOperand, GroupOperand, SlotOperand}
 use Rattle.crash_model.specs.Script.{operand_words, AreLawful, Fits, HasPaths, HasSlots, HasBadSlot, HasForm, Line}
 use Rattle.crash_model.specs.Script.{Skipped, Start, Says, words_of, IsAct, IsSkipped, Reads}
 use Rattle.crash_model.specs.Slots.{slot_text}
@@ -21,7 +23,9 @@ use Rattle.crash_model.specs.declared.operations.Op.TheVariants.{Create, Write, 
 use Rattle.crash_model.specs.declared.operations.Op.TheVariants.{Overwrite, Truncate, Replace}
 use Rattle.crash_model.specs.declared.names.Path.{Path}
 use Rattle.crash_model.specs.declared.steps.Act.{Act}
-use Rattle.crash_model.specs.declared.steps.Act.TheVariants.{Do, Group, End, Depend}
+use Rattle.crash_model.specs.declared.steps.Act.TheVariants.{Do, Group, End, Depend, Sync, Fsync, Keep, Hold, Spare}
+use Rattle.crash_model.specs.declared.steps.Target.{Target}
+use Rattle.crash_model.specs.declared.steps.Target.TheVariants.{Root, At}
 use Rattle.uniqueness_laws.specs.Words.{is_word}
 use Rattle.uniqueness_laws.proofs.Pieces.{onto, pieces, AreLacking, lacking_from, pieces_lack, joined_pieces}
 use Rattle.uniqueness_laws.proofs.Pieces.{pieces_joined}
@@ -140,10 +144,57 @@ slot_some One e = cc
 slot_some Two e = cc
 slot_some Three e = cc
 
--- a slot, which may be left out, is the last operand
+target_lacks : (target : Target) → IsTarget target → Lacks 32 (target_text target)
+target_lacks Root is = ((λ e. omega (arith, e)), tt)
+target_lacks (At path) is = path_lacks path is
+
+target_low : (target : Target) → IsTarget target → Low (target_text target)
+target_low Root is = (omega arith, tt)
+target_low (At path) is = path_low path is
+
+target_some : (target : Target) → target_text target ≢ []
+target_some Root e = cc
+target_some (At path) e = path_some path e
+
+target_word : (target : Target) → IsTarget target → IsTargetWord (target_text target)
+target_word Root is = inl refl
+target_word (At path) is = inr (path, is, refl)
+
+-- several paths
+paths_lack : (paths : List Path) → All IsPath paths → AreLacking 32 (map path_text paths ++ [])
+paths_lack [] all = tt
+paths_lack (path ∷ paths) all =
+    (path_lacks path (All-head IsPath path paths all), paths_lack paths (All-tail IsPath path paths all))
+
+paths_low : (paths : List Path) → All IsPath paths → AreLow (map path_text paths ++ [])
+paths_low [] all = tt
+paths_low (path ∷ paths) all =
+    (path_low path (All-head IsPath path paths all), paths_low paths (All-tail IsPath path paths all))
+
+paths_some : (paths : List Path) → All (λ word. word ≢ []) (map path_text paths ++ [])
+paths_some [] = All-nil (λ word. word ≢ [])
+paths_some (path ∷ paths) = All-cons (λ word. word ≢ []) (path_text path) (map path_text paths ++ []) (path_some path)
+    (paths_some paths)
+
+path_words : (paths : List Path) → All IsPath paths → All IsPathWord (map path_text paths ++ [])
+path_words [] all = All-nil IsPathWord
+path_words (path ∷ paths) all = All-cons IsPathWord (path_text path) (map path_text paths ++ [])
+    (path, All-head IsPath path paths all, refl) (path_words paths (All-tail IsPath path paths all))
+
+as_many : (paths : List Path) → length (map path_text paths ++ []) ≡ length paths
+as_many [] = refl
+as_many (path ∷ paths) = ap suc (as_many paths)
+
+no_slots : (paths : List Path) (words : List (List ℕ)) → HasSlots (PathsOperand paths ∷ []) words
+no_slots paths [] = tt
+no_slots paths (word ∷ words) = tt
+
+-- a slot, which may be left out, is the last operand, and so are several paths
 abbrev SlotIsLast : List Operand → Type 0
 SlotIsLast [] = Unit {0}
 SlotIsLast (PathOperand p ∷ operands) = SlotIsLast operands
+SlotIsLast (TargetOperand target ∷ operands) = SlotIsLast operands
+SlotIsLast (PathsOperand paths ∷ operands) = operands ≡ []
 SlotIsLast (GroupOperand a ∷ operands) = SlotIsLast operands
 SlotIsLast (SlotOperand slot ∷ operands) = operands ≡ []
 
@@ -161,6 +212,11 @@ slot_is_last (Do (Replace p q)) = tt
 slot_is_last (Group a) = tt
 slot_is_last End = tt
 slot_is_last (Depend b a) = tt
+slot_is_last Sync = tt
+slot_is_last (Fsync target) = tt
+slot_is_last (Keep paths) = refl
+slot_is_last (Hold p) = tt
+slot_is_last (Spare p q) = tt
 
 -- what lawful operands say are words of text, which fit and have paths and slots where they belong
 record HasWords (operands : List Operand) : Type 0 where
@@ -181,6 +237,23 @@ has_words (SlotOperand (Some slot) ∷ []) last are = record {
   slots = ((slot, refl), tt);
 }
 has_words (SlotOperand slot ∷ operand ∷ operands) last are = absurd (cc)
+has_words (PathsOperand paths ∷ []) last are = record {
+  lacks = paths_lack paths are.2;
+  low = paths_low paths are.2;
+  fits = (omega (arith, as_many paths, are.0), omega (arith, as_many paths, are.1), paths_some paths);
+  paths = path_words paths are.2;
+  slots = no_slots paths (map path_text paths ++ []);
+}
+has_words (PathsOperand paths ∷ operand ∷ operands) last are = absurd (cc)
+has_words (TargetOperand target ∷ operands) last are =
+    let more = has_words operands last are.1 in
+    record {
+      lacks = (target_lacks target are.0, more.lacks);
+      low = (target_low target are.0, more.low);
+      fits = (target_some target, more.fits);
+      paths = (target_word target are.0, more.paths);
+      slots = more.slots;
+    }
 has_words (PathOperand p ∷ operands) last are =
     let more = has_words operands last are.1 in
     record {
@@ -258,11 +331,19 @@ reads_utf8 line (Says act) (is, spelt) = subst IsUtf8 (sym spelt)
 
 -- ---- forms of lines
 
+abbrev pub is_some_word : List ℕ → Bool
+is_some_word [] = false
+is_some_word (c ∷ cs) = true
+
 -- a word for each operand, no word empty, and names of groups where they belong
 abbrev pub fit : List Operand → List (List ℕ) → Bool
 fit [] [] = true
 fit (PathOperand p ∷ operands) ([] ∷ words) = false
 fit (PathOperand p ∷ operands) ((c ∷ cs) ∷ words) = fit operands words
+fit (TargetOperand target ∷ operands) ([] ∷ words) = false
+fit (TargetOperand target ∷ operands) ((c ∷ cs) ∷ words) = fit operands words
+fit (PathsOperand paths ∷ []) words =
+    nat_lt 0 (length words) && (nat_le (length words) 4 && list_all is_some_word words)
 fit (GroupOperand a ∷ operands) (word ∷ words) = is_word is_group_byte word && fit operands words
 fit (SlotOperand slot ∷ []) [] = true
 fit (SlotOperand slot ∷ []) ([] ∷ words) = false
@@ -270,12 +351,26 @@ fit (SlotOperand slot ∷ []) ((c ∷ cs) ∷ words) = fit [] words
 fit (SlotOperand slot ∷ operand ∷ operands) ((c ∷ cs) ∷ words) = fit (operand ∷ operands) words
 fit _ _ = false
 
+each_some : (words : List (List ℕ)) → All (λ word. word ≢ []) words → list_all is_some_word words ≡ true
+each_some [] all = refl
+each_some ([] ∷ words) all = absurd (All-head (λ word. word ≢ []) [] words all refl)
+each_some ((c ∷ cs) ∷ words) all = each_some words (All-tail (λ word. word ≢ []) (c ∷ cs) words all)
+
 fit_is : (operands : List Operand) (words : List (List ℕ)) → Fits operands words → fit operands words ≡ true
 fit_is [] [] fits = refl
 fit_is [] (word ∷ words) fits = absurd fits
 fit_is (PathOperand p ∷ operands) [] fits = absurd fits
 fit_is (PathOperand p ∷ operands) ([] ∷ words) fits = absurd (fits.0 refl)
 fit_is (PathOperand p ∷ operands) ((c ∷ cs) ∷ words) fits = fit_is operands words fits.1
+fit_is (TargetOperand target ∷ operands) [] fits = absurd fits
+fit_is (TargetOperand target ∷ operands) ([] ∷ words) fits = absurd (fits.0 refl)
+fit_is (TargetOperand target ∷ operands) ((c ∷ cs) ∷ words) fits = fit_is operands words fits.1
+fit_is (PathsOperand paths ∷ []) words fits =
+    both (nat_lt 0 (length words)) (nat_le (length words) 4 && list_all is_some_word words)
+    (lt-ltb 0 (length words) fits.0)
+    (both (nat_le (length words) 4) (list_all is_some_word words) (le-leb (length words) 4 fits.1)
+    (each_some words fits.2))
+fit_is (PathsOperand paths ∷ operand ∷ operands) words fits = absurd fits
 fit_is (SlotOperand slot ∷ []) [] fits = refl
 fit_is (SlotOperand slot ∷ []) ([] ∷ words) fits = absurd (fits.0 refl)
 fit_is (SlotOperand slot ∷ []) ((c ∷ cs) ∷ words) fits = fit_is [] words fits.1
@@ -380,6 +475,8 @@ Read line = (what : Line) × Reads line what
 abbrev HaveKinds : List Operand → List Operand → Type 0
 HaveKinds [] [] = Unit {0}
 HaveKinds (PathOperand _ ∷ likes) (PathOperand _ ∷ operands) = HaveKinds likes operands
+HaveKinds (TargetOperand _ ∷ likes) (TargetOperand _ ∷ operands) = HaveKinds likes operands
+HaveKinds (PathsOperand _ ∷ likes) (PathsOperand _ ∷ operands) = HaveKinds likes operands
 HaveKinds (GroupOperand _ ∷ likes) (GroupOperand _ ∷ operands) = HaveKinds likes operands
 HaveKinds (SlotOperand _ ∷ likes) (SlotOperand _ ∷ operands) = HaveKinds likes operands
 HaveKinds _ _ = ⊥
@@ -400,7 +497,25 @@ with_operands (Do (Replace _ _)) (PathOperand p ∷ PathOperand q ∷ []) have =
 with_operands (Group _) (GroupOperand a ∷ []) have = (Group a, refl)
 with_operands End [] have = (End, refl)
 with_operands (Depend _ _) (GroupOperand b ∷ GroupOperand a ∷ []) have = (Depend b a, refl)
+with_operands Sync [] have = (Sync, refl)
+with_operands (Fsync _) (TargetOperand target ∷ []) have = (Fsync target, refl)
+with_operands (Keep _) (PathsOperand paths ∷ []) have = (Keep (record { items = paths }), refl)
+with_operands (Hold _) (PathOperand p ∷ []) have = (Hold p, refl)
+with_operands (Spare _ _) (PathOperand p ∷ PathOperand q ∷ []) have = (Spare p q, refl)
 with_operands _ _ have = absurd have
+
+-- the target that a word says, and the paths that words say
+target_for : (word : List ℕ) → IsTargetWord word → (target : Target) × IsTarget target × (word ≡ target_text target)
+target_for word (inl root) = (Root, tt, root)
+target_for word (inr (path, is, spelt)) = (At path, is, spelt)
+
+paths_for : (words : List (List ℕ)) → All IsPathWord words
+    → (paths : List Path) × All IsPath paths × (words ≡ map path_text paths ++ [])
+paths_for [] all = ([], All-nil IsPath, refl)
+paths_for (word ∷ words) all =
+    let first = All-head IsPathWord word words all in
+    let more = paths_for words (All-tail IsPathWord word words all) in
+    (first.0 ∷ more.0, All-cons IsPath first.0 more.0 first.1 more.1, cc (first.2, more.2))
 
 -- the lawful operands that words say
 operands_for : (likes : List Operand) (words : List (List ℕ)) → Fits likes words → HasPaths likes words
@@ -408,6 +523,7 @@ operands_for : (likes : List Operand) (words : List (List ℕ)) → Fits likes w
 operands_for [] [] fits paths slots = ([], tt, tt, refl)
 operands_for [] (word ∷ words) fits paths slots = absurd fits
 operands_for (PathOperand _ ∷ likes) [] fits paths slots = absurd fits
+operands_for (TargetOperand _ ∷ likes) [] fits paths slots = absurd fits
 operands_for (GroupOperand _ ∷ likes) [] fits paths slots = absurd fits
 operands_for (SlotOperand _ ∷ []) [] fits paths slots = (SlotOperand None ∷ [], tt, tt, refl)
 operands_for (SlotOperand _ ∷ like ∷ likes) [] fits paths slots = absurd fits
@@ -415,6 +531,15 @@ operands_for (PathOperand _ ∷ likes) (word ∷ words) fits paths slots =
     let p = paths.0 in
     let more = operands_for likes words fits.1 paths.1 slots in
     (PathOperand p.0 ∷ more.0, more.1, (p.1, more.2), cc (p.2, more.3))
+operands_for (TargetOperand _ ∷ likes) (word ∷ words) fits paths slots =
+    let target = target_for word paths.0 in
+    let more = operands_for likes words fits.1 paths.1 slots in
+    (TargetOperand target.0 ∷ more.0, more.1, (target.1, more.2), cc (target.2, more.3))
+operands_for (PathsOperand _ ∷ []) words fits paths slots =
+    let all = paths_for words paths in
+    let many : length words ≡ length all.0 = ap (λ (ws : List (List ℕ)). length ws) all.2 ∙ as_many all.0 in
+    (PathsOperand all.0 ∷ [], tt, (omega (arith, many, fits.0), omega (arith, many, fits.1), all.1, tt), all.2)
+operands_for (PathsOperand _ ∷ like ∷ likes) words fits paths slots = absurd fits
 operands_for (GroupOperand _ ∷ likes) (word ∷ words) fits paths slots =
     let more = operands_for likes words fits.1 paths slots in
     (GroupOperand word ∷ more.0, more.1, (fits.0, more.2), cc (more.3))

@@ -1,7 +1,7 @@
 //! What is determined, as functions that do nothing and promise the law.
 
-ghost use Rattle.std.specs.Prelude.{◌≡◌, ℕ, List, Bool};
-ghost use Rattle.crash_model.specs.Checker.{Demands, AreDemands};
+ghost use Rattle.std.specs.Prelude.{◌≡◌, ℕ, List};
+ghost use Rattle.crash_model.specs.Checker.{Demands, Asked, AreDemands};
 ghost use Rattle.crash_model.specs.Disk.{Disk};
 ghost use Rattle.crash_model.specs.Script.{IsScript, IsScriptRefusal};
 ghost use Rattle.crash_model.specs.Trace.{Tracing, IsGraphOf};
@@ -28,6 +28,6 @@ pub fn a_trace_has_at_most_one_graph()
 
 /// Steps demand at most one thing of an image.
 pub fn steps_demand_one_thing()
-    ensures { (strict atomic : Bool) (base : Disk) (steps : List Step) (demands other : Demands)
-        → AreDemands strict atomic base steps demands → AreDemands strict atomic base steps other → demands ≡ other }
+    ensures { (asked : Asked) (base : Disk) (steps : List Step) (demands other : Demands)
+        → AreDemands asked base steps demands → AreDemands asked base steps other → demands ≡ other }
 {}

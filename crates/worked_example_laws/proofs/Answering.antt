@@ -1,12 +1,13 @@
 -- The answer about a script that is written down as acts.
 use Rattle.std.proofs.Common.{◌≡◌, ℕ, ◌+◌, ◌<◌, List, length, map, Bool, true, false, ◌&&◌, nat_le, nat_lt, refl, sym}
 use Rattle.std.proofs.Common.{subst, ◌∙◌}
-use Rattle.std.specs.Prelude.{◌==◌, Result, Ok, Err}
+use Rattle.std.specs.Prelude.{◌==◌, Result, Ok, Err, None, if◌then◌else◌}
 use Rattle.std.proofs.lemmas.Bool.{and_parts, leb-true, le-leb, ltb-true}
 use Rattle.patch_sets.proofs.Ids.{eq_from_true}
 use Rattle.report_model.specs.Report.{Detail}
 use Rattle.report_model.specs.Answer as answers
 use Rattle.report_model.specs.Answer.{Refused, Reported, HasBase, HasGraph, detail_of, ordering_rules}
+use Rattle.report_model.specs.Answer.{asked_by}
 use Rattle.crash_model.specs.Disk.{Disk, new_disk, IsGeometry}
 use Rattle.crash_model.specs.Patches.{deps_of}
 use Rattle.crash_model.specs.Refusals.{run_of_trace}
@@ -19,12 +20,12 @@ use Rattle.crash_model.specs.declared.refusals.RunFault.TheVariants.{BadGeometry
 use Rattle.crash_model.specs.declared.settings.Settings.{Settings}
 use Rattle.crash_model.specs.declared.steps.Act.{Act}
 use Rattle.report_model.proofs.Leading.{failing_closed, closed_are_left, sections_lead}
-use Rattle.worked_example_laws.specs.Computed.{closed_sets, failing_under, demands_of, are_in_order}
+use Rattle.worked_example_laws.specs.Computed.{closed_sets, failing_under, are_in_order}
 use Rattle.worked_example_laws.specs.Computed.{trace_of, is_accepted}
 use Rattle.worked_example_laws.specs.Computed.{section_of, have_runs}
 use Rattle.worked_example_laws.specs.Examples.{numbered_steps}
 use Rattle.worked_example_laws.specs.Spelled.{are_acts, script, base_or, base_of, has_base, trace_steps, graph}
-use Rattle.worked_example_laws.specs.Spelled.{is_geometry, is_told, IsListed}
+use Rattle.worked_example_laws.specs.Spelled.{is_geometry, is_told, demands_by, IsListed}
 use Rattle.worked_example_laws.proofs.FailingSets.{accepted_is, counts_closed, all_under, failing_quickly_under}
 use Rattle.worked_example_laws.proofs.FailingSets.{failing_under_are}
 use Rattle.worked_example_laws.proofs.Graphs.{earlier, graph_is}
@@ -100,7 +101,7 @@ refused_trace settings limit before after fault read read_too geometry whole is 
 -- how much is reported of a set
 abbrev pub told_detail : Settings → List Act → List Act → Detail
 told_detail settings before after = detail_of settings
-    (demands_of settings.strict settings.atomic (base_of settings before) (trace_steps before after))
+    (demands_by settings (base_of settings before) (trace_steps before after))
 
 -- the same test as `is_told`, in fewer steps
 abbrev pub is_told_quickly : Settings → ℕ → List Act → List Act → ℕ → List ℕ → Bool
@@ -112,14 +113,14 @@ is_told_quickly settings limit before after closed failing =
     && (is_accepted (trace_from settings.module (trace_start settings.whole_blocks base) (trace_steps before after))
     && ((length (closed_sets (deps_of patches)) == closed)
     && (are_in_order (length (deps_of patches)) failing
-    (failing_quickly_under (demands_of settings.strict settings.atomic base (trace_steps before after)) base patches)
+    (failing_quickly_under (demands_by settings base (trace_steps before after)) base patches)
     && (nat_le closed limit && have_runs patches failing)))))))
 
 quickly_is : (settings : Settings) (limit : ℕ) (before after : List Act) (closed : ℕ) (failing : List ℕ)
     → is_told_quickly settings limit before after closed failing ≡ is_told settings limit before after closed failing
 quickly_is settings limit before after closed failing =
     let base = base_of settings before in
-    rw (failing_under_are (demands_of settings.strict settings.atomic base (trace_steps before after)) base
+    rw (failing_under_are (demands_by settings base (trace_steps before after)) base
     (graph settings before after)) refl
 
 -- the report, of each failing set
@@ -132,6 +133,9 @@ pub reported : (settings : Settings) (limit : ℕ) (before after : List Act) (cl
       explanation = when settings.explain (explanation (ordering_rules settings) (base_of settings before)
           (trace_of settings.module settings.whole_blocks (base_of settings before) (trace_steps before after))
           (graph settings before after));
+      promises = if settings.explain
+          then (demands_by settings (base_of settings before) (trace_steps before after)).promises
+          else None;
       body = Sets (map (section_of (told_detail settings before after) (base_of settings before)
           (graph settings before after)) failing);
     })
@@ -143,7 +147,7 @@ reported settings limit before after closed failing text told_quickly is =
     let base = base_of settings before in
     let steps = trace_steps before after in
     let last = trace_of settings.module settings.whole_blocks base steps in
-    let demands = demands_of settings.strict settings.atomic base steps in
+    let demands = demands_by settings base steps in
     let detail = detail_of settings demands in
     let patches = graph settings before after in
     let one = and_parts (are_acts before) _ told in
@@ -167,7 +171,7 @@ reported settings limit before after closed failing text told_quickly is =
       last = last;
       patches = patches;
       graph = has_graph settings before after one.0 two.0 three.0 four.0 five.0;
-      demanded = are_demands settings.strict settings.atomic base steps;
+      demanded = are_demands (asked_by settings steps) base steps;
       report = record {
         total = closed;
         counted = counts_closed patches closed first (eq_from_true _ _ six.0);

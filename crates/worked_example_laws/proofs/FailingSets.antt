@@ -1,7 +1,7 @@
 -- The computed failing sets are all sets that a crash can leave and that fail.
 use Rattle.std.proofs.Common.{◌≡◌, ℕ, zero, suc, ◌+◌, ◌*◌, ◌/◌, ◌%◌, ◌^◌, ◌<◌, List, [], ◌∷◌, ◌++◌, length, Bool, true}
 use Rattle.std.proofs.Common.{false, not, ◌&&◌, ◌||◌, nat_lt, arith, refl, sym, subst, ap, ◌∙◌, pow-suc, inl, inr}
-use Rattle.std.proofs.Common.{get_or, add-one}
+use Rattle.std.proofs.Common.{get_or, add-one, append-nil}
 use Rattle.std.specs.Prelude.{◌⊎◌, Option, Some, None, ◌==◌, count_ones, Ok, Err, Result}
 use Rattle.std.specs.List.{Contains, filter, list_any, list_all}
 use Rattle.std.proofs.lemmas.List.{get_or_default}
@@ -19,9 +19,12 @@ use Rattle.crash_model.specs.Rules.{rules_of}
 use Rattle.crash_model.specs.Disk.{Disk}
 use Rattle.crash_model.specs.Patches.{deps_of, image_of, CountsClosed}
 use Rattle.crash_model.specs.Replay.{image_after_replay}
-use Rattle.crash_model.specs.Faults.{faults}
+use Rattle.crash_model.specs.Faults.{faults, IsClean}
+use Rattle.crash_model.specs.Lists.{some_below}
+use Rattle.crash_model.specs.Promises.{Promise, broken_lines}
 use Rattle.crash_model.specs.Failing.{IsFailing}
-use Rattle.crash_model.specs.Checker.{Demands, faults_keeping, faults_showing, faults_under, IsFailingUnder}
+use Rattle.crash_model.specs.Checker.{Demands, faults_keeping, faults_showing, faults_under, promised, counted_among}
+use Rattle.crash_model.specs.Checker.{IsCleanUnder, IsFailingUnder}
 use Rattle.crash_model.specs.Strict.{strict_faults}
 use Rattle.crash_model.specs.declared.fault.Fault.{Fault}
 use Rattle.crash_model.specs.Trace.{Tracing, trace_start, trace_from}
@@ -96,36 +99,53 @@ module _ (demands : Demands) (base : Disk) (patches : List Patch) (before : AreE
       let it = from_filter (fails_under demands base patches) (closed_sets (deps_of patches)) set is in
       record {
         closed = (closed_are_all (deps_of patches) before).each set it.0;
-        unclean = λ clean. none_at_true (faults_under demands (image_after_replay (image_of base patches set))) it.1
-            clean.faultless;
+        unclean = λ clean. none_at_true (faults_under demands set (image_after_replay (image_of base patches set)))
+            it.1 clean.faultless;
       }
 
   pub in_under : (set : ℕ) → IsFailingUnder demands base patches set → Contains (failing_under demands base patches) set
   in_under set failing = to_filter (fails_under demands base patches) (closed_sets (deps_of patches)) set
       ((closed_are_all (deps_of patches) before).every set failing.closed)
-      (by_fault (faults_under demands (image_after_replay (image_of base patches set)))
+      (by_fault (faults_under demands set (image_after_replay (image_of base patches set)))
       (λ none. failing.unclean record { faultless = none }))
 
 -- the same if nothing more is demanded
+pub found_alone : (set : ℕ) (d : Disk) → faults_under nothing_more set d ≡ faults d
+unfolding broken_lines some_below
+found_alone set d = append-nil (faults d)
+
+pub clean_from_under : (set : ℕ) (d : Disk) → IsCleanUnder nothing_more set d → IsClean d
+clean_from_under set d clean = record { faultless = sym (found_alone set d) ∙ clean.faultless }
+
+pub under_from_clean : (set : ℕ) (d : Disk) → IsClean d → IsCleanUnder nothing_more set d
+under_from_clean set d clean = record { faultless = found_alone set d ∙ clean.faultless }
+
 module _ (base : Disk) (patches : List Patch) where
   pub failing_from_under : (set : ℕ) → IsFailingUnder nothing_more base patches set → IsFailing base patches set
   failing_from_under set is = record {
     closed = is.closed;
-    unclean = λ clean. is.unclean record { faultless = clean.faultless };
+    unclean = λ clean. is.unclean (under_from_clean set (image_after_replay (image_of base patches set)) clean);
   }
 
   pub under_from_failing : (set : ℕ) → IsFailing base patches set → IsFailingUnder nothing_more base patches set
   under_from_failing set is = record {
     closed = is.closed;
-    unclean = λ clean. is.unclean record { faultless = clean.faultless };
+    unclean = λ clean. is.unclean (clean_from_under set (image_after_replay (image_of base patches set)) clean);
   }
+
+  sets_alone : failing_under nothing_more base patches ≡ failing_sets base patches
+  sets_alone = filter_agree (fails_under nothing_more base patches) (fails base patches)
+      (λ set. ap (λ found. not (is_none_found found))
+      (found_alone set (image_after_replay (image_of base patches set)))) (closed_sets (deps_of patches))
 
 module _ (base : Disk) (patches : List Patch) (before : AreEarlier (deps_of patches)) where
   failing_at : (set : ℕ) → Contains (failing_sets base patches) set → IsFailing base patches set
-  failing_at set is = failing_from_under base patches set (under_at nothing_more base patches before set is)
+  failing_at set is = failing_from_under base patches set (under_at nothing_more base patches before set
+      (subst (λ (sets : List ℕ). Contains sets set) (sym (sets_alone base patches)) is))
 
   in_failing : (set : ℕ) → IsFailing base patches set → Contains (failing_sets base patches) set
-  in_failing set failing = in_under nothing_more base patches before set (under_from_failing base patches set failing)
+  in_failing set failing = subst (λ (sets : List ℕ). Contains sets set) (sets_alone base patches)
+      (in_under nothing_more base patches before set (under_from_failing base patches set failing))
 
   pub counts_failing : (n : ℕ) → length (failing_sets base patches) ≡ n → HoldsOf (IsFailing base patches) n
   counts_failing n many = (
@@ -208,7 +228,8 @@ all_failing : (base : Disk) (patches : List Patch) (sets : List ℕ) → AreEarl
     → are_in_order (length (deps_of patches)) sets (failing_sets base patches) ≡ true
     → AreAllInOrder (IsFailing base patches) sets
 all_failing base patches sets before e =
-    let all = all_under nothing_more base patches sets before e in
+    let all = all_under nothing_more base patches sets before
+    (ap (are_in_order (length (deps_of patches)) sets) (sets_alone base patches) ∙ e) in
     record {
       ordered = all.ordered;
       exactly = λ set. (
@@ -327,31 +348,50 @@ quick_faults_keeping_are : (o : Option ℕ) (d : Disk) → quick_faults_keeping 
 quick_faults_keeping_are None d = quick_faults_are d
 quick_faults_keeping_are (Some kept) d = ap (λ found. found ++ strict_faults kept d) (quick_faults_are d)
 
-abbrev pub quick_faults_under : Demands → Disk → List Fault
-quick_faults_under demands d = faults_showing demands.disks d (quick_faults_keeping demands.kept d)
+-- the broken promises, if there are any promises
+abbrev pub quick_broken : Option (List Promise) → ℕ → Disk → List Fault
+quick_broken None set d = []
+quick_broken (Some promises) set d = broken_lines promises set d
 
-quick_faults_under_are : (demands : Demands) (d : Disk) → quick_faults_under demands d ≡ faults_under demands d
-quick_faults_under_are demands d =
-    ap (faults_showing demands.disks d) (quick_faults_keeping_are demands.kept d)
+quick_broken_are : (o : Option (List Promise)) (set : ℕ) (d : Disk)
+    → quick_broken o set d ≡ broken_lines (promised o) set d
+unfolding broken_lines some_below
+quick_broken_are None set d = refl
+quick_broken_are (Some promises) set d = refl
+
+abbrev pub quick_faults_under : Demands → ℕ → Disk → List Fault
+quick_faults_under demands set d =
+    counted_among demands.counted
+    (faults_showing demands.disks d (quick_faults_keeping demands.kept d) ++ quick_broken demands.promises set d)
+
+pub quick_faults_under_are : (demands : Demands) (set : ℕ) (d : Disk)
+    → quick_faults_under demands set d ≡ faults_under demands set d
+quick_faults_under_are demands set d =
+    ap (λ (found : List Fault). counted_among demands.counted
+    (faults_showing demands.disks d found ++ quick_broken demands.promises set d))
+    (quick_faults_keeping_are demands.kept d)
+    ∙ ap (λ (broken : List Fault). counted_among demands.counted
+    (faults_showing demands.disks d (faults_keeping demands.kept d) ++ broken))
+    (quick_broken_are demands.promises set d)
 
 abbrev pub failing_quickly_under : Demands → Disk → List Patch → List ℕ
 failing_quickly_under demands base patches =
-    filter (λ set. not (is_none_found (quick_faults_under demands (replayed (image_of base patches set)))))
+    filter (λ set. not (is_none_found (quick_faults_under demands set (replayed (image_of base patches set)))))
     (closed_sets (deps_of patches))
 
 pub failing_under_are : (demands : Demands) (base : Disk) (patches : List Patch)
     → failing_quickly_under demands base patches ≡ failing_under demands base patches
 failing_under_are demands base patches =
-    filter_agree (λ set. not (is_none_found (quick_faults_under demands (replayed (image_of base patches set)))))
+    filter_agree (λ set. not (is_none_found (quick_faults_under demands set (replayed (image_of base patches set)))))
     (fails_under demands base patches)
-    (λ set. ap (λ found. not (is_none_found found)) (quick_faults_under_are demands
+    (λ set. ap (λ found. not (is_none_found found)) (quick_faults_under_are demands set
     (image_after_replay (image_of base patches set)))) (closed_sets (deps_of patches))
 
 abbrev pub failing_quickly : Disk → List Patch → List ℕ
 failing_quickly base patches = failing_quickly_under nothing_more base patches
 
 failing_are : (base : Disk) (patches : List Patch) → failing_quickly base patches ≡ failing_sets base patches
-failing_are base patches = failing_under_are nothing_more base patches
+failing_are base patches = failing_under_are nothing_more base patches ∙ sets_alone base patches
 
 pub number_if : (kind : Module) (base : Disk) (steps : List Step) (many : ℕ)
     → at_graph kind base (λ patches. length (failing_quickly base patches)) (trace_from kind

@@ -85,11 +85,11 @@ module _ (rules : List Rule) (base : Disk) (s : Tracing) where
       ∙ ap (needs rules s.whole s.links s.emitted) (omega arith)
 
   passes : ℕ → ℕ → Bool
-  passes q p = depends_if rules s.whole s.links (slice_get s.emitted q) (slice_get s.emitted p)
+  passes q p = depends_if rules s.whole s.links (slice_get s.emitted q) p (slice_get s.emitted p)
 
   pub earlier : AreEarlier (deps_of (graph_of rules base s))
   earlier q p dep = elim (below_or_past q (length s.emitted)) [
-    | inl below ↦ (from_set_below q (λ p. depends_if rules s.whole s.links (slice_get s.emitted q)
+    | inl below ↦ (from_set_below q (λ p. depends_if rules s.whole s.links (slice_get s.emitted q) p
         (slice_get s.emitted p)) p
         (subst (λ d. Has d p) (deps_is q below) dep)).0
     | inr past ↦ absurd (none_in_empty p (subst (λ d. Has d p)
@@ -99,17 +99,17 @@ module _ (rules : List Rule) (base : Disk) (s : Tracing) where
   -- what the graph of a trace asks of its dependencies
   exactly : (q p : ℕ) (later before : Emitted) → p < q → slice_get s.emitted q ≡ Some later
       → slice_get s.emitted p ≡ Some before
-      → (Has (slice_index (deps_of (graph_of rules base s)) q) p ↔ IsTrue (depends rules s.whole s.links later before))
+      → (Has (slice_index (deps_of (graph_of rules base s)) q) p ↔ IsTrue (depends rules s.whole s.links later p before))
   exactly q p later before less at_q at_p =
       let below : q < length s.emitted = get_within s.emitted q later at_q in
-      let same : depends_if rules s.whole s.links (slice_get s.emitted q) (slice_get s.emitted p)
-      ≡ depends rules s.whole s.links later
+      let same : depends_if rules s.whole s.links (slice_get s.emitted q) p (slice_get s.emitted p)
+      ≡ depends rules s.whole s.links later p
       before =
       rw (at_q, at_p) refl in (
         λ dep. sym same ∙ ((from_set_below q (λ p. depends_if rules s.whole s.links (slice_get s.emitted q)
-            (slice_get s.emitted p)) p (subst (λ d. Has d p) (deps_is q below) dep)).1),
+            p (slice_get s.emitted p)) p (subst (λ d. Has d p) (deps_is q below) dep)).1),
         λ is. subst (λ d. Has d p) (sym (deps_is q below)) (to_set_below q
-            (λ p. depends_if rules s.whole s.links (slice_get s.emitted q) (slice_get s.emitted p)) p less (same ∙ is)),
+            (λ p. depends_if rules s.whole s.links (slice_get s.emitted q) p (slice_get s.emitted p)) p less (same ∙ is)),
       )
 
   pub graph_is : IsGraphOf rules base s (graph_of rules base s)

@@ -1,17 +1,15 @@
 -- What a script demands exists, and is unique.
-use Rattle.std.proofs.Common.{◌≡◌, ℕ, ◌<◌, List, [], ◌∷◌, Bool, true, false, ◌==◌, not, nat_lt, refl, sym, ap, ◌∙◌, inl}
+use Rattle.std.proofs.Common.{◌≡◌, ℕ, ◌<◌, List, [], ◌∷◌, Bool, true, false, ◌==◌, not, nat_lt, refl, sym, ◌∙◌, inl}
 use Rattle.std.proofs.Common.{inr}
-use Rattle.std.specs.Prelude.{Option, Some, None}
 use Rattle.std.proofs.lemmas.Bool.{cases_Bool, false≢true, and_parts, ltb-true, eqb-true, eq-eqb}
 use Rattle.std.specs.Int.{bit_at}
 use Rattle.patch_sets.specs.Sets.{Has, has}
-use Rattle.patch_sets.proofs.Bits.{same_set}
 use Rattle.crash_model.specs.Disk.{Disk}
 use Rattle.crash_model.specs.Layout.{kind_of, is_live}
 use Rattle.crash_model.specs.Strict.{disk_after, stays_live, IsKept, IsToldKept}
 use Rattle.crash_model.specs.declared.steps.Step.{Step}
 use Rattle.crash_model.specs.Atomic.{disks_of}
-use Rattle.crash_model.specs.Checker.{Demands, AreDemands}
+use Rattle.crash_model.specs.Checker.{Asked, AreDemands}
 use Rattle.crash_model.specs.Lists.{when}
 use Rattle.worked_example_laws.specs.Computed.{set_below, kept_of, shown_of, demands_of}
 use Rattle.worked_example_laws.proofs.Graphs.{from_set_below, to_set_below}
@@ -50,9 +48,11 @@ are_shown : (atomic : Bool) (base : Disk) (steps : List Step)
 are_shown false base steps = refl
 are_shown true base steps = refl
 
-pub are_demands : (strict atomic : Bool) (base : Disk) (steps : List Step)
-    → AreDemands strict atomic base steps (demands_of strict atomic base steps)
-are_demands strict atomic base steps = record {
-  kept = is_told_kept strict base steps;
-  disks = are_shown atomic base steps;
+pub are_demands : (asked : Asked) (base : Disk) (steps : List Step)
+    → AreDemands asked base steps (demands_of asked base steps)
+are_demands asked base steps = record {
+  kept = is_told_kept asked.strict base steps;
+  disks = are_shown asked.atomic base steps;
+  promises = refl;
+  counted = refl;
 }

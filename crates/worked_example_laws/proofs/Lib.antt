@@ -1,4 +1,5 @@
 pub mod Graphs
+pub mod Orders
 pub mod ClosedSets
 pub mod QuickFaults
 pub mod FailingSets

@@ -1,10 +1,11 @@
 -- There is at most one answer.
 use Rattle.std.proofs.Common.{◌≡◌, ℕ, List, length, sym, subst, ap, ◌∙◌, inl, inr}
-use Rattle.std.specs.Prelude.{Result, Ok, Err}
+use Rattle.std.specs.Prelude.{Result, Ok, Err, None, if◌then◌else◌}
 use Rattle.state_space.proofs.Counting.{one_number, not_more}
 use Rattle.patch_sets.specs.Closed.{IsClosed}
 use Rattle.patch_sets.proofs.Canonical.{one_list}
 use Rattle.report_model.specs.Answer.{Answer, Refused, Reported, IsReport, IsBody, IsVisited, ordering_rules}
+use Rattle.report_model.specs.Answer.{asked_by}
 use Rattle.crash_model.specs.Disk.{Disk, new_disk}
 use Rattle.crash_model.specs.Reasons.{explanation}
 use Rattle.crash_model.specs.Lists.{when}
@@ -42,6 +43,7 @@ module _ (settings : Settings) (by : ReportBy) (limit : ℕ) (base : Disk) (last
         closed = total i;
         failing = numbers i;
         explanation = when settings.explain (explanation (ordering_rules settings) base last patches);
+        promises = if settings.explain then demands.promises else None;
         body = bodies i;
       })) ∙ sym also.whole) in
       cc (texts, numbers)
@@ -55,7 +57,7 @@ module _ (settings : Settings) (by : ReportBy) (limit : ℕ) (base : Disk) (last
   graph_answer_one steps patches (Reported text failing) (Refused fault) is also =
       absurd (not_more (IsClosed (deps_of patches)) is.2.total limit is.2.counted is.2.within also.0)
   graph_answer_one steps patches (Reported text failing) (Reported other more) is also =
-      let same : is.0 ≡ also.0 = one_demands settings.strict settings.atomic base steps is.0 also.0 is.1 also.1 in
+      let same : is.0 ≡ also.0 = one_demands (asked_by settings steps) base steps is.0 also.0 is.1 also.1 in
       report_one also.0 patches text other failing more (subst
       (λ demands. IsReport settings by limit demands base last patches text failing) same is.2) also.2
 

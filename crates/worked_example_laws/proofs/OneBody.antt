@@ -1,8 +1,8 @@
 -- What follows a report's head is determined.
-use Rattle.std.proofs.Common.{◌≡◌, ◌≢◌, ℕ, zero, suc, ◌≤◌, List, [], ◌∷◌, ◌++◌, length, map, All, arith, refl, sym}
+use Rattle.std.proofs.Common.{◌≡◌, ◌≢◌, ℕ, ◌≤◌, List, [], ◌∷◌, ◌++◌, length, map, All, arith, refl, sym}
 use Rattle.std.proofs.Common.{subst, ap, ◌∙◌, inl, inr}
 use Rattle.std.specs.Prelude.{◌⊎◌, Option, Some, None}
-use Rattle.std.specs.List.{AllPairs, Contains}
+use Rattle.std.specs.List.{Contains}
 use Rattle.std.specs.Ordering.{ordering_reverse}
 use Rattle.std.specs.Cmp.Lexicographic.{nat_list_cmp_total}
 use Rattle.std.specs.declared.cmp.Ordering.TheVariants.{Less, Greater}
@@ -12,16 +12,15 @@ use Rattle.state_space.proofs.Counting.{one_number, not_more}
 use Rattle.patch_sets.specs.Closed.{IsClosed}
 use Rattle.patch_sets.proofs.Bits.{eq_or_not}
 use Rattle.patch_sets.proofs.Canonical.{one_list}
-use Rattle.patch_sets.proofs.Lists.{front_or_rest, in_front, in_rest, in_none}
+use Rattle.patch_sets.proofs.Lists.{in_front}
 use Rattle.patch_sets.proofs.Writes.{one_runs}
 use Rattle.report_model.specs.Answer.{IsBody, detail_of, ordering_rules}
 use Rattle.crash_model.specs.Disk.{Disk}
-use Rattle.crash_model.specs.Patches.{ExceedsLimit, deps_of, homes_of, image_of}
-use Rattle.crash_model.specs.Checker.{Demands, faults_under, IsFailingUnder}
+use Rattle.crash_model.specs.Patches.{ExceedsLimit, deps_of, homes_of}
+use Rattle.crash_model.specs.Checker.{Demands, IsFailingUnder}
 use Rattle.report_model.specs.Needs.{Without, RuleUsage, Unused, TooMany, Used, ToldRule, IsFirstNew, IsWithout}
 use Rattle.report_model.specs.Needs.{IsRuleUsage, AreToldRules}
-use Rattle.crash_model.specs.Replay.{image_after_replay}
-use Rattle.report_model.specs.Report.{Detail, Section, AreSections, replay_of}
+use Rattle.report_model.specs.Report.{Detail, Section, AreSections}
 use Rattle.crash_model.specs.Rules.{rules_in_first}
 use Rattle.crash_model.specs.FaultRows.{numbers_of, IsFaultBefore, HasFault, IsFirst, IsRow, AreRows}
 use Rattle.report_model.specs.Summary.{ToldFault}
@@ -36,6 +35,8 @@ use Rattle.crash_model.specs.declared.settings.Settings.{Settings}
 use Rattle.crash_model.specs.declared.visit.ReportBy.{ReportBy}
 use Rattle.crash_model.specs.declared.visit.ReportBy.TheVariants.{BySet, ByFault, ByRule}
 use Rattle.uniqueness_laws.proofs.OneGraph.{graph_one, heads, tails}
+use Rattle.worked_example_laws.specs.Computed.{section_with}
+use Rattle.worked_example_laws.proofs.Orders.{one_keyed, same_parts, same_told}
 use Rattle.worked_example_laws.proofs.Sets.{order}
 
 -- ---- sections
@@ -47,129 +48,46 @@ sections_one detail base patches [] sections others are are_too = are ∙ sym ar
 sections_one detail base patches (set ∷ some) sections others are are_too =
     let writes : are.0 ≡ are_too.0 = one_runs (homes_of patches) set are.0 are_too.0 are.2 are_too.2 in
     let rest : are.1 ≡ are_too.1 = sections_one detail base patches some are.1 are_too.1 are.3 are_too.3 in
-    are.4 ∙ ((λ i. record {
-      set = set;
-      writes = writes i;
-      replay = replay_of detail.explain (image_of base patches set);
-      found = faults_under detail.demands (image_after_replay (image_of base patches set));
-    } ∷ rest i) ∙ sym are_too.4)
+    are.4 ∙ ((λ i. section_with detail base patches set (writes i) ∷ rest i) ∙ sym are_too.4)
 
 -- ---- each fault once
 
 less_or_greater : Less ≡ Greater → ⊥
 less_or_greater e = cc
 
-not_both : (f g : Fault) → IsFaultBefore f g → IsFaultBefore g f → ⊥
+pub not_both : (f g : Fault) → IsFaultBefore f g → IsFaultBefore g f → ⊥
 not_both f g before after =
     less_or_greater (sym before ∙ (nat_list_cmp_total.antisymm (numbers_of f) (numbers_of g)
     ∙ ap ordering_reverse after))
 
--- each row's fault comes before those of all rows after it
-abbrev Ascend : List FaultRow → Type 0
-Ascend [] = Unit {0}
-Ascend (r ∷ rs) = ((z : FaultRow) → Contains rs z → IsFaultBefore r.fault z.fault) × Ascend rs
-
-ascend : (rs : List FaultRow) → AllPairs (λ a b. IsFaultBefore a.fault b.fault) rs → Ascend rs
-ascend [] up = tt
-ascend (r ∷ rs) up = (before, ascend rs (λ i j d less within. up (suc i) (suc j) d (omega arith) (omega arith)))
+pub first_one : (P : ℕ → Type 0) (a b : ℕ) → IsFirst P a → IsFirst P b → a ≡ b
+first_one P a b is also = by (eq_or_not a b)
   where
-    before : (z : FaultRow) → Contains rs z → IsFaultBefore r.fault z.fault
-    before z (k, within, is) = subst (λ (y : FaultRow). IsFaultBefore r.fault y.fault) is
-        (up zero (suc k) z (omega arith) (omega arith))
-
-one_order : (xs ys : List FaultRow) → Ascend xs → Ascend ys → ((z : FaultRow) → Contains xs z → Contains ys z)
-    → ((z : FaultRow) → Contains ys z → Contains xs z) → xs ≡ ys
-one_order [] [] up also to from = refl
-one_order [] (y ∷ ys) up also to from = absurd (in_none y (from y (in_front y ys)))
-one_order (x ∷ xs) [] up also to from = absurd (in_none x (to x (in_front x xs)))
-one_order (x ∷ xs) (y ∷ ys) up also to from =
-    let front : x ≡ y = by (front_or_rest y ys x (to x (in_front x xs)))
-    (front_or_rest x xs y (from y (in_front y ys))) in
-    let rest : xs ≡ ys = one_order xs ys up.1 also.1
-    (λ z is. behind_y front z is (front_or_rest y ys z (to z (in_rest x xs z is))))
-    (λ z is. behind_x front z is (front_or_rest x xs z (from z (in_rest y ys z is)))) in
-    cc (front, rest)
-  where
-    by : (y ≡ x) ⊎ Contains ys x → (x ≡ y) ⊎ Contains xs y → x ≡ y
-    by (inl e) other = sym e
-    by (inr after) (inl e) = e
-    by (inr after) (inr also_behind) = absurd (not_both y.fault x.fault (also.0 x after) (up.0 y also_behind))
-
-    alone : (z : FaultRow) → IsFaultBefore z.fault z.fault → ⊥
-    alone z before = not_both z.fault z.fault before before
-
-    behind_y : x ≡ y → (z : FaultRow) → Contains xs z → (y ≡ z) ⊎ Contains ys z → Contains ys z
-    behind_y front z is (inl e) = absurd (alone z (subst (λ (w : FaultRow). IsFaultBefore w.fault z.fault) (front ∙ e)
-        (up.0 z is)))
-    behind_y front z is (inr after) = after
-
-    behind_x : x ≡ y → (z : FaultRow) → Contains ys z → (x ≡ z) ⊎ Contains xs z → Contains xs z
-    behind_x front z is (inl e) = absurd (alone z (subst (λ (w : FaultRow). IsFaultBefore w.fault z.fault)
-        (sym front ∙ e) (also.0 z is)))
-    behind_x front z is (inr after) = after
-
--- the row of a fault among rows whose faults have it
-row_at : (f : Fault) (rs : List FaultRow) → Contains (map (λ row. row.fault) rs) f → (r : FaultRow) × Contains rs r
-    × (r.fault ≡ f)
-row_at f [] is = absurd (in_none f is)
-row_at f (r ∷ rs) is = elim (front_or_rest r.fault (map (λ row. row.fault) rs) f is) [
-  | inl e ↦ (r, in_front r rs, e)
-  | inr after ↦ let it = row_at f rs after in (it.0, in_rest r rs it.0 it.1, it.2)
-]
+    by : (a ≡ b) ⊎ (a ≢ b) → a ≡ b
+    by (inl e) = e
+    by (inr apart) = elim (order a b apart) [
+      | inl before ↦ absurd (also.first a is.among before)
+      | inr before ↦ absurd (is.first b also.among before)
+    ]
 
 module _ (has : Fault → ℕ → Type 0) where
-  first_one : (fault : Fault) (a b : ℕ) → IsFirst (has fault) a → IsFirst (has fault) b → a ≡ b
-  first_one fault a b is also = by (eq_or_not a b)
-    where
-      by : (a ≡ b) ⊎ (a ≢ b) → a ≡ b
-      by (inl e) = e
-      by (inr apart) = elim (order a b apart) [
-        | inl before ↦ absurd (also.first a is.among before)
-        | inr before ↦ absurd (is.first b also.among before)
-      ]
-
   row_one : (row other : FaultRow) → IsRow has row → IsRow has other → row.fault ≡ other.fault → row ≡ other
   row_one row other is also same =
       let number : row.sets ≡ other.sets = one_number (has other.fault) row.sets other.sets
       (subst (λ (f : Fault). HoldsOf (has f) row.sets) same is.number) also.number in
-      let first : row.first ≡ other.first = first_one other.fault row.first other.first
+      let first : row.first ≡ other.first = first_one (has other.fault) row.first other.first
       (subst (λ (f : Fault). IsFirst (has f) row.first) same is.first) also.first in
       λ i. record { fault = same i; sets = number i; first = first i }
 
-  among : (rows others : List FaultRow) → AreRows has rows → AreRows has others → (z : FaultRow) → Contains rows z
-      → Contains others z
-  among rows others is also z there =
-      let row = All-contains (IsRow has) rows z is.each there in
-      let at = row_at z.fault others (also.every z.fault z.first row.first.among) in
-      subst (λ (w : FaultRow). Contains others w) (row_one at.0 z (All-contains (IsRow has) others at.0 also.each at.1)
-      row at.2) at.1
-
   rows_one : (rows others : List FaultRow) → AreRows has rows → AreRows has others → rows ≡ others
   rows_one rows others is also =
-      one_order rows others (ascend rows is.ordered) (ascend others also.ordered) (among rows others is also)
-      (among others rows also is)
+      one_keyed IsFaultBefore not_both (λ (row : FaultRow). row.fault) (IsRow has) row_one rows others is.ordered
+      also.ordered is.each also.each
+      (λ row here. is.every row.fault row.first here.first.among)
+      (λ row here. also.every row.fault row.first here.first.among)
 
-same_firsts : (told others : List ToldFault) → map (λ t. t.row) told ≡ map (λ t. t.row) others
-    → map (λ t. t.row.first) told ≡ map (λ t. t.row.first) others
-same_firsts [] [] same = refl
-same_firsts [] (o ∷ others) same = cc
-same_firsts (t ∷ told) [] same = cc
-same_firsts (t ∷ told) (o ∷ others) same =
-    let first : t.row.first ≡ o.row.first = ap (λ (row : FaultRow). row.first) (heads same) in
-    let rest : map (λ t. t.row.first) told ≡ map (λ t. t.row.first) others = same_firsts told others (tails same) in
-    cc (first, rest)
-
-same_told : (told others : List ToldFault) → map (λ t. t.row) told ≡ map (λ t. t.row) others
-    → map (λ t. t.first) told ≡ map (λ t. t.first) others → told ≡ others
-same_told [] [] rows firsts = refl
-same_told [] (o ∷ others) rows firsts = cc
-same_told (t ∷ told) [] rows firsts = cc
-same_told (t ∷ told) (o ∷ others) rows firsts =
-    let row : t.row ≡ o.row = heads rows in
-    let first : t.first ≡ o.first = heads firsts in
-    let front : t ≡ o = λ i. record { row = row i; first = first i } in
-    let rest : told ≡ others = same_told told others (tails rows) (tails firsts) in
-    cc (front, rest)
+told_one : (t o : ToldFault) → t.row ≡ o.row → t.first ≡ o.first → t ≡ o
+told_one t o row first = λ i. record { row = row i; first = first i }
 
 told_faults_one : (detail : Detail) (base : Disk) (patches : List Patch) (told others : List ToldFault)
     → AreToldFaults detail base patches told → AreToldFaults detail base patches others → told ≡ others
@@ -177,9 +95,10 @@ told_faults_one detail base patches told others is also =
     let rows = rows_one (HasFault detail.demands base patches) (map (λ t. t.row) told) (map (λ t. t.row) others) is.rows
     also.rows in
     let firsts = subst (λ some. AreSections detail base patches some (map (λ t. t.first) told))
-    (same_firsts told others rows) is.firsts in
-    same_told told others rows (sections_one detail base patches (map (λ t. t.row.first) others)
-    (map (λ t. t.first) told) (map (λ t. t.first) others) firsts also.firsts)
+    (same_parts (λ (t : ToldFault). t.row) (λ (row : FaultRow). row.first) told others rows) is.firsts in
+    same_told (λ (t : ToldFault). t.row) (λ (t : ToldFault). t.first) told_one told others rows
+    (sections_one detail base patches (map (λ t. t.row.first) others) (map (λ t. t.first) told)
+    (map (λ t. t.first) others) firsts also.firsts)
 
 -- ---- what there is without each rule
 

@@ -1,15 +1,16 @@
 -- The first refused line of a script, by tests of its words.
 use Rattle.std.proofs.Common.{◌≡◌, ◌≢◌, ℕ, ◌+◌, List, [], ◌∷◌, ◌++◌, length, map, Bool, true, false, not, ◌&&◌, refl}
-use Rattle.std.proofs.Common.{inl, inr}
+use Rattle.std.proofs.Common.{nat_lt, nat_le, inl, inr}
 use Rattle.std.specs.Prelude.{◌==◌, codes, Option, Some, None, is_some, IsUtf8}
 use Rattle.std.specs.Str.{is_utf8}
-use Rattle.std.specs.List.{Contains, list_all, list_any}
-use Rattle.std.proofs.lemmas.Bool.{and_parts}
+use Rattle.std.specs.List.{All, Contains, list_all, list_any}
+use Rattle.std.proofs.lemmas.Bool.{and_parts, ltb-true, leb-true}
 use Rattle.std.proofs.lemmas.List.Elements.{All-nil, All-cons}
 use Rattle.std.proofs.lemmas.Str.{IsUtf8-from_is_utf8, is_utf8-from_IsUtf8}
 use Rattle.patch_sets.proofs.Ids.{ne_from_false}
 use Rattle.crash_model.specs.Names.{is_group_byte}
-use Rattle.crash_model.specs.Script.{ArePlain, AreLines, Operand, PathOperand, GroupOperand, SlotOperand, said, Fits}
+use Rattle.crash_model.specs.Script.{ArePlain, AreLines, Operand, PathOperand, TargetOperand, PathsOperand}
+use Rattle.crash_model.specs.Script.{GroupOperand, SlotOperand, said, Fits}
 use Rattle.crash_model.specs.Script.{HasPaths, HasSlots, Line, Skipped, Start, Reads, IsSkipped, AreAccepted}
 use Rattle.crash_model.specs.Script.{IsFirstRefused, IsBadLine, IsBadPath, IsScriptRefusal, text_of_lines}
 use Rattle.crash_model.specs.declared.refusals.ScriptFault.TheVariants.{BadUtf8, BadLine, BadPath, NoStart}
@@ -19,7 +20,7 @@ use Rattle.uniqueness_laws.specs.Words.{is_word}
 use Rattle.worked_example_laws.specs.Spelled.{is_plain, line_of, lines_of, are_acts}
 use Rattle.uniqueness_laws.proofs.Pieces.{pieces}
 use Rattle.uniqueness_laws.proofs.Readings.{begins_comment, says, reads_says, fit, are_formed, form_at, no_form}
-use Rattle.uniqueness_laws.proofs.Readings.{read_as}
+use Rattle.uniqueness_laws.proofs.Readings.{read_as, is_some_word}
 use Rattle.uniqueness_laws.proofs.Scripts.{each_reads, no_start, get_contains, steps_accepted}
 use Rattle.worked_example_laws.proofs.Spelling.{word_if, not_false, lacks_if, plain_lines, steps_are}
 
@@ -98,12 +99,25 @@ bad_line_if before line e none = let told = telling line e in
 
 -- ---- text of a form, in which a word is no path
 
+some_words : (words : List (List ℕ)) → list_all is_some_word words ≡ true → All (λ word. word ≢ []) words
+some_words [] e = All-nil (λ word. word ≢ [])
+some_words ([] ∷ words) e = cc
+some_words ((c ∷ cs) ∷ words) e = All-cons (λ word. word ≢ []) (c ∷ cs) words (λ empty. cc) (some_words words e)
+
 pub fits_if : (operands : List Operand) (words : List (List ℕ)) → fit operands words ≡ true → Fits operands words
 fits_if [] [] e = tt
 fits_if [] (word ∷ words) e = cc
 fits_if (PathOperand p ∷ operands) [] e = cc
 fits_if (PathOperand p ∷ operands) ([] ∷ words) e = cc
 fits_if (PathOperand p ∷ operands) ((c ∷ cs) ∷ words) e = ((λ empty. cc), fits_if operands words e)
+fits_if (TargetOperand target ∷ operands) [] e = cc
+fits_if (TargetOperand target ∷ operands) ([] ∷ words) e = cc
+fits_if (TargetOperand target ∷ operands) ((c ∷ cs) ∷ words) e = ((λ empty. cc), fits_if operands words e)
+fits_if (PathsOperand paths ∷ []) words e =
+    let first = and_parts (nat_lt 0 (length words)) (nat_le (length words) 4 && list_all is_some_word words) e in
+    let more = and_parts (nat_le (length words) 4) (list_all is_some_word words) first.1 in
+    (ltb-true 0 (length words) first.0, leb-true (length words) 4 more.0, some_words words more.1)
+fits_if (PathsOperand paths ∷ operand ∷ operands) words e = cc
 fits_if (SlotOperand slot ∷ []) [] e = tt
 fits_if (SlotOperand slot ∷ []) ([] ∷ words) e = cc
 fits_if (SlotOperand slot ∷ []) ((c ∷ cs) ∷ words) e = ((λ empty. cc), fits_if [] words e)

@@ -1,10 +1,10 @@
 -- There is an answer.
 use Rattle.std.proofs.Common.{◌≡◌, ℕ, ◌<◌, List, length, Bool, true, false, refl, sym, subst, inl, inr, nat_lt}
-use Rattle.std.specs.Prelude.{◌⊎◌, Result, Ok, Err}
+use Rattle.std.specs.Prelude.{◌⊎◌, Result, Ok, Err, None, if◌then◌else◌}
 use Rattle.std.proofs.lemmas.Bool.{ltb-true}
 use Rattle.patch_sets.specs.Closed.{AreEarlier}
 use Rattle.report_model.specs.Answer.{Answer, Refused, Reported, HasBase, HasGraph, IsVisited, ordering_rules}
-use Rattle.report_model.specs.Answer.{bad_script, untraced}
+use Rattle.report_model.specs.Answer.{bad_script, untraced, asked_by}
 use Rattle.report_model.specs.Answer.{bad_geometry, bad_base, bad_trace, too_many, reported}
 use Rattle.crash_model.specs.Disk.{Disk, new_disk, IsGeometry}
 use Rattle.crash_model.specs.Reasons.{explanation}
@@ -22,8 +22,8 @@ use Rattle.crash_model.specs.Script.{IsScript, IsScriptRefusal}
 use Rattle.crash_model.specs.declared.refusals.ScriptFault.{ScriptFault}
 use Rattle.crash_model.specs.declared.steps.Step.{Step}
 use Rattle.report_model.proofs.Leading.{failing_closed, closed_are_left}
-use Rattle.worked_example_laws.specs.Computed.{closed_sets, graph_of, demands_of}
-use Rattle.worked_example_laws.specs.Spelled.{is_geometry}
+use Rattle.worked_example_laws.specs.Computed.{closed_sets, graph_of}
+use Rattle.worked_example_laws.specs.Spelled.{is_geometry, demands_by}
 use Rattle.worked_example_laws.proofs.Answering.{geometry_if, no_geometry}
 use Rattle.worked_example_laws.proofs.FailingSets.{counts_closed}
 use Rattle.worked_example_laws.proofs.Graphs.{graph_is}
@@ -54,7 +54,7 @@ module _ (settings : Settings) (by : ReportBy) (limit : ℕ) (bytes : List ℕ) 
             ),
           )
       by_limit false e =
-          let demands = demands_of settings.strict settings.atomic base has.steps in
+          let demands = demands_by settings base has.steps in
           let failing = some_failing demands base patches before in
           let closed = failing_closed demands base patches failing.0 failing.1 in
           let body = some_body settings by limit demands base last patches before failing.0 failing.1 failing.2 in
@@ -63,6 +63,7 @@ module _ (settings : Settings) (by : ReportBy) (limit : ℕ) (bytes : List ℕ) 
             closed = length (closed_sets (deps_of patches));
             failing = length failing.0;
             explanation = when settings.explain (explanation (ordering_rules settings) base last patches);
+            promises = if settings.explain then demands.promises else None;
             body = body.0;
           } in (
             Reported (report settings told) (length failing.0),
@@ -72,7 +73,7 @@ module _ (settings : Settings) (by : ReportBy) (limit : ℕ) (bytes : List ℕ) 
               last = last;
               patches = patches;
               graph = has;
-              demanded = are_demands settings.strict settings.atomic base has.steps;
+              demanded = are_demands (asked_by settings has.steps) base has.steps;
               report = record {
                 total = length (closed_sets (deps_of patches));
                 counted = counts_closed patches (length (closed_sets (deps_of patches))) before refl;

@@ -20,7 +20,7 @@ use Rattle.crash_model.specs.RuleUse.{pairs_of}
 use Rattle.report_model.specs.Needs.{Without, RuleUsage, Unused, TooMany, Used, ToldRule, IsFirstNew}
 use Rattle.report_model.specs.Needs.{IsWithout, IsRuleUsage, AreToldRules}
 use Rattle.crash_model.specs.Replay.{image_after_replay}
-use Rattle.report_model.specs.Report.{Detail, Section, AreSections, IsLed, replay_of}
+use Rattle.report_model.specs.Report.{Detail, Section, AreSections, IsLed}
 use Rattle.crash_model.specs.Rules.{rules_in_first}
 use Rattle.crash_model.specs.FaultRows.{HasFault, IsFirst, IsRow}
 use Rattle.report_model.specs.Summary.{ToldFault, AreToldFaults}
@@ -34,7 +34,7 @@ use Rattle.crash_model.specs.declared.settings.Settings.{Settings}
 use Rattle.crash_model.specs.declared.visit.ReportBy.{ReportBy}
 use Rattle.crash_model.specs.declared.visit.ReportBy.TheVariants.{BySet, ByFault, ByRule}
 use Rattle.report_model.proofs.Leading.{failing_closed, sections_lead}
-use Rattle.worked_example_laws.specs.Computed.{closed_sets, failing_under, fails_under, graph_of}
+use Rattle.worked_example_laws.specs.Computed.{closed_sets, failing_under, fails_under, graph_of, section_with}
 use Rattle.worked_example_laws.proofs.ClosedSets.{closed_are_all, apart_filter, from_filter, to_filter}
 use Rattle.worked_example_laws.proofs.FailingSets.{counts_closed, under_at, in_under, list_of}
 use Rattle.worked_example_laws.proofs.Graphs.{graph_is, earlier}
@@ -70,7 +70,7 @@ some_failing demands base patches before =
 module _ (detail : Detail) (base : Disk) (patches : List Patch) (before : AreEarlier (deps_of patches)) (sets : List ℕ)
     (exactly : AreAllInOrder (IsFailingUnder detail.demands base patches) sets) (up : Ascends sets) where
   abbrev found : ℕ → List Fault
-  found set = faults_under detail.demands (image_after_replay (image_of base patches set))
+  found set = faults_under detail.demands set (image_after_replay (image_of base patches set))
 
   abbrev with_fault : Fault → List ℕ
   with_fault f = filter (λ set. has_fault f (found set)) sets
@@ -180,12 +180,7 @@ module _ (detail : Detail) (base : Disk) (patches : List Patch) (before : AreEar
       -- the section of one set, before others
       head_is : {set : ℕ} (section : Section) (others : List Section)
           → (one : AreSections detail base patches (set ∷ []) (section ∷ []))
-          → section ∷ others ≡ record {
-            set = set;
-            writes = one.0;
-            replay = replay_of detail.explain (image_of base patches set);
-            found = faults_under detail.demands (image_after_replay (image_of base patches set));
-          } ∷ others
+          → section ∷ others ≡ section_with detail base patches set one.0 ∷ others
       head_is section others one = ap (λ (s : Section). s ∷ others) (heads one.4)
 
   told_faults : (told : List ToldFault) × AreToldFaults detail base patches told × All (λ t. IsLed patches t.first) told

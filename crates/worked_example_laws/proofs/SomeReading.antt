@@ -12,10 +12,11 @@ use Rattle.patch_sets.proofs.Ids.{false_from_ne}
 use Rattle.crash_model.proofs.Cuts.{Lacks}
 use Rattle.crash_model.specs.Lists.{join_of}
 use Rattle.crash_model.specs.Names.{IsName, is_name_byte}
-use Rattle.crash_model.specs.Script.{AreLines, text_of_lines, path_text, IsPath, IsPathWord, Operand, PathOperand}
+use Rattle.crash_model.specs.Script.{AreLines, text_of_lines, path_text, IsPath, IsPathWord, IsTargetWord}
+use Rattle.crash_model.specs.Script.{Operand, PathOperand, TargetOperand, PathsOperand}
 use Rattle.crash_model.specs.Script.{GroupOperand, SlotOperand, said, HasPaths, HasSlots, HasForm, Line, Skipped}
 use Rattle.crash_model.specs.Script.{Start, Says, IsSkipped}
-use Rattle.crash_model.specs.Slots.{slot_text, IsSlotWord}
+use Rattle.crash_model.specs.Slots.{IsSlotWord}
 use Rattle.crash_model.specs.declared.operations.Slot.TheVariants.{Zero, One, Two, Three}
 use Rattle.crash_model.specs.Script.{Reads, AreSteps, IsScript, AreAccepted, IsScriptRefusal}
 use Rattle.crash_model.specs.declared.names.Path.{Path}
@@ -184,6 +185,25 @@ path_or_not word = by_case (path_of word) refl
     by_case None e = inr (no_path word e)
     by_case (Some path) e = let it = path_here word path e in inl (path, it.0, it.1)
 
+target_or_not : (word : List ℕ) → IsTargetWord word ⊎ (¬ (IsTargetWord word))
+target_or_not word = by (same_bytes word (codes "/")) (path_or_not word)
+  where
+    by : (word ≡ codes "/") ⊎ (word ≢ codes "/") → IsPathWord word ⊎ (¬ (IsPathWord word))
+        → IsTargetWord word ⊎ (¬ (IsTargetWord word))
+    by (inl root) path = inl (inl root)
+    by (inr other) (inl path) = inl (inr path)
+    by (inr other) (inr none) = inr (λ target. elim target [ inl root ↦ other root | inr path ↦ none path ])
+
+all_paths_or_not : (words : List (List ℕ)) → All IsPathWord words ⊎ (¬ (All IsPathWord words))
+all_paths_or_not [] = inl (All-nil IsPathWord)
+all_paths_or_not (word ∷ words) = by (path_or_not word) (all_paths_or_not words)
+  where
+    by : IsPathWord word ⊎ (¬ (IsPathWord word)) → All IsPathWord words ⊎ (¬ (All IsPathWord words))
+        → All IsPathWord (word ∷ words) ⊎ (¬ (All IsPathWord (word ∷ words)))
+    by (inl here) (inl more) = inl (All-cons IsPathWord word words here more)
+    by (inl here) (inr none) = inr (λ all. none (All-tail IsPathWord word words all))
+    by (inr none) more = inr (λ all. none (All-head IsPathWord word words all))
+
 paths_or_not : (operands : List Operand) (words : List (List ℕ)) → HasPaths operands words
     ⊎ (¬ (HasPaths operands words))
 paths_or_not [] words = inl (none words)
@@ -199,6 +219,17 @@ paths_or_not (PathOperand p ∷ operands) (word ∷ words) = by_parts (path_or_n
     by_parts (inl here) (inl more) = inl (here, more)
     by_parts (inl here) (inr none) = inr (λ paths. none paths.1)
     by_parts (inr none) more = inr (λ paths. none paths.0)
+paths_or_not (TargetOperand target ∷ operands) [] = inl tt
+paths_or_not (TargetOperand target ∷ operands) (word ∷ words) =
+    by_parts (target_or_not word) (paths_or_not operands words)
+  where
+    by_parts : IsTargetWord word ⊎ (¬ (IsTargetWord word)) → HasPaths operands words ⊎ (¬ (HasPaths operands words))
+        → HasPaths (TargetOperand target ∷ operands) (word ∷ words)
+        ⊎ (¬ (HasPaths (TargetOperand target ∷ operands) (word ∷ words)))
+    by_parts (inl here) (inl more) = inl (here, more)
+    by_parts (inl here) (inr none) = inr (λ paths. none paths.1)
+    by_parts (inr none) more = inr (λ paths. none paths.0)
+paths_or_not (PathsOperand paths ∷ operands) words = all_paths_or_not words
 paths_or_not (SlotOperand slot ∷ operands) [] = inl tt
 paths_or_not (SlotOperand slot ∷ operands) (word ∷ words) = paths_or_not operands words
 paths_or_not (GroupOperand a ∷ operands) [] = inl tt
@@ -239,6 +270,10 @@ slots_or_not [] [] = inl tt
 slots_or_not [] (word ∷ words) = inl tt
 slots_or_not (PathOperand p ∷ operands) [] = inl tt
 slots_or_not (PathOperand p ∷ operands) (word ∷ words) = slots_or_not operands words
+slots_or_not (TargetOperand target ∷ operands) [] = inl tt
+slots_or_not (TargetOperand target ∷ operands) (word ∷ words) = slots_or_not operands words
+slots_or_not (PathsOperand paths ∷ operands) [] = inl tt
+slots_or_not (PathsOperand paths ∷ operands) (word ∷ words) = slots_or_not operands words
 slots_or_not (GroupOperand a ∷ operands) [] = inl tt
 slots_or_not (GroupOperand a ∷ operands) (word ∷ words) = slots_or_not operands words
 slots_or_not (SlotOperand slot ∷ operands) [] = inl tt

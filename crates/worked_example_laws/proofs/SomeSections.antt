@@ -9,11 +9,10 @@ use Rattle.patch_sets.specs.declared.write.BlockWrite.{BlockWrite}
 use Rattle.patch_sets.proofs.Bits.{eq_or_not}
 use Rattle.patch_sets.proofs.Writes.{AreCutTo, cut_none, cut_skip, cut_alone, cut_joined, runs_from_cut}
 use Rattle.crash_model.specs.Disk.{Disk}
-use Rattle.crash_model.specs.Checker.{faults_under}
-use Rattle.crash_model.specs.Patches.{homes_of, image_of}
-use Rattle.crash_model.specs.Replay.{image_after_replay}
-use Rattle.report_model.specs.Report.{Detail, Section, AreSections, replay_of}
+use Rattle.crash_model.specs.Patches.{homes_of}
+use Rattle.report_model.specs.Report.{Detail, Section, AreSections}
 use Rattle.crash_model.specs.declared.patches.Patch.{Patch}
+use Rattle.worked_example_laws.specs.Computed.{section_with}
 
 last_of : (ws : List BlockWrite) → (ws ≡ []) ⊎ ((front : List BlockWrite) × (last : BlockWrite)
     × (ws ≡ front ++ last ∷ []))
@@ -99,22 +98,12 @@ some_sections detail base patches [] = ([], refl)
 some_sections detail base patches (set ∷ some) =
     let writes = some_writes (homes_of patches) set in
     let rest = some_sections detail base patches some in
-    let section : Section = record {
-      set = set;
-      writes = writes.0;
-      replay = replay_of detail.explain (image_of base patches set);
-      found = faults_under detail.demands (image_after_replay (image_of base patches set));
-    } in
+    let section : Section = section_with detail base patches set writes.0 in
     (section ∷ rest.0, (writes.0, rest.0, writes.1, rest.1, refl))
 
 pub some_section : (detail : Detail) (base : Disk) (patches : List Patch) (set : ℕ) → (section : Section)
     × AreSections detail base patches (set ∷ []) (section ∷ [])
 some_section detail base patches set =
     let writes = some_writes (homes_of patches) set in
-    let section : Section = record {
-      set = set;
-      writes = writes.0;
-      replay = replay_of detail.explain (image_of base patches set);
-      found = faults_under detail.demands (image_after_replay (image_of base patches set));
-    } in
+    let section : Section = section_with detail base patches set writes.0 in
     (section, (writes.0, [], writes.1, refl, refl))

@@ -6,13 +6,15 @@ use Rattle.std.specs.List.{All, Contains, list_all, list_any}
 use Rattle.std.proofs.lemmas.Bool.{and_parts, ltb-true, leb-true}
 use Rattle.std.proofs.lemmas.List.Elements.{All-nil, All-cons, All-append}
 use Rattle.crash_model.specs.Names.{IsWord, IsName, is_name_byte, is_group_byte}
-use Rattle.crash_model.specs.Script.{ArePlain, IsPath, Operand, PathOperand, GroupOperand, SlotOperand, said, AreLawful, AreSteps}
-use Rattle.crash_model.specs.Script.{IsScript}
+use Rattle.crash_model.specs.Script.{ArePlain, IsPath, IsTarget, Operand, PathOperand, TargetOperand, PathsOperand}
+use Rattle.crash_model.specs.Script.{GroupOperand, SlotOperand, said, AreLawful, AreSteps, IsScript}
 use Rattle.crash_model.specs.declared.names.Path.{Path}
 use Rattle.crash_model.specs.declared.steps.Act.{Act}
+use Rattle.crash_model.specs.declared.steps.Target.{Target}
+use Rattle.crash_model.specs.declared.steps.Target.TheVariants.{Root, At}
 use Rattle.worked_example_laws.specs.Examples.{numbered_steps}
 use Rattle.uniqueness_laws.specs.Words.{is_word}
-use Rattle.worked_example_laws.specs.Spelled.{is_path, are_lawful, is_act, line_of, is_plain, are_acts, script}
+use Rattle.worked_example_laws.specs.Spelled.{is_path, is_target, are_lawful, is_act, line_of, is_plain, are_acts, script}
 use Rattle.patch_sets.proofs.Ids.{true_from_eq}
 
 pub word_if : (passes : ℕ → Bool) (word : List ℕ) → is_word passes word ≡ true → IsWord passes word
@@ -39,11 +41,34 @@ path_if path e =
       last = word_if is_name_byte path.last more.1;
     }
 
+target_if : (target : Target) → is_target target ≡ true → IsTarget target
+target_if Root e = tt
+target_if (At path) e = path_if path e
+
+paths_if : (paths : List Path) → list_all is_path paths ≡ true → All IsPath paths
+paths_if [] e = All-nil IsPath
+paths_if (path ∷ paths) e =
+    let parts = and_parts (is_path path) (list_all is_path paths) e in
+    All-cons IsPath path paths (path_if path parts.0) (paths_if paths parts.1)
+
 lawful_if : (operands : List Operand) → are_lawful operands ≡ true → AreLawful operands
 lawful_if [] e = tt
 lawful_if (PathOperand path ∷ operands) e =
     let parts = and_parts (is_path path) (are_lawful operands) e in
     (path_if path parts.0, lawful_if operands parts.1)
+lawful_if (TargetOperand target ∷ operands) e =
+    let parts = and_parts (is_target target) (are_lawful operands) e in
+    (target_if target parts.0, lawful_if operands parts.1)
+lawful_if (PathsOperand paths ∷ operands) e =
+    let parts = and_parts (nat_lt 0 (length paths) && (nat_le (length paths) 4 && list_all is_path paths))
+    (are_lawful operands) e in
+    let first = and_parts (nat_lt 0 (length paths)) (nat_le (length paths) 4 && list_all is_path paths) parts.0 in
+    let more = and_parts (nat_le (length paths) 4) (list_all is_path paths) first.1 in (
+      ltb-true 0 (length paths) first.0,
+      leb-true (length paths) 4 more.0,
+      paths_if paths more.1,
+      lawful_if operands parts.1,
+    )
 lawful_if (GroupOperand name ∷ operands) e =
     let parts = and_parts (is_word is_group_byte name) (are_lawful operands) e in
     (word_if is_group_byte name parts.0, lawful_if operands parts.1)

@@ -3,7 +3,7 @@ use Rattle.std.proofs.Common.{◌≡◌, ℕ, List, refl, sym, subst, inl, inr}
 use Rattle.std.specs.Prelude.{◌⊎◌, Result, Ok, Err}
 use Rattle.report_model.specs.Answer.{Answer, Refused, Reported, HasBase, HasGraph, IsReport, IsUntraced, IsVisited}
 use Rattle.report_model.specs.Answer.{bad_script, bad_geometry, bad_base, bad_trace, untraced, too_many, reported}
-use Rattle.report_model.specs.Answer.{ordering_rules}
+use Rattle.report_model.specs.Answer.{ordering_rules, asked_by}
 use Rattle.crash_model.specs.Disk.{Disk, new_disk, IsGeometry}
 use Rattle.crash_model.specs.Patches.{ExceedsLimit}
 use Rattle.crash_model.specs.Refusals.{run_of_script, run_of_trace}
@@ -23,7 +23,7 @@ module _ (settings : Settings) (by : ReportBy) (limit : ℕ) where
   abbrev pub ComesOfGraph : Disk → List Step → Tracing → List Patch → Answer → Type 0
   ComesOfGraph base steps last patches (Refused fault) = ExceedsLimit patches limit × (fault ≡ TooMany)
   ComesOfGraph base steps last patches (Reported text failing) =
-      (demands : Demands) × AreDemands settings.strict settings.atomic base steps demands
+      (demands : Demands) × AreDemands (asked_by settings steps) base steps demands
       × IsReport settings by limit demands base last patches text failing
 
   abbrev pub ComesOfTrace : Disk → List Step → Result Tracing TraceFault → Answer → Type 0

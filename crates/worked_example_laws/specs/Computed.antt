@@ -11,9 +11,11 @@ use Rattle.patch_sets.specs.Closed.{IsClosed}
 use Rattle.crash_model.specs.Failing.{IsFailing}
 use Rattle.crash_model.specs.Patches.{CountsClosed, deps_of, homes_of, image_of}
 use Rattle.patch_sets.specs.declared.write.BlockWrite.{BlockWrite}
-use Rattle.report_model.specs.Report.{Detail, replay_of, Section}
+use Rattle.report_model.specs.Report.{Detail, replay_of, shows_of, Section}
 use Rattle.crash_model.specs.Atomic.{disks_of}
-use Rattle.crash_model.specs.Checker.{Demands, faults_under}
+use Rattle.crash_model.specs.Checker.{Demands, Asked, faults_under}
+use Rattle.crash_model.specs.Lists.{when}
+use Rattle.crash_model.specs.Promises.{promises_of}
 use Rattle.crash_model.specs.Strict.{stays_live}
 use Rattle.crash_model.specs.Disk.{Disk, byte, with_bytes}
 use Rattle.crash_model.specs.Layout.{kind_of, links_of, pointer_of, map_of, is_live, counts, is_entry}
@@ -34,13 +36,13 @@ set_below zero passes = 0
 set_below (suc n) passes = if passes n then with_id (set_below n passes) n else set_below n passes
 
 -- whether the patch at one place depends on the one at another
-abbrev pub depends_if : List Rule → Bool → List (List ℕ × List ℕ) → Option Emitted → Option Emitted → Bool
-depends_if rules whole links None p = false
-depends_if rules whole links (Some q) None = false
-depends_if rules whole links (Some q) (Some p) = depends rules whole links q p
+abbrev pub depends_if : List Rule → Bool → List (List ℕ × List ℕ) → Option Emitted → ℕ → Option Emitted → Bool
+depends_if rules whole links None id p = false
+depends_if rules whole links (Some q) id None = false
+depends_if rules whole links (Some q) id (Some p) = depends rules whole links q id p
 
 abbrev pub needs : List Rule → Bool → List (List ℕ × List ℕ) → List Emitted → ℕ → ℕ
-needs rules whole links all q = set_below q (λ p. depends_if rules whole links (slice_get all q) (slice_get all p))
+needs rules whole links all q = set_below q (λ p. depends_if rules whole links (slice_get all q) p (slice_get all p))
 
 -- the patches from place q on, on the disk after those before it
 abbrev pub patches_from : List Rule → Bool → List (List ℕ × List ℕ) → List Emitted → ℕ → Disk → List Emitted
@@ -84,18 +86,18 @@ failing_sets base patches = filter (fails base patches) (closed_sets (deps_of pa
 -- the same by what is demanded of images
 abbrev pub fails_under : Demands → Disk → List Patch → ℕ → Bool
 fails_under demands base patches set =
-    not (is_none_found (faults_under demands (image_after_replay (image_of base patches set))))
+    not (is_none_found (faults_under demands set (image_after_replay (image_of base patches set))))
 
 abbrev pub failing_under : Demands → Disk → List Patch → List ℕ
 failing_under demands base patches = filter (fails_under demands base patches) (closed_sets (deps_of patches))
 
 -- nothing is demanded but that none of the six faults holds
 abbrev pub nothing_more : Demands
-nothing_more = record { kept = None; disks = None }
+nothing_more = record { kept = None; disks = None; promises = None; counted = None }
 
 -- nor any of the two where a script keeps these inodes
 abbrev pub keeping : ℕ → Demands
-keeping kept = record { kept = Some kept; disks = None }
+keeping kept = record { kept = Some kept; disks = None; promises = None; counted = None }
 
 -- the kept inodes that a checker gets
 abbrev pub kept_of : Bool → Disk → List Step → Option ℕ
@@ -108,8 +110,13 @@ shown_of false base steps = None
 shown_of true base steps = Some (disks_of base steps)
 
 -- what a script demands
-abbrev pub demands_of : Bool → Bool → Disk → List Step → Demands
-demands_of strict atomic base steps = record { kept = kept_of strict base steps; disks = shown_of atomic base steps }
+abbrev pub demands_of : Asked → Disk → List Step → Demands
+demands_of asked base steps = record {
+  kept = kept_of asked.strict base steps;
+  disks = shown_of asked.atomic base steps;
+  promises = when asked.tells (promises_of asked.kind asked.durable base steps);
+  counted = asked.counted;
+}
 
 -- the number of ids of a set below 2 ^ n
 abbrev pub ones_below : ℕ → ℕ → ℕ
@@ -248,13 +255,19 @@ abbrev pub are_runs : List ℕ → ℕ → List BlockWrite → Bool
 are_runs homes set writes =
     bytes_eq (flat_map (λ w. ids_of (length homes) w.ids) writes) (ids_of (length homes) set) && are_cut homes writes
 
-abbrev pub section_of : Detail → Disk → List Patch → ℕ → Section
-section_of detail base patches set = record {
+-- the section of a set to which these block writes lead
+abbrev pub section_with : Detail → Disk → List Patch → ℕ → List BlockWrite → Section
+section_with detail base patches set writes = record {
   set = set;
-  writes = writes_of (homes_of patches) set;
+  writes = writes;
   replay = replay_of detail.explain (image_of base patches set);
-  found = faults_under detail.demands (image_after_replay (image_of base patches set));
+  found = faults_under detail.demands set (image_after_replay (image_of base patches set));
+  shows = shows_of detail set (image_after_replay (image_of base patches set))
+      (faults_under detail.demands set (image_after_replay (image_of base patches set)));
 }
+
+abbrev pub section_of : Detail → Disk → List Patch → ℕ → Section
+section_of detail base patches set = section_with detail base patches set (writes_of (homes_of patches) set)
 
 abbrev pub have_runs : List Patch → List ℕ → Bool
 have_runs patches some = list_all (λ set. are_runs (homes_of patches) set (writes_of (homes_of patches) set)) some

@@ -4,6 +4,7 @@ use Rattle.crash_model.specs.Disk.{overwrite}
 use Rattle.crash_model.specs.Layout.{generation_of, mark_generation}
 use Rattle.crash_model.specs.Plan.{plan_of, next_generation}
 use Rattle.crash_model.specs.Faults.{each_slot, each_entry, namers, entries_to, faults}
+use Rattle.crash_model.specs.Promises.{broken_lines}
 use Rattle.crash_model.specs.Strict.{reach_in, is_reached, strict_faults}
 
 -- operations on a disk
@@ -11,10 +12,10 @@ unfoldable pub planner : Unit {0}
 unfolding overwrite each_below some_below first_below plan_of generation_of mark_generation next_generation
 planner = tt
 
--- the six faults of a disk
+-- the six faults of a disk, where no line promises
 unfoldable pub checker : Unit {0}
 unfolding overwrite each_below some_below first_below generation_of mark_generation each_slot each_entry namers entries_to
-    faults
+    faults broken_lines
 checker = tt
 
 -- those of a strict checker, after operations

@@ -1,8 +1,9 @@
 -- Scripts that are written down as acts, and tests of what a script's words are.
 use Rattle.std.specs.Prelude.{ℕ, ◌+◌, List, [], ◌∷◌, ◌++◌, length, map, codes, Bool, true, false, not, ◌&&◌, ◌==◌}
-use Rattle.std.specs.Prelude.{nat_lt, nat_le, Result, Ok, Err}
+use Rattle.std.specs.Prelude.{nat_lt, nat_le, Result, Ok, Err, None}
 use Rattle.std.specs.List.{list_all, list_any}
-use Rattle.report_model.specs.Answer.{Answer, IsVisited, ordering_rules}
+use Rattle.report_model.specs.Answer.{Answer, IsVisited, ordering_rules, asked_by}
+use Rattle.crash_model.specs.Checker.{Demands}
 use Rattle.uniqueness_laws.specs.Words.{is_word}
 use Rattle.crash_model.specs.Disk.{Disk, new_disk}
 use Rattle.crash_model.specs.Lists.{join_of}
@@ -18,18 +19,29 @@ use Rattle.worked_example_laws.specs.Computed.{closed_sets, failing_under, deman
 use Rattle.worked_example_laws.specs.Computed.{is_accepted, have_runs}
 use Rattle.worked_example_laws.specs.Examples.{numbered_steps}
 use Rattle.crash_model.specs.Names.{is_name_byte, is_group_byte}
-use Rattle.crash_model.specs.Script.{text_of_lines, Operand, PathOperand, GroupOperand, SlotOperand, said, words_of}
+use Rattle.crash_model.specs.Script.{text_of_lines, Operand, PathOperand, TargetOperand, PathsOperand, GroupOperand}
+use Rattle.crash_model.specs.Script.{SlotOperand, said, words_of}
+use Rattle.crash_model.specs.declared.promises.TheConstants.{MOST_PATHS}
 use Rattle.crash_model.specs.declared.names.Path.{Path}
 use Rattle.crash_model.specs.declared.steps.Act.{Act}
+use Rattle.crash_model.specs.declared.steps.Target.{Target}
+use Rattle.crash_model.specs.declared.steps.Target.TheVariants.{Root, At}
 
 abbrev pub is_path : Path → Bool
 is_path path =
     nat_le (length path.through.items) 3
     && (list_all (is_word is_name_byte) path.through.items && is_word is_name_byte path.last)
 
+abbrev pub is_target : Target → Bool
+is_target Root = true
+is_target (At path) = is_path path
+
 abbrev pub are_lawful : List Operand → Bool
 are_lawful [] = true
 are_lawful (PathOperand path ∷ operands) = is_path path && are_lawful operands
+are_lawful (TargetOperand target ∷ operands) = is_target target && are_lawful operands
+are_lawful (PathsOperand paths ∷ operands) =
+    (nat_lt 0 (length paths) && (nat_le (length paths) MOST_PATHS && list_all is_path paths)) && are_lawful operands
 are_lawful (GroupOperand name ∷ operands) = is_word is_group_byte name && are_lawful operands
 are_lawful (SlotOperand slot ∷ operands) = are_lawful operands
 
@@ -83,6 +95,10 @@ abbrev pub is_geometry : Settings → Bool
 is_geometry settings =
     nat_le 16 settings.blocks && (nat_le settings.blocks 128 && nat_le (settings.journal + 6) settings.blocks)
 
+-- what the settings demand of a script with these steps
+abbrev pub demands_by : Settings → Disk → List Step → Demands
+demands_by settings base steps = demands_of (asked_by settings steps) base steps
+
 -- the script is read, its acts are accepted, these sets fail, and this many sets are closed
 abbrev pub is_told : Settings → ℕ → List Act → List Act → ℕ → List ℕ → Bool
 is_told settings limit before after closed failing =
@@ -93,7 +109,7 @@ is_told settings limit before after closed failing =
     && (is_accepted (trace_from settings.module (trace_start settings.whole_blocks base) (trace_steps before after))
     && ((length (closed_sets (deps_of patches)) == closed)
     && (are_in_order (length (deps_of patches)) failing
-    (failing_under (demands_of settings.strict settings.atomic base (trace_steps before after)) base patches)
+    (failing_under (demands_by settings base (trace_steps before after)) base patches)
     && (nat_le closed limit && have_runs patches failing)))))))
 
 -- the answer of a visit within this limit, whose report lists each failing set
@@ -114,6 +130,8 @@ settings_of kind blocks journal json = record {
   generations = false;
   strict = false;
   atomic = false;
+  durable = false;
+  counted = None;
 }
 
 -- the same with the strict checker
@@ -130,4 +148,6 @@ strict_settings_of kind blocks journal json = record {
   generations = false;
   strict = true;
   atomic = false;
+  durable = false;
+  counted = None;
 }

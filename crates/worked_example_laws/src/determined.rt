@@ -7,7 +7,7 @@ ghost use Rattle.crash_model.specs.Disk.{Disk};
 ghost use Rattle.crash_model.specs.Failing.{IsFailing};
 ghost use Rattle.crash_model.specs.Patches.{CountsClosed};
 ghost use Rattle.crash_model.specs.Script.{IsScript, IsScriptRefusal};
-ghost use Rattle.crash_model.specs.Checker.{Demands, AreDemands, IsFailingUnder};
+ghost use Rattle.crash_model.specs.Checker.{Demands, Asked, AreDemands, IsFailingUnder};
 ghost use Rattle.crash_model.specs.Strict.{IsToldKept};
 ghost use Rattle.crash_model.specs.Trace.{Tracing, IsGraphOf};
 ghost use Rattle.crash_model.specs.declared.patches.Patch.{Patch};
@@ -56,10 +56,10 @@ pub fn what_is_kept_is_determined()
 
 /// What a script demands is determined.
 pub fn what_is_demanded_is_determined()
-    ensures some { (strict atomic : Bool) (base : Disk) (steps : List Step) → (demands : Demands)
-        × AreDemands strict atomic base steps demands }
-    ensures one { (strict atomic : Bool) (base : Disk) (steps : List Step) (demands other : Demands)
-        → AreDemands strict atomic base steps demands → AreDemands strict atomic base steps other → demands ≡ other }
+    ensures some { (asked : Asked) (base : Disk) (steps : List Step) → (demands : Demands)
+        × AreDemands asked base steps demands }
+    ensures one { (asked : Asked) (base : Disk) (steps : List Step) (demands other : Demands)
+        → AreDemands asked base steps demands → AreDemands asked base steps other → demands ≡ other }
 {}
 
 /// The number of closed sets and the list of those that fail are determined.

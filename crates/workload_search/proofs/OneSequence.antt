@@ -14,7 +14,7 @@ use Rattle.question_model.specs.Enough.{AreEnough, rules_in}
 use Rattle.enough_rules.specs.Asked.{IsFound}
 use Rattle.chosen_rules.specs.Sublists.{EnoughOf}
 use Rattle.chosen_rules.proofs.Graphs.{graph_by_others}
-use Rattle.question_model.specs.Workloads.{Search, Fails, steps_at, trace_at}
+use Rattle.question_model.specs.Workloads.{Search, Fails, workload_at, trace_at}
 use Rattle.question_model.specs.EnoughFor.{search_with}
 use Rattle.workload_search.specs.Asked.{IsEnoughAt}
 
@@ -36,13 +36,13 @@ fails_by_fewer s few many places among (demands, patches, is, (set, failing)) =
     )
 
 module _ (s : Search) (places : List ℕ) (last : Tracing) (demands : Demands) (traced : trace_at s places ≡ Ok last)
-    (told : AreDemands s.strict s.atomic s.base (steps_at s.pool places) demands) where
+    (told : AreDemands s.asked s.base (workload_at s places) demands) where
   -- a sequence has one graph, and demands of its images that are determined
   pub enough_at : (rules : List Rule) → AreEnough demands s.base last rules → ¬ (Fails (search_with s rules) places)
   enough_at rules enough (other, others, is, (set, failing)) =
       let same : is.last ≡ last = one_ok (trace_at s places) is.last last is.traced traced in
       let alike : other ≡ demands =
-      one_demands s.strict s.atomic s.base (steps_at s.pool places) other demands is.told told in
+      one_demands s.asked s.base (workload_at s places) other demands is.told told in
       let one : others ≡ enough.0 =
       graph_one rules s.base last others enough.0
       (subst (λ (t : Tracing). IsGraphOf rules s.base t others) same is.graph) enough.1 in

@@ -6,6 +6,7 @@ use Rattle.std.specs.List.{All}
 use Rattle.std.proofs.lemmas.List.{length-map}
 use Rattle.arrayvec.specs.ArrayVec.{ArrayVec}
 use Rattle.question_model.specs.Workloads.{Search}
+use Rattle.question_model.specs.Verdict.{IsAccepted}
 use Rattle.workload_search.specs.Tallies.{Tried, IsTally, HaveRoom}
 use Rattle.workload_search.specs.Tries.{IsBatch, IsExtendable, extensions, items_of, passing_of}
 use Rattle.workload_search.specs.declared.batch.Batch.{Batch}
@@ -27,14 +28,14 @@ pub record IsSearchedTo {A : Type 0} (s : Search) (pool made : ℕ) (tally : Tal
 
 module _ (s : Search) (pool : ℕ) where
   -- each beginning can be made longer
-  pub all_extendable : (number : ℕ) (beginnings : List (ArrayVec ℕ)) → pool ≡ length s.pool → number < 8
-      → AreBeginnings s number (map items_of beginnings) → All (IsExtendable s pool) beginnings
-  all_extendable number beginnings same low are = all_from (IsExtendable s pool) beginnings (λ places there.
+  pub all_extendable : (number : ℕ) (beginnings : List (ArrayVec ℕ)) → IsAccepted s [] → pool ≡ length s.pool
+      → number < 8 → AreBeginnings s number (map items_of beginnings) → All (IsExtendable s pool) beginnings
+  all_extendable number beginnings begins same low are = all_from (IsExtendable s pool) beginnings (λ places there.
       let it = (are.exactly places.items).0 (in_map items_of beginnings places there) in
       record {
         short = omega (arith, it.0, low);
         among = subst (λ n. All (λ place. place < n) places.items) (sym same) (beginning_among s places.items it.1);
-        accepted = beginning_accepted s places.items it.1;
+        accepted = beginning_accepted s places.items begins it.1;
       })
 
 -- how many sequences a level has

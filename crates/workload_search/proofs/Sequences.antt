@@ -3,7 +3,6 @@ use Rattle.std.proofs.Common.{◌≡◌, ◌≢◌, ℕ, zero, suc, ◌<◌, ◌
 use Rattle.std.proofs.Common.{sym, ap, subst, ◌∙◌, inl, inr, length-append, append_assoc, append-nil}
 use Rattle.std.specs.List.{All}
 use Rattle.std.proofs.lemmas.List.Elements.{All-push, All-nil, All-cons}
-use Rattle.crash_model.specs.Trace.{trace_start}
 use Rattle.question_model.specs.Workloads.{Search, IsWorkload, IsBeginning, IsRefusedFor, Fails}
 use Rattle.question_model.specs.declared.refusal.Refusal.{Refusal}
 use Rattle.question_model.specs.Verdict.{IsAccepted, IsRefusal}
@@ -93,10 +92,10 @@ beginning_among s front (inl none) = subst (All (λ place. place < length s.pool
     (All-nil (λ place. place < length s.pool))
 beginning_among s front (inr w) = w.0.among
 
--- the operations of a beginning are accepted
-pub beginning_accepted : (s : Search) (front : List ℕ) → IsBeginning s front → IsAccepted s front
-beginning_accepted s front (inl none) = subst (IsAccepted s) (sym none) (trace_start s.whole s.base, refl)
-beginning_accepted s front (inr w) = w.0.accepted
+-- the operations of a beginning are accepted, if nothing is refused before the first of them
+pub beginning_accepted : (s : Search) (front : List ℕ) → IsAccepted s [] → IsBeginning s front → IsAccepted s front
+beginning_accepted s front begins (inl none) = subst (IsAccepted s) (sym none) begins
+beginning_accepted s front begins (inr w) = w.0.accepted
 
 pub tried_among : (s : Search) (places : List ℕ) → IsTriedSequence s places
     → All (λ place. place < length s.pool) places

@@ -115,7 +115,7 @@ module _ {A : Type 0} where
     pub refused : (i : ℕ) → i < 12
         → slice_index new.refused i ≡ slice_index old.refused i + cond (is_refused_at i v) 1 0
     pub kinds_long : length new.kinds.items ≡ length old.kinds.items
-    pub kinds : (i : ℕ) (d : KindTally) → i < 9
+    pub kinds : (i : ℕ) (d : KindTally) → i < 10
         → IsKindAdded places (first_at i v) (slice_index_or old.kinds.items i d) (slice_index_or new.kinds.items i d)
 
   pub tally_added : (tried : List Tried) (places : List ℕ) (v : Verdict) (old new : Tally A) → IsTally tried old
@@ -166,8 +166,8 @@ module _ {A : Type 0} where
     pub failing : tally.failing + more < 2 ^ 128
     pub refused_long : length tally.refused ≡ 12
     pub refused : (i : ℕ) → i < 12 → slice_index tally.refused i + more < 2 ^ 128
-    pub kinds_long : length tally.kinds.items ≡ 9
-    pub kinds : (i : ℕ) (d : KindTally) → i < 9 → (slice_index_or tally.kinds.items i d).workloads + more < 2 ^ 128
+    pub kinds_long : length tally.kinds.items ≡ 10
+    pub kinds : (i : ℕ) (d : KindTally) → i < 10 → (slice_index_or tally.kinds.items i d).workloads + more < 2 ^ 128
 
   pub room_of : (more : ℕ) (tally : Tally A) → HasRoom more tally → IsRoom more tally
   room_of more tally has =
@@ -185,7 +185,7 @@ module _ {A : Type 0} where
     pub workloads : tally.workloads + later.workloads < 2 ^ 128
     pub failing : tally.failing + later.failing < 2 ^ 128
     pub refused : (i : ℕ) → i < 12 → slice_index tally.refused i + slice_index later.refused i < 2 ^ 128
-    pub long : (length tally.kinds.items ≡ 9) × (length later.kinds.items ≡ 9)
+    pub long : (length tally.kinds.items ≡ 10) × (length later.kinds.items ≡ 10)
     pub kinds : KindsHaveRoomFor tally.kinds.items later.kinds.items
 
   pub room_for : (tally later : Tally A) → HaveRoom tally later → IsRoomFor tally later
@@ -233,7 +233,7 @@ pub record IsEmpty (kind : KindTally) : Type 0 where
   pub workloads : kind.workloads ≡ 0
   pub first : told_first kind.first ≡ None
 
-pub no_kinds_yet : (kinds : List KindTally) (i : ℕ) → length kinds ≡ i → All IsEmpty kinds → 9 ≤ i → i ≤ 9
+pub no_kinds_yet : (kinds : List KindTally) (i : ℕ) → length kinds ≡ i → All IsEmpty kinds → 10 ≤ i → i ≤ 10
     → AreNoKinds kinds
 no_kinds_yet kinds i long empty all few = record {
   long = omega arith;

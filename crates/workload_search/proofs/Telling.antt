@@ -145,7 +145,7 @@ kind_passed kinds i shown are none = record {
   ];
 }
 
-pub all_kinds : (kinds : List KindTally) (i : ℕ) (shown : List ShownKind) → AreToldKindsBelow kinds i shown → 9 ≤ i
+pub all_kinds : (kinds : List KindTally) (i : ℕ) (shown : List ShownKind) → AreToldKindsBelow kinds i shown → 10 ≤ i
     → AreToldKinds kinds shown
 all_kinds kinds i shown are all = record {
   ordered = are.ordered;

@@ -32,7 +32,7 @@ reasons =
 abbrev kinds : List FaultKind
 kinds =
     kind.Dangling ∷ kind.Twice ∷ kind.Unwritten ∷ kind.LowLinks ∷ kind.MarkedFree ∷ kind.Wild ∷ kind.Lost
-    ∷ kind.NoBlock ∷ kind.HalfDone ∷ []
+    ∷ kind.NoBlock ∷ kind.HalfDone ∷ kind.BrokenPromise ∷ []
 
 reason_at_place : (a : Refusal) → slice_index_or reasons (reason_place a) refused.JournalFull ≡ a
 reason_at_place refused.TooManyPatches = refl
@@ -48,7 +48,7 @@ reason_at_place refused.FileFull = refl
 reason_at_place refused.LinksFull = refl
 reason_at_place refused.JournalFull = refl
 
-kind_at_place : (a : FaultKind) → slice_index_or kinds (kind_place a) kind.HalfDone ≡ a
+kind_at_place : (a : FaultKind) → slice_index_or kinds (kind_place a) kind.BrokenPromise ≡ a
 kind_at_place kind.Dangling = refl
 kind_at_place kind.Twice = refl
 kind_at_place kind.Unwritten = refl
@@ -58,13 +58,14 @@ kind_at_place kind.Wild = refl
 kind_at_place kind.Lost = refl
 kind_at_place kind.NoBlock = refl
 kind_at_place kind.HalfDone = refl
+kind_at_place kind.BrokenPromise = refl
 
 pub same_place : (a b : Refusal) → reason_place a ≡ reason_place b → a ≡ b
 same_place a b e = sym (reason_at_place a)
     ∙ (ap (λ i. slice_index_or reasons i refused.JournalFull) e ∙ reason_at_place b)
 
 pub same_kind : (a b : FaultKind) → kind_place a ≡ kind_place b → a ≡ b
-same_kind a b e = sym (kind_at_place a) ∙ (ap (λ i. slice_index_or kinds i kind.HalfDone) e ∙ kind_at_place b)
+same_kind a b e = sym (kind_at_place a) ∙ (ap (λ i. slice_index_or kinds i kind.BrokenPromise) e ∙ kind_at_place b)
 
 pub reason_low : (a : Refusal) → reason_place a < 12
 reason_low refused.TooManyPatches = omega arith
@@ -80,7 +81,7 @@ reason_low refused.FileFull = omega arith
 reason_low refused.LinksFull = omega arith
 reason_low refused.JournalFull = omega arith
 
-pub kind_low : (a : FaultKind) → kind_place a < 9
+pub kind_low : (a : FaultKind) → kind_place a < 10
 kind_low kind.Dangling = omega arith
 kind_low kind.Twice = omega arith
 kind_low kind.Unwritten = omega arith
@@ -90,6 +91,7 @@ kind_low kind.Wild = omega arith
 kind_low kind.Lost = omega arith
 kind_low kind.NoBlock = omega arith
 kind_low kind.HalfDone = omega arith
+kind_low kind.BrokenPromise = omega arith
 
 module _ (s : Search) (places : List ℕ) where
   -- ---- accepted

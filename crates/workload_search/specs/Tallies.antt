@@ -93,8 +93,8 @@ pub record IsTally {A : Type 0} (tried : List Tried) (tally : Tally A) : Type 0 
   pub failing : tally.failing ≡ number_of is_failing tried
   pub refused_long : length tally.refused ≡ 12
   pub refused : (i : ℕ) → i < 12 → slice_index tally.refused i ≡ number_of (is_refused_at i) tried
-  pub kinds_long : length tally.kinds.items ≡ 9
-  pub kinds : (i : ℕ) (d : KindTally) → i < 9 → IsKindTally i tried (slice_index_or tally.kinds.items i d)
+  pub kinds_long : length tally.kinds.items ≡ 10
+  pub kinds : (i : ℕ) (d : KindTally) → i < 10 → IsKindTally i tried (slice_index_or tally.kinds.items i d)
 
 -- this many more sequences can be counted
 pub record HasRoom {A : Type 0} (more : ℕ) (tally : Tally A) : Type 0 where
@@ -113,16 +113,16 @@ pub record HaveRoom {A : Type 0} (tally later : Tally A) : Type 0 where
 -- ---- lists of counts
 
 pub record AreNoKinds (kinds : List KindTally) : Type 0 where
-  pub long : length kinds ≡ 9
-  pub none : (i : ℕ) (d : KindTally) → i < 9 → IsKindTally i [] (slice_index_or kinds i d)
+  pub long : length kinds ≡ 10
+  pub none : (i : ℕ) (d : KindTally) → i < 10 → IsKindTally i [] (slice_index_or kinds i d)
 
 -- one more workload can be counted of each kind
 abbrev pub KindsHaveRoom : List KindTally → Type 0
-KindsHaveRoom kinds = (i : ℕ) (d : KindTally) → i < 9 → (slice_index_or kinds i d).workloads + 1 < 2 ^ 128
+KindsHaveRoom kinds = (i : ℕ) (d : KindTally) → i < 10 → (slice_index_or kinds i d).workloads + 1 < 2 ^ 128
 
 abbrev pub KindsHaveRoomFor : List KindTally → List KindTally → Type 0
 KindsHaveRoomFor kinds later =
-    (i : ℕ) (d : KindTally) → i < 9
+    (i : ℕ) (d : KindTally) → i < 10
     → (slice_index_or kinds i d).workloads + (slice_index_or later i d).workloads < 2 ^ 128
 
 -- what is counted of a kind with one more workload, which shows the kind if it has a first set
@@ -133,7 +133,7 @@ IsKindAdded places (Some set) old new =
 
 pub record AreKindsAdded (places : List ℕ) (firsts : List (Option ℕ)) (old new : List KindTally) : Type 0 where
   pub long : length new ≡ length old
-  pub each : (i : ℕ) (d : KindTally) → i < 9
+  pub each : (i : ℕ) (d : KindTally) → i < 10
       → IsKindAdded places (slice_index_or firsts i None) (slice_index_or old i d) (slice_index_or new i d)
 
 pub record IsKindJoined (later old new : KindTally) : Type 0 where
@@ -142,7 +142,7 @@ pub record IsKindJoined (later old new : KindTally) : Type 0 where
 
 pub record AreKindsJoined (later old new : List KindTally) : Type 0 where
   pub long : length new ≡ length old
-  pub each : (i : ℕ) (d : KindTally) → i < 9
+  pub each : (i : ℕ) (d : KindTally) → i < 10
       → IsKindJoined (slice_index_or later i d) (slice_index_or old i d) (slice_index_or new i d)
 
 pub record AreCountsJoined (old later new : List ℕ) : Type 0 where

@@ -23,7 +23,7 @@ pub(crate) fn no_kinds<A: Allocator>(alloc: A) -> Result<Vec<KindTally, A>, Allo
 
 /// Counts a workload for each kind that has a first set.
 pub(crate) fn add_kinds(kinds: &mut [KindTally], places: &Places, firsts: &[Option<u128>; KINDS])
-    requires long { length kinds.old ≡ 9 }
+    requires long { length kinds.old ≡ 10 }
     requires room { KindsHaveRoom kinds.old }
     ensures { AreKindsAdded places.now.items firsts.now kinds.old kinds.new }
 {
@@ -36,7 +36,7 @@ pub(crate) fn add_kinds(kinds: &mut [KindTally], places: &Places, firsts: &[Opti
 
 /// Adds what is counted of each kind to that of earlier workloads.
 pub(crate) fn join_kinds(kinds: &mut [KindTally], later: &[KindTally])
-    requires long { (length kinds.old ≡ 9) × (length later.now ≡ 9) }
+    requires long { (length kinds.old ≡ 10) × (length later.now ≡ 10) }
     requires room { KindsHaveRoomFor kinds.old later.now }
     ensures { AreKindsJoined later.now kinds.old kinds.new }
 {

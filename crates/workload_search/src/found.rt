@@ -13,7 +13,7 @@ use std::alloc::Allocator;
 impl<A: Allocator> Tally<A> {
     /// What is found of the sequences that were counted.
     pub(crate) fn found(&self) -> Found
-        requires { length self.now.kinds.items ≡ 9 }
+        requires { length self.now.kinds.items ≡ 10 }
         ensures { IsToldTally self.now result }
     {
         Found {
@@ -43,7 +43,7 @@ fn refused(counts: &[u128; REFUSALS]) -> ArrayVec<RefusedCount, REFUSALS>
 
 /// Each kind that is shown, in the order of their numbers.
 fn shown(kinds: &[KindTally]) -> ArrayVec<ShownKind, KINDS>
-    requires { length kinds.now ≡ 9 }
+    requires { length kinds.now ≡ 10 }
     ensures { AreToldKinds kinds.now result.items }
 {
     let mut shown = ArrayVec::new();
@@ -83,7 +83,7 @@ fn reason_at(place: usize) -> Refusal
 
 /// The kind at a place in the order of their numbers.
 fn kind_at(place: usize) -> FaultKind
-    requires { place < 9 }
+    requires { place < 10 }
     ensures { kind_place result ≡ place }
 {
     match place {
@@ -95,6 +95,7 @@ fn kind_at(place: usize) -> FaultKind
         5 => FaultKind::Wild,
         6 => FaultKind::Lost,
         7 => FaultKind::NoBlock,
-        _ => FaultKind::HalfDone,
+        8 => FaultKind::HalfDone,
+        _ => FaultKind::BrokenPromise,
     }
 }

@@ -42,4 +42,7 @@ pub trait Judge {
         requires among { place < length (search self.now).pool }
         ensures { (front : List ℕ) → is_begun self.now front begun.now
             → IfOk result (IsVerdict (search self.now) (front ++ place ∷ [])) };
+
+    /// Nothing is refused of a workload before its first operation.
+    ghost begins: { (judge : Self) → IsAccepted (search judge) [] };
 }

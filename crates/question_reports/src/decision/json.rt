@@ -13,7 +13,9 @@ ghost use Rattle.question_reports.specs.DecisionParts.{detail_by, CanReport, Wri
 use crate::decision::findings::Decision;
 use json_values::{KnownTexts, write_comma};
 use question_model::DecidedFault;
-use report_json::{write_first_keys, write_from_strict, write_module};
+use report_json::{
+    write_first_keys, write_from_strict, write_module, write_promise_keys, write_promises,
+};
 use report_sections::Section;
 use section_maker::SectionMaker;
 use std::alloc::{AllocError, Allocator, Global};
@@ -50,11 +52,21 @@ fn write_decision<A: Allocator + Copy>(
     let closed = decision.closed;
     out.push_str("{")?;
     write_first_keys(out, decision.settings, decision.base)?;
-    write!(out, "\"closed\":\"{closed}\",\"faults\":[")?;
+    write!(out, "\"closed\":\"{closed}\"")?;
+    write_promise_keys(out, decision.settings)?;
+    out.push_str(",\"faults\":[")?;
     write_faults(out, heap, decision)?;
     out.push_str("]")?;
-    write_module(out, decision.settings, decision.traced.graph().len())?;
-    write_from_strict(out, heap, decision.settings, decision.traced)?;
+    let patches = decision.traced.graph().len();
+    write_module(out, decision.settings, patches)?;
+    write_promises(out, decision.settings, patches, decision.demands)?;
+    write_from_strict(
+        out,
+        heap,
+        decision.settings,
+        decision.traced,
+        decision.demands,
+    )?;
     out.push_str("}\n")?;
     Ok(())
 }
@@ -136,5 +148,5 @@ pub fn push_decided<A: Allocator, B: Allocator + Copy>(
     out.push_str("{\"fault\":")?;
     known.push_fault(out, decided.fault)?;
     out.push_str(",")?;
-    known.push_crash(out, section)
+    known.push_crash(out, decided.fault, section)
 }

@@ -8,14 +8,16 @@ ghost use Rattle.question_model.specs.Decision.{decided_text, text_decision};
 ghost use Rattle.report_sections.specs.Bodies.{AreClosed};
 ghost use Rattle.report_sections.specs.Sections.{section_of, IsSection};
 ghost use Rattle.report_sections.specs.declared.section.Section.{Section};
+ghost use Rattle.report_json.specs.JsonReport.{told_promises};
 ghost use Rattle.question_reports.specs.DecisionParts.{detail_by, CanReport, WritesDecision, WritesFaults, head_lines};
 
 use crate::decision::findings::Decision;
 use crash_model::settings::Settings;
+use disk_image::Demands;
 use question_model::DecidedFault;
 use report_sections::Section;
-use report_text::{write_explanation, write_ordering};
-use section_lines::lines::write_crash;
+use report_text::{write_explanation, write_ordering, write_promises};
+use section_lines::lines::{write_crash, write_told_shows};
 use section_maker::SectionMaker;
 use std::alloc::{AllocError, Allocator};
 use traced_patches::Traced;
@@ -37,6 +39,7 @@ pub fn decision_text<A: Allocator + Copy>(
         &mut out,
         decision.traced,
         decision.settings,
+        decision.demands,
         decision.closed,
     )?;
     write_faults(&mut out, decision)?;
@@ -44,22 +47,25 @@ pub fn decision_text<A: Allocator + Copy>(
 }
 
 /// The lines before the first fault: those of the ordering, the numbers of patches and of closed sets, and those of
-/// each patch if that is asked for. It fails only when out of memory.
+/// each patch and of the promises if that is asked for. It fails only when out of memory.
 ///
 /// They are the same over each base.
 pub fn write_head<A: Allocator + Copy>(
     out: &mut String<A>,
     traced: &Traced<'_, A>,
     settings: &Settings,
+    demands: &Demands<A>,
     closed: u128,
 ) -> Result<(), AllocError>
     ensures { OnOk result ((base : Disk) → string_bytes out.new
-        ≡ string_bytes out.old ++ head_lines settings.now base traced.now closed) }
+        ≡ string_bytes out.old ++ head_lines settings.now base traced.now
+        (told_promises settings.now demands.now) closed) }
 {
     write_ordering(out, settings)?;
     let patches = traced.graph().len();
     write!(out, "patches {patches}\nclosed {closed}\n")?;
     write_explanation(out, traced, settings.explain)?;
+    write_promises(out, traced, demands, settings.explain)?;
     Ok(())
 }
 
@@ -133,6 +139,7 @@ pub fn write_decided<A: Allocator + Copy>(
 {
     let fault = decided.fault;
     write!(out, "fault {fault}\n")?;
+    write_told_shows(out, section.shows_of(fault))?;
     write_crash(out, patches, section)?;
     Ok(())
 }

@@ -1,7 +1,7 @@
 //! What is found of the rules that a script needs.
 
 use crash_model::settings::Settings;
-use disk_image::Image;
+use disk_image::{Demands, Image};
 use question_model::DecidedFault;
 use report_sections::Section;
 use std::alloc::Allocator;
@@ -30,6 +30,7 @@ pub struct EnoughFindings<'found, 'steps, 'asked, A: Allocator + Copy> {
     pub base: &'steps Image<A>,
     pub traced: &'found Traced<'steps, A>,
     pub settings: &'asked Settings,
+    pub demands: &'found Demands<A>,
     pub closed: u128,
     pub enough: &'found [u128],
     pub needs: &'found [NeededGroup<A>],

@@ -12,7 +12,10 @@ use crate::enough::findings::{EnoughFindings, FirstFault, NeededGroup};
 use chosen_rules::rules_in;
 use crash_model::orderings::Ordering;
 use json_values::{KnownTexts, push_replay, write_comma};
-use report_json::{write_disk_and_module, write_first_keys, write_from_strict, write_rule_texts};
+use report_json::{
+    write_disk_and_module, write_first_keys, write_from_strict, write_promise_keys, write_promises,
+    write_rule_texts,
+};
 use std::alloc::{AllocError, Allocator, Global};
 
 /// A report of the rules that a script needs as JSON: one compact object, its keys in ascending order, and a line feed.
@@ -51,7 +54,9 @@ fn write_findings<A: Allocator + Copy>(
     let (closed, patches) = (found.closed, found.traced.graph().len());
     out.push_str("{")?;
     write_first_keys(out, found.settings, found.base)?;
-    write!(out, "\"closed\":\"{closed}\",\"enough\":[")?;
+    write!(out, "\"closed\":\"{closed}\"")?;
+    write_promise_keys(out, found.settings)?;
+    out.push_str(",\"enough\":[")?;
     write_sets(out, ordering, found.enough)?;
     out.push_str("]")?;
     write_first(out, known, found.first)?;
@@ -59,7 +64,8 @@ fn write_findings<A: Allocator + Copy>(
     out.push_str(",\"needs\":[")?;
     write_groups(out, known, ordering, found.needs)?;
     write!(out, "],\"patches\":{patches}")?;
-    write_from_strict(out, heap, found.settings, found.traced)?;
+    write_promises(out, found.settings, patches, found.demands)?;
+    write_from_strict(out, heap, found.settings, found.traced, found.demands)?;
     out.push_str("}\n")?;
     Ok(())
 }
@@ -141,7 +147,7 @@ fn write_group<A: Allocator, B: Allocator + Copy>(
 {
     write_group_head(out, known, ordering, needed.group, &needed.fault)?;
     out.push_str(",")?;
-    known.push_leading(out, &needed.fault.section)
+    known.push_leading(out, needed.fault.decided.fault, &needed.fault.section)
 }
 
 /// The first keys of the object of a group of which one rule is needed: the first fault that a crash can leave without

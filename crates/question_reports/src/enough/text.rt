@@ -30,7 +30,13 @@ pub fn enough_text<A: Allocator + Copy>(
     let ordering = found.settings.ordering();
     let patches = found.traced.graph().len();
     let mut out = String::new(alloc);
-    write_head(&mut out, found.traced, found.settings, found.closed)?;
+    write_head(
+        &mut out,
+        found.traced,
+        found.settings,
+        found.demands,
+        found.closed,
+    )?;
     write_sets(&mut out, &ordering, found.enough)?;
     write_groups(&mut out, &ordering, patches, found.needs)?;
     write_first(&mut out, patches, found.first)?;

@@ -15,7 +15,7 @@ pub struct KindCrash<'found, A: Allocator> {
     pub section: Section<A>,
 }
 
-/// What a search finds: the operations of its pool, the most of them that a workload has, how many workloads there are
+/// What a search finds: the steps of its pool, the most of them that a workload has, how many workloads there are
 /// of each sort, and the crash of each kind of fault that a workload shows.
 #[derive(Drop)]
 pub struct SearchFindings<'found, A: Allocator> {

@@ -1,40 +1,39 @@
 //! Reports as JSON.
 
-ghost use Rattle.std.specs.Prelude.{◌≡◌, ◌++◌, [], length, map, string_bytes, IfOk, OnOk};
-ghost use Rattle.std.specs.List.{All};
+ghost use Rattle.std.specs.Prelude.{◌≡◌, ◌++◌, [], codes, if◌then◌else◌, length, map, string_bytes, IfOk, OnOk};
 ghost use Rattle.crash_model.specs.Lists.{join_of};
-ghost use Rattle.crash_model.specs.Texts.{op_text};
+ghost use Rattle.crash_model.specs.Texts.{act_text};
 ghost use Rattle.report_model.specs.Report.{json_string};
-ghost use Rattle.question_model.specs.SearchReport.{json_search, kind_json, refused_json, step_text};
-ghost use Rattle.question_model.specs.Workloads.{IsOperation, steps_at};
-ghost use Rattle.question_reports.specs.SearchFindings.{failing_keys, kind_head, kind_items, last_keys, ordering_keys, told_kind};
+ghost use Rattle.question_model.specs.SearchReport.{first_counted, first_promise_keys, json_search, kind_json};
+ghost use Rattle.question_model.specs.SearchReport.{refused_json, step_text};
+ghost use Rattle.question_model.specs.Workloads.{steps_at};
+ghost use Rattle.question_reports.specs.SearchFindings.{failing_keys, kind_head, kind_items, last_keys};
+ghost use Rattle.question_reports.specs.SearchFindings.{ordering_keys, told_kind};
 ghost use Rattle.question_reports.specs.SearchFindings.{told_kinds};
 
+use crate::search::acts::acts_at;
 use crate::search::findings::{KindCrash, SearchFindings};
-use crate::search::operations::operations_at;
-use crash_model::operations::Op;
 use crash_model::separators::COMMA;
 use crash_model::settings::Settings;
-use crash_model::steps::Step;
-use json_values::{KnownTexts, push_replay, push_set, write_comma};
+use crash_model::steps::{Act, Step};
+use json_values::{KnownTexts, push_all_shows, push_replay, push_set, write_comma};
 use question_model::{Found, RefusedCount};
 use report_json::{
-    write_atomic_key, write_generations_key, write_module_key, write_rule_key, write_strict_key,
-    write_whole_key,
+    write_atomic_key, write_counted_numbers, write_generations_key, write_module_key,
+    write_rule_key, write_strict_key, write_whole_key,
 };
 use std::alloc::{AllocError, Allocator, Global};
 
 /// A report of a search as JSON: one compact object, its keys in ascending order, and a line feed. The numbers of
 /// workloads can be more than 64 bits hold.
 ///
-/// The pool has only operations. The texts of block writes and faults that come again take their memory from `heap`,
-/// and all else from `alloc`. It fails only when out of memory.
+/// The texts of block writes and faults that come again take their memory from `heap`, and all else from `alloc`. It
+/// fails only when out of memory.
 pub fn search_json<A: Allocator + Copy>(
     heap: Global,
     alloc: A,
     findings: &SearchFindings<'_, A>,
 ) -> Result<String<A>, AllocError>
-    requires { All IsOperation findings.now.pool.now }
     ensures { IfOk result (λ text. string_bytes text ≡ json_search findings.now.settings.now findings.now.most
         (length findings.now.pool.now) findings.now.found.now (told_kinds findings.now)) }
 {
@@ -50,18 +49,57 @@ fn write_findings<A: Allocator + Copy>(
     findings: &SearchFindings<'_, A>,
 ) -> Result<(), AllocError>
     requires empty { string_bytes out.old ≡ [] }
-    requires operations { All IsOperation findings.now.pool.now }
     ensures { OnOk result (string_bytes out.new ≡ json_search findings.now.settings.now findings.now.most
         (length findings.now.pool.now) findings.now.found.now (told_kinds findings.now)) }
 {
     let (pool, failing) = (findings.pool.len(), findings.found.failing);
     out.push_str("{")?;
     write_atomic_key(out, findings.settings.atomic)?;
+    write_first_promise_keys(out, findings.settings)?;
     write_failing(out, failing, findings.settings.generations)?;
     write_kinds(out, heap, findings.pool, findings.kinds)?;
     out.push_str("]")?;
     write_module_key(out, findings.settings.module)?;
     write_last_keys(out, findings.settings, findings.most, pool, findings.found)?;
+    Ok(())
+}
+
+/// The keys of a search behind `atomic`, each with a comma after it: the numbers of the faults that count, if not all
+/// do, and that fsyncs promise. It fails only when out of memory.
+pub fn write_first_promise_keys<B: Allocator>(
+    out: &mut String<B>,
+    settings: &Settings,
+) -> Result<(), AllocError>
+    ensures { OnOk result (string_bytes out.new ≡ string_bytes out.old ++ first_promise_keys settings.now) }
+{
+    write_first_counted(out, settings.counted)?;
+    write_first_durable(out, settings.durable)?;
+    Ok(())
+}
+
+/// The key of the numbers of the faults that count, if not all do, with a comma after it.
+fn write_first_counted<B: Allocator>(
+    out: &mut String<B>,
+    counted: Option<u16>,
+) -> Result<(), AllocError>
+    ensures { OnOk result (string_bytes out.new ≡ string_bytes out.old ++ first_counted counted) }
+{
+    if let Some(counted) = counted {
+        out.push_str("\"counted\":[")?;
+        write_counted_numbers(out, counted)?;
+        out.push_str("],")?;
+    }
+    Ok(())
+}
+
+/// The key of a run in which fsyncs promise, with a comma after it.
+fn write_first_durable<B: Allocator>(out: &mut String<B>, durable: bool) -> Result<(), AllocError>
+    ensures { OnOk result (string_bytes out.new
+        ≡ string_bytes out.old ++ (if durable then codes "\"durable\":true," else [])) }
+{
+    if durable {
+        out.push_str("\"durable\":true,")?;
+    }
     Ok(())
 }
 
@@ -79,8 +117,8 @@ fn write_failing<B: Allocator>(
     Ok(())
 }
 
-/// The last keys of the object of a search, with its end and a line feed: how many operations the pool has, the reasons
-/// for which operations are refused, how many operations the longest workloads have, whether the run is strict and
+/// The last keys of the object of a search, with its end and a line feed: how many steps the pool has, the reasons
+/// for which steps are refused, how many steps the longest workloads have, whether the run is strict and
 /// blocks are written whole, which rules are put in and taken out, and how many workloads there are.
 ///
 /// It fails only when out of memory.
@@ -118,7 +156,7 @@ fn write_ordering_keys<B: Allocator>(
     Ok(())
 }
 
-/// The objects of the reasons for which operations are refused, with a comma between two.
+/// The objects of the reasons for which steps are refused, with a comma between two.
 fn write_refused<B: Allocator>(
     out: &mut String<B>,
     refused: &[RefusedCount],
@@ -133,7 +171,7 @@ fn write_refused<B: Allocator>(
     Ok(())
 }
 
-/// The object of a reason: how many operations are refused for it, its number and its text.
+/// The object of a reason: how many steps are refused for it, its number and its text.
 fn write_refusal<B: Allocator>(out: &mut String<B>, refusal: RefusedCount) -> Result<(), AllocError>
     ensures { OnOk result (string_bytes out.new ≡ string_bytes out.old ++ refused_json refusal) }
 {
@@ -153,7 +191,6 @@ fn write_kinds<A: Allocator + Copy>(
     pool: &[Step],
     kinds: &[KindCrash<'_, A>],
 ) -> Result<(), AllocError>
-    requires { All IsOperation pool.now }
     ensures { OnOk result (string_bytes out.new ≡ string_bytes out.old ++ kind_items pool.now kinds.now) }
 {
     for (at, crash) in kinds.iter().enumerate() {
@@ -171,7 +208,6 @@ fn write_kind<A: Allocator + Copy>(
     pool: &[Step],
     crash: &KindCrash<'_, A>,
 ) -> Result<(), AllocError>
-    requires { All IsOperation pool.now }
     ensures { OnOk result (string_bytes out.new ≡ string_bytes out.old ++ kind_json (told_kind pool.now crash.now)) }
 {
     let (section, workloads) = (&crash.section, crash.shown.workloads);
@@ -179,6 +215,7 @@ fn write_kind<A: Allocator + Copy>(
     write_head(out, &mut known, crash)?;
     out.push_str("\"set\":")?;
     push_set(out, crash.patches, section.set)?;
+    push_all_shows(out, section)?;
     out.push_str(",\"steps\":[")?;
     write_steps(out, pool, crash.shown.places.as_slice())?;
     write!(out, "],\"workloads\":{workloads},\"writes\":[")?;
@@ -204,39 +241,38 @@ fn write_head<A: Allocator + Copy>(
     Ok(())
 }
 
-/// The texts of the operations of a workload, in quotes and with a comma between two. They are at these places of the
+/// The texts of the steps of a workload, in quotes and with a comma between two. They are at these places of the
 /// pool.
 ///
-/// The pool has operations alone. It fails only when out of memory.
+/// It fails only when out of memory.
 pub fn write_steps<B: Allocator + Copy>(
     out: &mut String<B>,
     pool: &[Step],
     places: &[usize],
 ) -> Result<(), AllocError>
-    requires { All IsOperation pool.now }
     ensures { OnOk result (string_bytes out.new ≡ string_bytes out.old
         ++ join_of COMMA (map (λ step. json_string (step_text step)) (steps_at pool.now places.now))) }
 {
-    let ops = operations_at(*out.allocator(), pool, places)?;
-    write_operations(out, &ops)?;
+    let acts = acts_at(*out.allocator(), pool, places)?;
+    write_acts(out, &acts)?;
     Ok(())
 }
 
-/// The texts of the operations, with a comma between two.
-fn write_operations<B: Allocator>(out: &mut String<B>, ops: &[&Op]) -> Result<(), AllocError>
+/// The texts of acts, with a comma between two.
+fn write_acts<B: Allocator>(out: &mut String<B>, acts: &[&Act]) -> Result<(), AllocError>
     ensures { OnOk result (string_bytes out.new
-        ≡ string_bytes out.old ++ join_of COMMA (map (λ op. json_string (op_text op.now)) ops.now)) }
+        ≡ string_bytes out.old ++ join_of COMMA (map (λ act. json_string (act_text act.now)) acts.now)) }
 {
-    for (at, op) in ops.iter().enumerate() {
+    for (at, act) in acts.iter().enumerate() {
         write_comma(out, at)?;
-        write_operation(out, *op)?;
+        write_act(out, *act)?;
     }
     Ok(())
 }
 
-/// The text of an operation, in quotes.
-fn write_operation<B: Allocator>(out: &mut String<B>, op: &Op) -> Result<(), AllocError>
-    ensures { OnOk result (string_bytes out.new ≡ string_bytes out.old ++ json_string (op_text op.now)) }
+/// The text of an act, in quotes.
+fn write_act<B: Allocator>(out: &mut String<B>, act: &Act) -> Result<(), AllocError>
+    ensures { OnOk result (string_bytes out.new ≡ string_bytes out.old ++ json_string (act_text act.now)) }
 {
-    write!(out, "\"{op}\"")
+    write!(out, "\"{act}\"")
 }

@@ -1,9 +1,7 @@
 //! Reports in the form that the settings ask for.
 
 ghost use Rattle.std.specs.Prelude.{◌≡◌, length, string_bytes, IfOk};
-ghost use Rattle.std.specs.List.{All};
 ghost use Rattle.question_model.specs.SearchReport.{search_bytes};
-ghost use Rattle.question_model.specs.Workloads.{IsOperation};
 ghost use Rattle.question_reports.specs.SearchFindings.{told_kinds};
 
 use crate::search::findings::SearchFindings;
@@ -13,14 +11,13 @@ use std::alloc::{AllocError, Allocator, Global};
 
 /// A report of a search as text, or as JSON if the settings ask for that.
 ///
-/// The pool has only operations. Some parts of JSON take their memory from `heap`, and all else takes it from
-/// `alloc`. It fails only when out of memory.
+/// Some parts of JSON take their memory from `heap`, and all else takes it from `alloc`. It fails only when out of
+/// memory.
 pub fn search_report<A: Allocator + Copy>(
     heap: Global,
     alloc: A,
     findings: &SearchFindings<'_, A>,
 ) -> Result<String<A>, AllocError>
-    requires { All IsOperation findings.now.pool.now }
     ensures { IfOk result (λ text. string_bytes text ≡ search_bytes findings.now.settings.now findings.now.most
         (length findings.now.pool.now) findings.now.found.now (told_kinds findings.now)) }
 {

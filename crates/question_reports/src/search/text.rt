@@ -1,34 +1,31 @@
 //! Reports as text.
 
 ghost use Rattle.std.specs.Prelude.{◌≡◌, ◌++◌, codes, flat_map, length, string_bytes, IfOk, OnOk};
-ghost use Rattle.std.specs.List.{All};
-ghost use Rattle.crash_model.specs.Texts.{op_text};
+ghost use Rattle.crash_model.specs.Texts.{act_text};
 ghost use Rattle.report_model.specs.Report.{line};
 ghost use Rattle.question_model.specs.SearchReport.{kind_text, refused_text, search_text as head_text, step_text};
 ghost use Rattle.question_model.specs.SearchReport.{text_search};
-ghost use Rattle.question_model.specs.Workloads.{IsOperation, steps_at};
+ghost use Rattle.question_model.specs.Workloads.{steps_at};
 ghost use Rattle.question_reports.specs.SearchFindings.{kind_lines, told_kind, told_kinds};
 
+use crate::search::acts::acts_at;
 use crate::search::findings::{KindCrash, SearchFindings};
-use crate::search::operations::operations_at;
-use crash_model::operations::Op;
 use crash_model::settings::Settings;
-use crash_model::steps::Step;
+use crash_model::steps::{Act, Step};
 use question_model::{Found, RefusedCount};
 use report_text::write_ordering;
 use section_lines::lines::write_section;
 use std::alloc::{AllocError, Allocator};
 
-/// A report of a search as text: the lines of the ordering, how many operations the longest workloads and the pool
-/// have, how many workloads there are and how many fail, a line for each reason for which operations are refused, and
+/// A report of a search as text: the lines of the ordering, how many steps the longest workloads and the pool
+/// have, how many workloads there are and how many fail, a line for each reason for which steps are refused, and
 /// the lines of each kind of fault.
 ///
-/// The pool has only operations. It fails only when out of memory.
+/// It fails only when out of memory.
 pub fn search_text<A: Allocator + Copy>(
     alloc: A,
     findings: &SearchFindings<'_, A>,
 ) -> Result<String<A>, AllocError>
-    requires { All IsOperation findings.now.pool.now }
     ensures { IfOk result (λ text. string_bytes text ≡ text_search findings.now.settings.now findings.now.most
         (length findings.now.pool.now) findings.now.found.now (told_kinds findings.now)) }
 {
@@ -45,8 +42,8 @@ pub fn search_text<A: Allocator + Copy>(
     Ok(out)
 }
 
-/// The lines that a report of a search begins with: those of the ordering, how many operations the longest workloads
-/// and the pool have, how many workloads there are and how many fail, and a line for each reason for which operations
+/// The lines that a report of a search begins with: those of the ordering, how many steps the longest workloads
+/// and the pool have, how many workloads there are and how many fail, and a line for each reason for which steps
 /// are refused.
 ///
 /// It fails only when out of memory.
@@ -70,7 +67,7 @@ pub fn write_head<A: Allocator>(
     Ok(())
 }
 
-/// A line for each reason for which operations are refused.
+/// A line for each reason for which steps are refused.
 fn write_refused<A: Allocator>(
     out: &mut String<A>,
     refused: &[RefusedCount],
@@ -83,7 +80,7 @@ fn write_refused<A: Allocator>(
     Ok(())
 }
 
-/// The line of a reason: its number and text, and how many operations are refused for it.
+/// The line of a reason: its number and text, and how many steps are refused for it.
 fn write_refusal<A: Allocator>(out: &mut String<A>, refusal: RefusedCount) -> Result<(), AllocError>
     ensures { OnOk result (string_bytes out.new ≡ string_bytes out.old ++ refused_text refusal) }
 {
@@ -99,7 +96,6 @@ fn write_kinds<A: Allocator + Copy>(
     pool: &[Step],
     kinds: &[KindCrash<'_, A>],
 ) -> Result<(), AllocError>
-    requires { All IsOperation pool.now }
     ensures { OnOk result (string_bytes out.new ≡ string_bytes out.old ++ kind_lines pool.now kinds.now) }
 {
     for crash in kinds {
@@ -115,7 +111,6 @@ fn write_kind<A: Allocator + Copy>(
     pool: &[Step],
     crash: &KindCrash<'_, A>,
 ) -> Result<(), AllocError>
-    requires { All IsOperation pool.now }
     ensures { OnOk result (string_bytes out.new ≡ string_bytes out.old ++ kind_text (told_kind pool.now crash.now)) }
 {
     let (number, name) = (crash.shown.kind.number(), crash.shown.kind.name());
@@ -126,38 +121,37 @@ fn write_kind<A: Allocator + Copy>(
     Ok(())
 }
 
-/// A line for each operation of a workload, whose operations are at these places of the pool.
+/// A line for each step of a workload, whose steps are at these places of the pool.
 ///
-/// The pool has operations alone. It fails only when out of memory.
+/// It fails only when out of memory.
 pub fn write_steps<A: Allocator + Copy>(
     out: &mut String<A>,
     pool: &[Step],
     places: &[usize],
 ) -> Result<(), AllocError>
-    requires { All IsOperation pool.now }
     ensures { OnOk result (string_bytes out.new ≡ string_bytes out.old
         ++ flat_map (λ step. line (codes "step " ++ step_text step)) (steps_at pool.now places.now)) }
 {
-    let ops = operations_at(*out.allocator(), pool, places)?;
-    write_operations(out, &ops)?;
+    let acts = acts_at(*out.allocator(), pool, places)?;
+    write_acts(out, &acts)?;
     Ok(())
 }
 
-/// A line for each operation.
-fn write_operations<A: Allocator>(out: &mut String<A>, ops: &[&Op]) -> Result<(), AllocError>
+/// A line for each act.
+fn write_acts<A: Allocator>(out: &mut String<A>, acts: &[&Act]) -> Result<(), AllocError>
     ensures { OnOk result (string_bytes out.new
-        ≡ string_bytes out.old ++ flat_map (λ op. line (codes "step " ++ op_text op.now)) ops.now) }
+        ≡ string_bytes out.old ++ flat_map (λ act. line (codes "step " ++ act_text act.now)) acts.now) }
 {
-    for op in ops {
-        write_operation(out, *op)?;
+    for act in acts {
+        write_act(out, *act)?;
     }
     Ok(())
 }
 
-/// The line of an operation.
-fn write_operation<A: Allocator>(out: &mut String<A>, op: &Op) -> Result<(), AllocError>
+/// The line of an act.
+fn write_act<A: Allocator>(out: &mut String<A>, act: &Act) -> Result<(), AllocError>
     ensures { OnOk result (string_bytes out.new
-        ≡ string_bytes out.old ++ line (codes "step " ++ op_text op.now)) }
+        ≡ string_bytes out.old ++ line (codes "step " ++ act_text act.now)) }
 {
-    write!(out, "step {op}\n")
+    write!(out, "step {act}\n")
 }

@@ -16,7 +16,7 @@ pub struct NeededWorkload<A: Allocator> {
     pub fault: FirstFault<A>,
 }
 
-/// What a search finds of the rules that its workloads need: the operations of its pool, the most of them that a
+/// What a search finds of the rules that its workloads need: the steps of its pool, the most of them that a
 /// workload has, how many workloads there are of each sort, the minimal sets of rules that are enough for all
 /// workloads, and the minimal groups of which one is needed.
 #[derive(Drop)]

@@ -1,32 +1,29 @@
 //! Reports as JSON.
 
 ghost use Rattle.std.specs.Prelude.{◌≡◌, ◌++◌, [], length, string_bytes, IfOk, OnOk};
-ghost use Rattle.std.specs.List.{All};
 ghost use Rattle.report_model.specs.Answer.{ordering_rules};
-ghost use Rattle.question_model.specs.Workloads.{IsOperation};
 ghost use Rattle.question_model.specs.SearchRulesReport.{json_search_rules, need_json};
 ghost use Rattle.question_reports.specs.SearchRulesFindings.{need_items, told_need, told_needs};
 
 use crate::enough::json::{write_group_head, write_sets};
-use crate::search::json::{write_last_keys, write_steps};
+use crate::search::json::{write_first_promise_keys, write_last_keys, write_steps};
 use crate::search_rules::findings::{NeededWorkload, SearchRulesFindings};
 use crash_model::orderings::Ordering;
 use crash_model::steps::Step;
-use json_values::{KnownTexts, push_set, write_comma};
+use json_values::{KnownTexts, push_set, push_shows, write_comma};
 use report_json::{write_atomic_key, write_disk_and_module};
 use std::alloc::{AllocError, Allocator, Global};
 
 /// A report of the rules that the workloads of a search need as JSON: one compact object, its keys in ascending order,
 /// and a line feed. The numbers of workloads can be more than 64 bits hold.
 ///
-/// The pool has only operations. The texts of block writes and faults that come again take their memory from `heap`,
-/// and all else from `alloc`. It fails only when out of memory.
+/// The texts of block writes and faults that come again take their memory from `heap`, and all else from `alloc`. It
+/// fails only when out of memory.
 pub fn search_rules_json<A: Allocator + Copy>(
     heap: Global,
     alloc: A,
     findings: &SearchRulesFindings<'_, A>,
 ) -> Result<String<A>, AllocError>
-    requires { All IsOperation findings.now.pool.now }
     ensures { IfOk result (λ text. string_bytes text ≡ json_search_rules findings.now.settings.now findings.now.most
         (length findings.now.pool.now) findings.now.found.now findings.now.enough.now (told_needs findings.now)) }
 {
@@ -45,13 +42,13 @@ fn write_findings<A: Allocator + Copy>(
 ) -> Result<(), AllocError>
     requires empty { string_bytes out.old ≡ [] }
     requires ordering { ordering.now.rules.items ≡ ordering_rules findings.now.settings.now }
-    requires operations { All IsOperation findings.now.pool.now }
     ensures { OnOk result (string_bytes out.new ≡ json_search_rules findings.now.settings.now findings.now.most
         (length findings.now.pool.now) findings.now.found.now findings.now.enough.now (told_needs findings.now)) }
 {
     let (pool, failing) = (findings.pool.len(), findings.found.failing);
     out.push_str("{")?;
     write_atomic_key(out, findings.settings.atomic)?;
+    write_first_promise_keys(out, findings.settings)?;
     out.push_str("\"enough\":[")?;
     write_sets(out, ordering, findings.enough)?;
     write!(out, "],\"failing\":{failing}")?;
@@ -71,7 +68,6 @@ fn write_needs<A: Allocator + Copy>(
     pool: &[Step],
     needs: &[NeededWorkload<A>],
 ) -> Result<(), AllocError>
-    requires { All IsOperation pool.now }
     ensures { OnOk result (string_bytes out.new
         ≡ string_bytes out.old ++ need_items ordering.now.rules.items pool.now needs.now) }
 {
@@ -91,7 +87,6 @@ fn write_need<A: Allocator + Copy>(
     pool: &[Step],
     needed: &NeededWorkload<A>,
 ) -> Result<(), AllocError>
-    requires { All IsOperation pool.now }
     ensures { OnOk result (string_bytes out.new
         ≡ string_bytes out.old ++ need_json ordering.now.rules.items (told_need pool.now needed.now)) }
 {
@@ -100,6 +95,7 @@ fn write_need<A: Allocator + Copy>(
     write_group_head(out, &mut known, ordering, needed.group, &needed.fault)?;
     out.push_str(",\"set\":")?;
     push_set(out, needed.patches, section.set)?;
+    push_shows(out, needed.fault.decided.fault, section)?;
     out.push_str(",\"steps\":[")?;
     write_steps(out, pool, needed.places.as_slice())?;
     out.push_str("],\"writes\":[")?;

@@ -1,8 +1,6 @@
 //! Reports in the form that the settings ask for.
 
 ghost use Rattle.std.specs.Prelude.{◌≡◌, length, string_bytes, IfOk};
-ghost use Rattle.std.specs.List.{All};
-ghost use Rattle.question_model.specs.Workloads.{IsOperation};
 ghost use Rattle.question_model.specs.SearchRulesReport.{search_rules_bytes};
 ghost use Rattle.question_reports.specs.SearchRulesFindings.{told_needs};
 
@@ -13,14 +11,13 @@ use std::alloc::{AllocError, Allocator, Global};
 
 /// A report of the rules that the workloads of a search need as text, or as JSON where the settings ask for that.
 ///
-/// The pool has operations alone. Some parts of JSON take their memory from `heap`, and all else takes it from
-/// `alloc`. It fails only when out of memory.
+/// Some parts of JSON take their memory from `heap`, and all else takes it from `alloc`. It fails only when out of
+/// memory.
 pub fn search_rules_report<A: Allocator + Copy>(
     heap: Global,
     alloc: A,
     findings: &SearchRulesFindings<'_, A>,
 ) -> Result<String<A>, AllocError>
-    requires { All IsOperation findings.now.pool.now }
     ensures { IfOk result (λ text. string_bytes text ≡ search_rules_bytes findings.now.settings.now findings.now.most
         (length findings.now.pool.now) findings.now.found.now findings.now.enough.now (told_needs findings.now)) }
 {

@@ -1,8 +1,6 @@
 //! Reports as text.
 
 ghost use Rattle.std.specs.Prelude.{◌≡◌, ◌++◌, length, string_bytes, IfOk, OnOk};
-ghost use Rattle.std.specs.List.{All};
-ghost use Rattle.question_model.specs.Workloads.{IsOperation};
 ghost use Rattle.question_model.specs.SearchRulesReport.{need_text, text_search_rules};
 ghost use Rattle.question_reports.specs.SearchRulesFindings.{need_lines, told_need, told_needs};
 
@@ -18,12 +16,11 @@ use std::alloc::{AllocError, Allocator};
 /// with, the number of minimal sets that are enough with a line for each, and for each minimal group of which one is
 /// needed the lines of the first workload that fails without it.
 ///
-/// The pool has operations alone. It fails only when out of memory.
+/// It fails only when out of memory.
 pub fn search_rules_text<A: Allocator + Copy>(
     alloc: A,
     findings: &SearchRulesFindings<'_, A>,
 ) -> Result<String<A>, AllocError>
-    requires { All IsOperation findings.now.pool.now }
     ensures { IfOk result (λ text. string_bytes text ≡ text_search_rules findings.now.settings.now findings.now.most
         (length findings.now.pool.now) findings.now.found.now findings.now.enough.now (told_needs findings.now)) }
 {
@@ -49,7 +46,6 @@ fn write_needs<A: Allocator + Copy>(
     pool: &[Step],
     needs: &[NeededWorkload<A>],
 ) -> Result<(), AllocError>
-    requires { All IsOperation pool.now }
     ensures { OnOk result (string_bytes out.new
         ≡ string_bytes out.old ++ need_lines ordering.now.rules.items pool.now needs.now) }
 {
@@ -67,7 +63,6 @@ fn write_need<A: Allocator + Copy>(
     pool: &[Step],
     needed: &NeededWorkload<A>,
 ) -> Result<(), AllocError>
-    requires { All IsOperation pool.now }
     ensures { OnOk result (string_bytes out.new
         ≡ string_bytes out.old ++ need_text ordering.now.rules.items (told_need pool.now needed.now)) }
 {

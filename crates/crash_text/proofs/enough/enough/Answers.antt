@@ -1,6 +1,6 @@
 use Rattle.std.proofs.Common.{List, ℕ, All, length, map, string_bytes, sym, subst, ap, ap₂, ◌∙◌}
 use Rattle.std.specs.Int.{from_bool}
-use Rattle.std.specs.Prelude.{option_map}
+use Rattle.std.specs.Prelude.{None, option_map, if◌then◌else◌}
 use Rattle.patch_sets.specs.Closed.{AreEarlier}
 use Rattle.report_model.specs.Answer.{detail_of}
 use Rattle.crash_model.specs.Lists.{when}
@@ -50,6 +50,7 @@ returns-clause-reported g c = λ last is.
       patches = length t.patches;
       closed = c.closed_number.result;
       explanation = when settings.explain (explanation_by script.base.now t);
+      promises = if settings.explain then script.demands.promises else None;
       enough = enough;
       needs = map told_group groups;
       first = option_map told_first first;

@@ -11,10 +11,10 @@ use Rattle.question_model.specs.Asked.{CanBeAsked}
 use Rattle.question_model.specs.Decision.{IsDecision}
 use Rattle.question_model.specs.EnoughReport.{IsEnoughReport}
 use Rattle.crash_text.specs.BaseRefusal.{IsBaseRefusal}
-use Rattle.crash_text.specs.Searching.{IsNoPool, IsSearchOf}
+use Rattle.crash_text.specs.Searching.{IsPoolRefusal, IsSearchOf}
 use Rattle.crash_text.specs.SearchingRules.{IsRuleSearchOf}
 use Rattle.crash_text.specs.Traced.{IsTraced, IsTraceRefusal}
-use Rattle.crash_text.proofs.Answering.{has_base, refused_script, refused_base, refused_steps, reported_on}
+use Rattle.crash_text.proofs.Answering.{has_base, nothing_counts, refused_script, refused_base, refused_steps, reported_on}
 use Rattle.crash_text.proofs.Answering.{reported_visit, refused_visit, refused_pool, reported_pool, reported_rules}
 use Rattle.crash_text.proofs.Pools.{are_acts}
 use Rattle.crash_text.proofs.run.run.Goals as goal
@@ -98,6 +98,16 @@ returns-in-Visit-clause-refused g c =
     many.0 many.1)
     c.visited-answer.ensures.too_many)
 
+pub returns-in-Visit-clause-full : goal.returns-in-Visit-clause-full
+returns-in-Visit-clause-full g c = λ full none nothing.
+    let asked = c.args.request.now in
+    let read = c.in_ok-read.read in
+    let base = c.in_ok-built.built in
+    let start = has_base c.args.script.now asked.settings read.base.items _ read.traced.items base
+    c.in_ok-read.ensures.ok c.in_ok-built.ensures.lawful c.deref.ensures.value c.in_ok-built.ensures.built in
+    c.visited-answer.ensures.safe (c.in_ok-script-in-Visit.ensures.full full none (nothing_counts c.args.script.now asked.settings base read.traced.items _ start
+    c.deref-in-Visit.ensures.value nothing))
+
 -- ---- a decision
 
 pub returns-in_err-script-in-Decide-clause-refused : goal.returns-in_err-script-in-Decide-clause-refused
@@ -132,6 +142,16 @@ returns-in-Decide-clause-reported g c =
     (reported_on c.args.script.now asked.settings (IsDecision asked.settings) base read.traced.items script
     (string_bytes outcome.text) outcome.number start traced c.in_ok-decided-in-Decide.ensures.reported)
 
+pub returns-in-Decide-clause-full : goal.returns-in-Decide-clause-full
+returns-in-Decide-clause-full g c = λ full none nothing.
+    let asked = c.args.request.now in
+    let read = c.in_ok-read.read in
+    let base = c.in_ok-built.built in
+    let start = has_base c.args.script.now asked.settings read.base.items _ read.traced.items base
+    c.in_ok-read.ensures.ok c.in_ok-built.ensures.lawful c.deref.ensures.value c.in_ok-built.ensures.built in
+    c.in_ok-decided-in-Decide.ensures.safe (c.in_ok-script-in-Decide.ensures.full full none (nothing_counts c.args.script.now asked.settings base read.traced.items _ start
+    c.deref-in-Decide.ensures.value nothing))
+
 -- ---- the rules that are enough
 
 pub returns-in_err-script-in-Enough-clause-refused : goal.returns-in_err-script-in-Enough-clause-refused
@@ -165,6 +185,16 @@ returns-in-Enough-clause-reported g c =
     (sym c.in-Enough.is)
     (reported_on c.args.script.now asked.settings (IsEnoughReport asked.settings) base read.traced.items script
     (string_bytes outcome.text) outcome.number start traced c.in_ok-enough-in-Enough.ensures.reported)
+
+pub returns-in-Enough-clause-full : goal.returns-in-Enough-clause-full
+returns-in-Enough-clause-full g c = λ full none nothing.
+    let asked = c.args.request.now in
+    let read = c.in_ok-read.read in
+    let base = c.in_ok-built.built in
+    let start = has_base c.args.script.now asked.settings read.base.items _ read.traced.items base
+    c.in_ok-read.ensures.ok c.in_ok-built.ensures.lawful c.deref.ensures.value c.in_ok-built.ensures.built in
+    c.in_ok-enough-in-Enough.ensures.safe (c.in_ok-script-in-Enough.ensures.full full none (nothing_counts c.args.script.now asked.settings base read.traced.items _ start
+    c.deref-in-Enough.ensures.value nothing))
 
 -- ---- a search, and one for rules
 
@@ -203,8 +233,18 @@ returns-in-Search-clause-refused g c =
     (IfErr-weaker c.searched.result _ _
     (λ fault refused memory.
     refused_pool c.args.script.now asked.settings base read.traced.items fault start
-    (subst (λ s. IsNoPool s fault) c.deref-in-Search.ensures.value (refused memory)))
+    (subst (λ s. IsPoolRefusal s fault) c.deref-in-Search.ensures.value (refused memory)))
     c.searched.ensures.refused)
+
+pub returns-in-Search-clause-full : goal.returns-in-Search-clause-full
+returns-in-Search-clause-full g c = λ full none nothing.
+    let asked = c.args.request.now in
+    let read = c.in_ok-read.read in
+    let base = c.in_ok-built.built in
+    let start = has_base c.args.script.now asked.settings read.base.items _ read.traced.items base
+    c.in_ok-read.ensures.ok c.in_ok-built.ensures.lawful c.deref.ensures.value c.in_ok-built.ensures.built in
+    c.searched.ensures.full full none (nothing_counts c.args.script.now asked.settings base read.traced.items _ start
+    c.deref-in-Search.ensures.value nothing)
 
 pub searched_for_rules-requires-clause-acts : goal.searched_for_rules-requires-clause-acts
 searched_for_rules-requires-clause-acts g c κs within =
@@ -241,5 +281,15 @@ returns-clause-refused g c =
     (IfErr-weaker c.searched_for_rules.result _ _
     (λ fault refused memory.
     refused_pool c.args.script.now asked.settings base read.traced.items fault start
-    (subst (λ s. IsNoPool s fault) c.deref-in-SearchRules.ensures.value (refused memory)))
+    (subst (λ s. IsPoolRefusal s fault) c.deref-in-SearchRules.ensures.value (refused memory)))
     c.searched_for_rules.ensures.refused)
+
+pub returns-clause-full : goal.returns-clause-full
+returns-clause-full g c = λ full none nothing.
+    let asked = c.args.request.now in
+    let read = c.in_ok-read.read in
+    let base = c.in_ok-built.built in
+    let start = has_base c.args.script.now asked.settings read.base.items _ read.traced.items base
+    c.in_ok-read.ensures.ok c.in_ok-built.ensures.lawful c.deref.ensures.value c.in_ok-built.ensures.built in
+    c.searched_for_rules.ensures.full full none (nothing_counts c.args.script.now asked.settings base read.traced.items _ start
+    c.deref-in-SearchRules.ensures.value nothing)

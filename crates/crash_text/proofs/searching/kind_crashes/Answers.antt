@@ -1,8 +1,7 @@
 use Rattle.question_model.specs.SearchReport.{IsToldKind}
 use Rattle.pool_judging.specs.Judging.{search_by}
-use Rattle.report_sections.specs.Sections.{section_of}
 use Rattle.question_reports.specs.SearchFindings.{told_kind}
-use Rattle.crash_text.proofs.PoolReports.{with_steps, shown_more, crash_more}
+use Rattle.crash_text.proofs.PoolReports.{shown_more, crash_more}
 use Rattle.crash_text.proofs.searching.kind_crashes.Goals as goal
 
 pub loop-shown-preserved : goal.loop-shown-preserved
@@ -16,7 +15,6 @@ loop-shown-preserved g c =
           c.loop-shown-test.true before.shown c.shown-item.is c.in_ok-push.ensures.items;
       told = crash_more (λ crash. IsToldKind s c.args.explain (told_kind judge.pool.now crash))
           c.loop-shown.crashes.items _ _ before.told
-          (with_steps s c.args.explain c.shown-item.result told.steps.items told.patches (section_of told.section)
-          c.in_ok-told.ensures)
+          c.in_ok-told.ensures
           c.in_ok-push.ensures.items;
     }

@@ -8,9 +8,6 @@ use Rattle.question_reports.specs.declared.search.findings.KindCrash.{KindCrash}
 use Rattle.crash_text.proofs.PoolReports.{number_of_failing, told_shown}
 use Rattle.crash_text.proofs.searching.report_on.Goals as goal
 
-pub search_report-requires : goal.search_report-requires
-search_report-requires g c = c.requires.operations
-
 pub returns-clause-report : goal.returns-clause-report
 returns-clause-report g c =
     let settings = c.args.settings.now in

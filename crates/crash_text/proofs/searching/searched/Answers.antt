@@ -1,25 +1,68 @@
-use Rattle.std.proofs.Common.{rules, ℕ, ap, ◌∙◌}
-use Rattle.std.specs.Prelude.{◌==◌, if◌then◌else◌}
+use Rattle.std.proofs.Common.{rules, List, ap, length, subst, sym, ◌∙◌}
+use Rattle.std.specs.Prelude.{All}
 use Rattle.crash_model.specs.Disk.{IsDisk}
+use Rattle.crash_model.specs.declared.steps.Step.{Step}
+use Rattle.question_model.specs.Found.{AreFound}
 use Rattle.question_model.specs.Lengths.{operations_of}
-use Rattle.pool_judging.specs.Judging.{IsFullJournal}
-use Rattle.pool_judging.proofs.Full.{nothing_fails, none_failing}
-use Rattle.crash_text.proofs.PoolReports.{search_under}
-use Rattle.crash_text.proofs.Safe.{full_rules}
+use Rattle.question_model.specs.SearchReport.{IsToldKind, search_bytes}
+use Rattle.question_model.specs.Workloads.{Search}
+use Rattle.pool_judging.specs.Pools.{IsKeep, IsPlace}
+use Rattle.pool_judging.proofs.Pools.{all_keeps, all_places}
+use Rattle.crash_text.proofs.Pools.{none_reported}
+use Rattle.crash_text.proofs.PoolReports.{same_search}
 use Rattle.crash_text.proofs.searching.searched.Goals as goal
 
+pub invariant_of-judge : goal.invariant_of-judge
+invariant_of-judge g c =
+    let lines = c.args.pool.now.steps.now in
+    let steps = c.in_ok-steps.ensures.pool in
+    record {
+      places = subst (λ (ps : List Step). All IsPlace ps) (sym (c.deref.ensures.value ∙ steps.places))
+          (all_places lines);
+      promises = subst (λ (ps : List Step). All IsKeep ps) (sym (c.deref-2.ensures.value ∙ steps.keeps))
+          (all_keeps lines);
+      sound = ∣ c.requires.sound ∣₁;
+    }
+
 pub returns-clause-full : goal.returns-clause-full
-returns-clause-full g c = λ full none.
+returns-clause-full g c = λ full none nothing.
     let settings = c.args.request.now.settings in
     let pool = c.args.pool.now in
-    let ordering = c.ordering-ordering in
-    let s = search_under settings (operations_of pool.longest) pool.base.now pool.steps.now ordering.result.«module»
-    ordering.result.whole_blocks ordering.result.rules.items in
-    let is_full : IsFullJournal s = record {
-      full = ordering.ensures.«module» ∙ full;
-      all = full_rules settings ordering.result.rules.items full none ordering.ensures.rules;
-    } in
+    let found = c.in_ok-found.found in
+    let by = c.ordering-ordering in
+    let steps = c.in_ok-steps.ensures.pool in
+    let same = same_search settings pool.base.now pool.steps.now (operations_of pool.longest) c.asked_of.result
+    c.deref-2.result.now c.deref.result.now by.result.«module» by.result.whole_blocks by.result.rules.items steps.all
+    c.asked_of.ensures (c.deref-2.ensures.value ∙ steps.keeps) (c.deref.ensures.value ∙ steps.places)
+    by.ensures.«module» by.ensures.whole by.ensures.rules in
     let disk : IsDisk pool.base.now = search rules in
-    let none_fails = nothing_fails s is_full disk c.requires.sound.0 c.requires.sound.1 c.requires.acts in
-    c.in_ok-outcome.ensures.number
-    ∙ ap (λ (n : ℕ). if n == 0 then 0 else 1) (none_failing s c.in_ok-found.found c.in_ok-found.ensures none_fails)
+    none_reported settings (operations_of pool.longest) pool.base.now pool.steps.now found c.in_ok-outcome.outcome.number full
+    none nothing disk c.requires.sound.0 c.requires.sound.1 c.requires.acts
+    (subst (λ (s : Search). AreFound s found) same c.in_ok-found.ensures) c.in_ok-outcome.ensures.number
+
+pub returns-clause-reported : goal.returns-clause-reported
+returns-clause-reported g c =
+    let settings = c.args.request.now.settings in
+    let pool = c.args.pool.now in
+    let found = c.in_ok-found.found in
+    let by = c.ordering-ordering in
+    let steps = c.in_ok-steps.ensures.pool in
+    let places = c.deref.ensures.value ∙ steps.places in
+    let same = same_search settings pool.base.now pool.steps.now (operations_of pool.longest) c.asked_of.result
+    c.deref-2.result.now c.deref.result.now by.result.«module» by.result.whole_blocks by.result.rules.items steps.all
+    c.asked_of.ensures (c.deref-2.ensures.value ∙ steps.keeps) places by.ensures.«module» by.ensures.whole
+    by.ensures.rules in
+    let report = c.in_ok-outcome.ensures.report in (
+      steps.all,
+      record {
+        found = found;
+        exactly = subst (λ (s : Search). AreFound s found) same c.in_ok-found.ensures;
+        told = report.told;
+        kinds = report.kinds;
+        each = subst (λ (s : Search). All (IsToldKind s settings.explain) report.told) same report.each;
+        whole = report.whole
+            ∙ ap (λ (ps : List Step). search_bytes settings (operations_of pool.longest) (length ps) found report.told)
+            places;
+        number_of = c.in_ok-outcome.ensures.number;
+      },
+    )

@@ -1,49 +1,61 @@
-use Rattle.std.proofs.Common.{rules, ℕ, map, refl, ap, subst, ◌∙◌}
-use Rattle.std.specs.Prelude.{All, ◌==◌, if◌then◌else◌}
+use Rattle.std.proofs.Common.{rules, List, ap, length, map, subst, sym, ◌∙◌}
+use Rattle.std.specs.Prelude.{All}
 use Rattle.patch_sets.specs.Sets.{AreAllInOrder}
-use Rattle.report_model.specs.Answer.{ordering_rules}
 use Rattle.crash_model.specs.Disk.{IsDisk}
-use Rattle.pool_judging.specs.Judging.{IsFullJournal}
-use Rattle.pool_judging.proofs.Full.{nothing_fails, none_failing}
+use Rattle.crash_model.specs.declared.steps.Step.{Step}
+use Rattle.question_model.specs.EnoughFor.{IsMinimalInSearch, IsNeededInSearch}
 use Rattle.question_model.specs.Found.{AreFound}
 use Rattle.question_model.specs.Lengths.{operations_of}
+use Rattle.question_model.specs.SearchRulesReport.{IsToldNeed, search_rules_bytes}
 use Rattle.question_model.specs.Workloads.{Search}
-use Rattle.question_model.specs.EnoughFor.{IsMinimalInSearch, IsNeededInSearch}
-use Rattle.question_model.specs.SearchRulesReport.{IsToldNeed}
-use Rattle.crash_text.proofs.PoolReports.{search_under, same_search}
-use Rattle.crash_text.proofs.Safe.{full_rules}
+use Rattle.pool_judging.specs.Pools.{IsKeep, IsPlace}
+use Rattle.pool_judging.proofs.Pools.{all_keeps, all_places}
+use Rattle.crash_text.proofs.Pools.{none_reported}
+use Rattle.crash_text.proofs.PoolReports.{same_search}
 use Rattle.crash_text.proofs.searching_rules.searched_for_rules.Goals as goal
 
+pub invariant_of-judge : goal.invariant_of-judge
+invariant_of-judge g c =
+    let lines = c.args.pool.now.steps.now in
+    let steps = c.in_ok-steps.ensures.pool in
+    record {
+      places = subst (λ (ps : List Step). All IsPlace ps) (sym (c.deref.ensures.value ∙ steps.places))
+          (all_places lines);
+      promises = subst (λ (ps : List Step). All IsKeep ps) (sym (c.deref-2.ensures.value ∙ steps.keeps))
+          (all_keeps lines);
+      sound = ∣ c.requires.sound ∣₁;
+    }
+
 pub returns-clause-full : goal.returns-clause-full
-returns-clause-full g c = λ full none.
+returns-clause-full g c = λ full none nothing.
     let settings = c.args.request.now.settings in
     let pool = c.args.pool.now in
-    let ordering = c.ordering-ordering in
-    let s = search_under settings (operations_of pool.longest) pool.base.now pool.steps.now ordering.result.«module»
-    ordering.result.whole_blocks ordering.result.rules.items in
-    let is_full : IsFullJournal s = record {
-      full = ordering.ensures.«module» ∙ full;
-      all = full_rules settings ordering.result.rules.items full none ordering.ensures.rules;
-    } in
+    let found = c.in_ok-searched.searched.found in
+    let by = c.ordering-ordering in
+    let steps = c.in_ok-steps.ensures.pool in
+    let same = same_search settings pool.base.now pool.steps.now (operations_of pool.longest) c.asked_of.result
+    c.deref-2.result.now c.deref.result.now by.result.«module» by.result.whole_blocks by.result.rules.items steps.all
+    c.asked_of.ensures (c.deref-2.ensures.value ∙ steps.keeps) (c.deref.ensures.value ∙ steps.places)
+    by.ensures.«module» by.ensures.whole by.ensures.rules in
     let disk : IsDisk pool.base.now = search rules in
-    let none_fails = nothing_fails s is_full disk c.requires.sound.0 c.requires.sound.1 c.requires.acts in
-    c.in_ok-outcome.ensures.number
-    ∙ ap (λ (n : ℕ). if n == 0 then 0 else 1) (none_failing s c.in_ok-searched.searched.found
-    c.in_ok-searched.ensures.found none_fails)
+    none_reported settings (operations_of pool.longest) pool.base.now pool.steps.now found c.in_ok-outcome.outcome.number full
+    none nothing disk c.requires.sound.0 c.requires.sound.1 c.requires.acts
+    (subst (λ (s : Search). AreFound s found) same c.in_ok-searched.ensures.found) c.in_ok-outcome.ensures.number
 
 pub returns-clause-reported : goal.returns-clause-reported
 returns-clause-reported g c =
     let settings = c.args.request.now.settings in
     let pool = c.args.pool.now in
-    let steps = pool.steps.now in
     let longest = operations_of pool.longest in
-    let ordering = c.ordering-ordering in
     let found = c.in_ok-searched.searched.found in
-    let report = c.in_ok-outcome.ensures.report in
-    let same = same_search settings pool.base.now steps longest longest ordering.result.«module» settings.«module»
-    ordering.result.whole_blocks settings.whole_blocks ordering.result.rules.items (ordering_rules settings) refl
-    ordering.ensures.«module» ordering.ensures.whole ordering.ensures.rules in (
-      c.in_ok-check_operations.ensures.ok,
+    let by = c.ordering-ordering in
+    let steps = c.in_ok-steps.ensures.pool in
+    let places = c.deref.ensures.value ∙ steps.places in
+    let same = same_search settings pool.base.now pool.steps.now longest c.asked_of.result c.deref-2.result.now
+    c.deref.result.now by.result.«module» by.result.whole_blocks by.result.rules.items steps.all c.asked_of.ensures
+    (c.deref-2.ensures.value ∙ steps.keeps) places by.ensures.«module» by.ensures.whole by.ensures.rules in
+    let report = c.in_ok-outcome.ensures.report in (
+      steps.all,
       record {
         found = found;
         exactly = subst (λ (s : Search). AreFound s found) same c.in_ok-searched.ensures.found;
@@ -53,7 +65,8 @@ returns-clause-reported g c =
         needed = subst (λ (s : Search). AreAllInOrder (IsNeededInSearch s) (map (λ t. t.group) report.needs)) same
             report.needed;
         told = subst (λ (s : Search). All (IsToldNeed s settings.explain) report.needs) same report.told;
-        whole = report.whole;
+        whole = report.whole ∙ ap (λ (ps : List Step).
+            search_rules_bytes settings longest (length ps) found report.enough report.needs) places;
         number_of = c.in_ok-outcome.ensures.number;
       },
     )

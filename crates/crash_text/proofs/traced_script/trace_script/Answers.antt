@@ -1,17 +1,21 @@
-use Rattle.std.proofs.Common.{rules, ◌≡◌, List, Bool, Ok, refl, subst, ◌∙◌}
-use Rattle.report_model.specs.Answer.{ordering_rules}
+use Rattle.std.proofs.Common.{rules, ◌≡◌, List, Bool, Ok, refl, subst, ap, ◌∙◌}
+use Rattle.report_model.specs.Answer.{asked_by, ordering_rules}
+use Rattle.crash_model.specs.Checker.{AreDemands}
 use Rattle.crash_model.specs.Disk.{Disk, IsDisk}
 use Rattle.crash_model.specs.Rules.{rules_of}
 use Rattle.crash_model.specs.RuleFacts.{AreAmong}
 use Rattle.crash_model.specs.Trace.{Tracing, trace_start, trace_from, IsGraphOf}
 use Rattle.crash_model.specs.declared.rules.Rule.{Rule}
 use Rattle.crash_model.specs.declared.patches.Patch.{Patch}
+use Rattle.crash_model.specs.declared.settings.Asked as code
 use Rattle.crash_model.specs.declared.settings.Settings.{Settings}
 use Rattle.crash_model.specs.declared.steps.Step.{Step}
 use Rattle.crash_model.specs.declared.modules.Module.{Module}
 use Rattle.crash_model.specs.declared.modules.Module.TheVariants.{Full}
 use Rattle.full_journal_laws.proofs.Failing.{none_fails}
-use Rattle.crash_text.specs.Traced.{IsTraceOf}
+use Rattle.full_journal_laws.proofs.Promising.{counts_none}
+use Rattle.kept_promises.specs.Asking.{asked_of}
+use Rattle.crash_text.specs.Traced.{asks_of, IsTraceOf}
 use Rattle.crash_text.proofs.Safe.{full_rules}
 use Rattle.crash_text.proofs.traced_script.trace_script.Goals as goal
 
@@ -28,18 +32,30 @@ of_settings settings base steps by whole rules last patches module_is whole_is r
   subst (λ (rs : List Rule). IsGraphOf rs base last patches) rules_are graph,
 )
 
+-- what is asked of steps under an ordering of these settings is what they ask
+same_asked : (settings : Settings) (asked : code.Asked) (kind : Module) (steps : List Step) → kind ≡ settings.module
+    → asked ≡ asks_of settings → asked_of asked kind steps ≡ asked_by settings steps
+same_asked settings asked kind steps of_kind is =
+    ap (λ (a : code.Asked). asked_of a kind steps) is
+    ∙ ap (λ (m : Module). asked_of (asks_of settings) m steps) of_kind
+
 pub returns-clause-full : goal.returns-clause-full
-returns-clause-full g c = λ full none.
+returns-clause-full g c = λ full none nothing.
     let settings = c.args.settings.now in
     let base = c.args.base.now in
+    let steps = c.args.steps.now in
     let ordering = c.args.ordering.now in
+    let demands = c.in_ok-demands.demands in
     let same = c.requires.ordering in
     let among : AreAmong (rules_of Full) ordering.rules.items =
     full_rules settings ordering.rules.items full none same.rules in
     let disk : IsDisk base = search rules in
     let safe = c.in_ok-traced.ensures.recovers (record { full = same.kind ∙ full; all = among }) in
-    none_fails settings.strict settings.atomic ordering.whole_blocks c.in_ok-demands.demands base c.args.steps.now
-    c.in_ok-traced.traced.patches disk c.in_ok-demands.ensures safe
+    let are = subst (λ asked. AreDemands asked base steps demands)
+    (same_asked settings c.asked_of.result ordering.«module» steps same.kind c.asked_of.ensures)
+    c.in_ok-demands.ensures in
+    none_fails (asked_by settings steps) ordering.whole_blocks demands base steps c.in_ok-traced.traced.patches disk are
+    (counts_none (asked_by settings steps) base steps demands are nothing) safe
 
 pub returns-clause-traced : goal.returns-clause-traced
 returns-clause-traced g c =
@@ -54,6 +70,7 @@ returns-clause-traced g c =
       emitted = ok.3;
       links = ok.4;
       whole = ok.5;
+      waits = ok.6;
       rules = c.in_ok-traced.ensures.rules ∙ same.rules;
       graph = under.1;
     } in
@@ -62,5 +79,7 @@ returns-clause-traced g c =
       last = ok.0;
       run = under.0;
       trace = is;
-      demanded = c.in_ok-demands.ensures;
+      demanded = subst (λ asked. AreDemands asked base c.args.steps.now c.in_ok-demands.demands)
+          (same_asked settings c.asked_of.result c.args.ordering.now.«module» c.args.steps.now same.kind
+          c.asked_of.ensures) c.in_ok-demands.ensures;
     }

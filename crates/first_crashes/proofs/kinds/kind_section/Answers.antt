@@ -7,12 +7,16 @@ use Rattle.pool_judging.specs.Judging.{search_by}
 use Rattle.first_crashes.proofs.KindCrashes.{below, traced, patches_of, first_closed, kind_told}
 use Rattle.first_crashes.proofs.kinds.kind_section.Goals as goal
 
-pub steps_at-requires : goal.steps_at-requires
-steps_at-requires g c = below (search_by c.args.judge.now) c.args.shown.now c.requires
+pub workload_at-requires : goal.workload_at-requires
+workload_at-requires g c = below (search_by c.args.judge.now) c.args.shown.now c.requires
 
 pub graph_of-requires : goal.graph_of-requires
 graph_of-requires g c = traced (search_by c.args.judge.now) c.args.shown.now c.requires
     c.in_ok-steps.steps.items c.deref.result.now c.in_ok-steps.ensures c.deref.ensures.value
+
+pub demands-requires : goal.demands-requires
+demands-requires g c = ∣ traced (search_by c.args.judge.now) c.args.shown.now c.requires c.in_ok-steps.steps.items
+    c.deref-2.result.now c.in_ok-steps.ensures c.deref-2.ensures.value ∣₁
 
 pub new-requires : goal.new-requires
 new-requires g c = record { fits = c.in_ok-graph.ensures.fits; undo = c.in_ok-graph.ensures.graph.2.undo }
@@ -38,6 +42,6 @@ returns g c =
     c.in_ok-demands.demands c.in_ok-graph.graph c.in_ok-steps.ensures c.deref.ensures.value c.deref-2.ensures.value
     c.in_ok-graph.ensures.graph c.in_ok-demands.ensures in
     kind_told s shown c.requires c.args.explain c.in_ok-demands.demands c.in_ok-graph.graph
-    c.in_ok-steps.steps.items c.len.result section c.in_ok-steps.ensures c.len.ensures.number has
+    c.len.result section c.len.ensures.number has
     (subst (λ (m : Reported). IsSection m.detail m.base m.patches shown.first section) c.in_ok-maker.ensures
     c.in_ok-section.ensures.told)

@@ -9,14 +9,19 @@ use Rattle.first_crashes.proofs.workloads.needed_workload.Goals as goal
 pub first_without-requires-clause-needed : goal.first_without-requires-clause-needed
 first_without-requires-clause-needed g c = c.requires.needed.needed
 
-pub steps_at-requires : goal.steps_at-requires
-steps_at-requires g c =
+pub workload_at-requires : goal.workload_at-requires
+workload_at-requires g c =
     below (search_by c.args.rules.now.judge.now) c.args.group c.in_ok-places.places.now.items c.in_ok-places.ensures
 
 pub traced_of-requires : goal.traced_of-requires
 traced_of-requires g c =
     traced (search_by c.args.rules.now.judge.now) c.args.group c.in_ok-places.places.now.items
     c.in_ok-places.ensures c.in_ok-steps.steps.items c.deref.result.now c.in_ok-steps.ensures c.deref.ensures.value
+
+pub demands-requires : goal.demands-requires
+demands-requires g c =
+    traced (search_by c.args.rules.now.judge.now) c.args.group c.in_ok-places.places.now.items
+    c.in_ok-places.ensures c.in_ok-steps.steps.items c.deref-2.result.now c.in_ok-steps.ensures c.deref-2.ensures.value
 
 pub first_fault-requires : goal.first_fault-requires
 first_fault-requires g c =

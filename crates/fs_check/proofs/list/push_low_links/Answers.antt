@@ -2,7 +2,7 @@ use Rattle.std.proofs.Common.{◌<◌, length, get_or, arith}
 use Rattle.crash_model.specs.declared.fault.Fault.TheVariants.{LowLinks}
 use Rattle.fs_check.specs.References.{low_links_at}
 use Rattle.fs_check.proofs.Found.{pushed, passed_over}
-use Rattle.fs_check.proofs.Counted.{low_links-many, low_links-few}
+use Rattle.fs_check.proofs.Tallied.{low_links-many, low_links-few}
 use Rattle.fs_check.proofs.list.push_low_links.Goals as goal
 use Rattle.fs_check.proofs.list.push_low_links.Goals.{then-links-entries+in_ok-push, else-links-entries}
 

@@ -3,7 +3,7 @@ use Rattle.std.proofs.lemmas.List.{append-nil}
 use Rattle.crash_model.specs.declared.fault.Fault.TheVariants.{Twice}
 use Rattle.fs_check.specs.References.{twice_at}
 use Rattle.fs_check.proofs.Found.{pushed, passed_over}
-use Rattle.fs_check.proofs.Counted.{twice-many, twice-few, twice-never}
+use Rattle.fs_check.proofs.Tallied.{twice-many, twice-few, twice-never}
 use Rattle.fs_check.proofs.list.push_twice.Goals as goal
 use Rattle.fs_check.proofs.list.push_twice.Goals.{then-pointer_counts-block-gt1+in_ok-push, else-pointer_counts-block-gt1}
 

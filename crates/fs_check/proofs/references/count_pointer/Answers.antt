@@ -1,5 +1,5 @@
 use Rattle.std.proofs.Common.{◌<◌, length, arith, refl, sym, ◌∙◌}
-use Rattle.fs_check.proofs.Counted.{pointer_counts-most, pointer_counts-tame, pointer_counts-wild}
+use Rattle.fs_check.proofs.Tallied.{pointer_counts-most, pointer_counts-tame, pointer_counts-wild}
 use Rattle.fs_check.proofs.references.count_pointer.Goals as goal
 
 pub overflow_add-pointer_counts : goal.overflow_add-pointer_counts

@@ -5,7 +5,7 @@ use Rattle.crash_model.proofs.EachBelow.{each_below-zero}
 use Rattle.fs_check.specs.References.{dangling_at, led_at}
 use Rattle.fs_check.proofs.Counting.{tally-start}
 use Rattle.fs_check.proofs.Found.{row_pushed, row_passed, dangling-uncounted}
-use Rattle.fs_check.proofs.Counted.{entry_counts-uncounted}
+use Rattle.fs_check.proofs.Tallied.{entry_counts-uncounted}
 use Rattle.fs_check.proofs.references.push_dangling.Goals as goal
 use Rattle.fs_check.proofs.references.push_dangling.Goals.{then-counts+in_ok-push_dangling_of, else-counts}
 

@@ -6,7 +6,7 @@ use Rattle.fs_check.specs.References.{dangling_at, led_at}
 use Rattle.fs_check.proofs.Counting.{tally-row}
 use Rattle.fs_check.proofs.Entries.{live-below}
 use Rattle.fs_check.proofs.Found.{pushed, passed_over, dangling-here, dangling-entry_counts, dangling-none}
-use Rattle.fs_check.proofs.Counted.{entry_counts-none, entry_counts-dead, entry_counts-live, entry_counts-most}
+use Rattle.fs_check.proofs.Tallied.{entry_counts-none, entry_counts-dead, entry_counts-live, entry_counts-most}
 use Rattle.fs_check.proofs.references.push_dangling_of.Goals as goal
 use Rattle.fs_check.proofs.references.push_dangling_of.Goals.{then-entry-ne0+then-is_live}
 use Rattle.fs_check.proofs.references.push_dangling_of.Goals.{then-entry-ne0+else-is_live+in_ok-push, else-entry-ne0}

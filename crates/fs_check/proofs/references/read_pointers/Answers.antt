@@ -4,7 +4,7 @@ use Rattle.crash_model.proofs.EachBelow.{each_below-zero}
 use Rattle.fs_check.specs.References.{wrong_at, named_at}
 use Rattle.fs_check.proofs.Counting.{tally-start}
 use Rattle.fs_check.proofs.Found.{row_pushed, row_passed, wrong-dead}
-use Rattle.fs_check.proofs.Counted.{pointer_counts-dead}
+use Rattle.fs_check.proofs.Tallied.{pointer_counts-dead}
 use Rattle.fs_check.proofs.references.read_pointers.Goals as goal
 use Rattle.fs_check.proofs.references.read_pointers.Goals.{then-is_live, else-is_live}
 

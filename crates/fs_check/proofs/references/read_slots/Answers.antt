@@ -4,7 +4,7 @@ use Rattle.crash_model.proofs.EachBelow.{some_below-zero}
 use Rattle.fs_check.specs.References.{pointer, wrong_at, named_at}
 use Rattle.fs_check.proofs.Counting.{tally-row}
 use Rattle.fs_check.proofs.Found.{pushed, passed_over, wrong-here, wrong-right, wrong-none}
-use Rattle.fs_check.proofs.Counted.{pointer_counts-none}
+use Rattle.fs_check.proofs.Tallied.{pointer_counts-none}
 use Rattle.fs_check.proofs.references.read_slots.Goals as goal
 use Rattle.fs_check.proofs.references.read_slots.Goals.{then-block-ne0+then-not-is_right_block}
 use Rattle.fs_check.proofs.references.read_slots.Goals.{then-block-ne0+else-not-is_right_block, else-block-ne0}

@@ -14,7 +14,7 @@ returns-then-is_empty g c = λ q at.
     let there = emitted_is t.emitted c.args.earlier c.requires.emitted in
     let are = c.reasons.ensures q there.0 at there.1 in
     sym (ap (option_map dependency_data) (no_dependency t q there.0 c.args.earlier (length c.list-reasons.result.items)
-    there.1 (c.list-reasons.ensures.some t q there.0 are)
+    there.1 (c.list-reasons.ensures.some t q c.args.earlier there.0 are)
     (eqb-true (length c.list-reasons.result.items) 0 (sym c.is_empty.ensures ∙ c.if-is_empty.true))))
 
 pub returns : goal.returns
@@ -26,6 +26,6 @@ returns g c = λ q at.
     ≡ dependency_data (record { id = c.args.earlier; reasons = map reason_text rs })) c.as_slice.ensures.value
     c.in_ok-dependency.ensures) ∙ sym (ap (option_map dependency_data)
     (dependency_is t q there.0 c.args.earlier (length c.list-reasons.result.items)
-    (map reason_text c.list-reasons.result.items) there.1 (c.list-reasons.ensures.some t q there.0 are)
+    (map reason_text c.list-reasons.result.items) there.1 (c.list-reasons.ensures.some t q c.args.earlier there.0 are)
     (let some : length c.list-reasons.result.items ≢ 0 = eqb-false (length c.list-reasons.result.items) 0
-    (sym c.is_empty.ensures ∙ c.if-is_empty.false) in omega arith) (c.list-reasons.ensures.texts t q there.0 are)))
+    (sym c.is_empty.ensures ∙ c.if-is_empty.false) in omega arith) (c.list-reasons.ensures.texts t q c.args.earlier there.0 are)))

@@ -1,9 +1,11 @@
-use Rattle.std.proofs.Common.{rules, ◌≡◌, ◌+◌, List, ◌∷◌, drop, refl, sym, subst, inl, inr}
+use Rattle.std.proofs.Common.{rules, ◌≡◌, ◌+◌, List, ◌∷◌, drop, refl, sym, subst, ap, ◌∙◌, inl, inr}
+use Rattle.std.specs.Prelude.{Err}
 use Rattle.crash_model.specs.Sound.{IsSound}
-use Rattle.crash_model.specs.declared.refusals.TraceFault.TheVariants.{GroupFault}
+use Rattle.crash_model.specs.Trace.{base_from}
+use Rattle.crash_model.specs.declared.refusals.TraceFault.{TraceFault}
 use Rattle.crash_model.specs.declared.steps.Step.{Step}
-use Rattle.order_modules.specs.Base.{StepTurns, StepsStop}
-use Rattle.order_modules.proofs.Turning.{drop_step, turns_on, stops_on}
+use Rattle.order_modules.specs.Base.{disk_before_refusal, StepTurns, StepsStop}
+use Rattle.order_modules.proofs.Turning.{drop_step, turns_on, stops_on, stops_base, stops_disk}
 use Rattle.order_modules.proofs.base.build_base.Goals as goal
 
 pub returns-in_default : goal.returns-in_default
@@ -11,16 +13,22 @@ returns-in_default g c =
     let split : drop c.loop-step.step-index c.args.steps.now ≡ c.step-item.result ∷ drop (c.loop-step.step-index + 1)
     c.args.steps.now = drop_step c.args.steps.now c.loop-step.step-index c.step-item.result c.loop-step-test.true
     c.step-item.is in record {
-      built = search rules;
-      refused = search rules;
-      before = search rules;
+      built = tt;
+      refused = sym c.loop-step.invariant.built ∙ ap (λ (l : List Step). base_from c.loop-step.image l) split
+          ∙ stops_base c.loop-step.image c.step-item.result (drop (c.loop-step.step-index + 1) c.args.steps.now)
+          c.in_default.not-Do
+          ∙ ap (λ (e : TraceFault). Err e) (sym c.no_operation.ensures);
+      before = sym (sym c.loop-step.invariant.before
+          ∙ ap (λ (l : List Step). disk_before_refusal c.loop-step.image l) split
+          ∙ stops_disk c.loop-step.image c.step-item.result (drop (c.loop-step.step-index + 1) c.args.steps.now)
+          c.in_default.not-Do);
       journal = search rules;
       sound = search rules;
       means = λ _. tt;
       stops = λ sound.
-          let fault = GroupFault c.step-item.result.line in
+          let fault = c.no_operation.result in
           let there : StepsStop c.loop-step.image (c.step-item.result ∷ drop (c.loop-step.step-index + 1)
-          c.args.steps.now) c.loop-step.image fault = inl (inr (c.in_default.not-Do, refl), refl) in
+          c.args.steps.now) c.loop-step.image fault = inl (inr (c.in_default.not-Do, c.no_operation.ensures), refl) in
           c.loop-step.invariant.stops sound c.loop-step.image fault
           (subst (λ (l : List Step). StepsStop c.loop-step.image l c.loop-step.image fault) (sym split) there);
     }

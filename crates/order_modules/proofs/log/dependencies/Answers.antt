@@ -2,7 +2,7 @@ use Rattle.std.proofs.Common.{◌≡◌, ◌+◌, ◌<◌, true, false, length, 
 use Rattle.std.specs.Prelude.{IsTrue, ◌||◌}
 use Rattle.std.specs.List.{list_any}
 use Rattle.std.proofs.lemmas.Option.{slice_get_within, slice_get_read, get_or_from_slice_get}
-use Rattle.crash_model.specs.Trace.{groups_depend, applies}
+use Rattle.crash_model.specs.Trace.{groups_depend, waits_for, applies}
 use Rattle.patch_graph.proofs.Steps.{Collects, collects_none, collects_one, collects_skip}
 use Rattle.traced_patches.specs.Labels.{emitted_of, links_by}
 use Rattle.order_modules.specs.Log.{WaitsAt}
@@ -34,7 +34,7 @@ loop-id-preserved c =
           subst (Collects P (id + 1)) (sym w.ids-is) (collects_skip P id c.loop-id.ids c.loop-id.invariant
           (λ is. let same : is.0 ≡ x = sym (get_or_from_slice_get labels id is.0 x is.1) ∙ sym c.index-labels-id.is in
           let no : false ≡ true = sym w.if-waits.false ∙ c.waits.ensures
-          ∙ subst (λ y. IsTrue (groups_depend links (emitted_of later) (emitted_of y)
+          ∙ subst (λ y. IsTrue (groups_depend links (emitted_of later) (emitted_of y) || waits_for (emitted_of later) id
           || list_any (λ rule. applies rule (emitted_of later) (emitted_of y)) rules)) same is.2 in cc))
     ]
 

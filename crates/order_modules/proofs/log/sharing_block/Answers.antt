@@ -1,6 +1,6 @@
 use Rattle.std.proofs.Common.{◌≡◌, ◌+◌, ◌<◌, true, false, length, arith, sym, subst, ◌∙◌}
 use Rattle.std.specs.Prelude.{IsTrue, ◌&&◌, ◌==◌}
-use Rattle.std.proofs.lemmas.Option.{slice_get_within, get_or_from_slice_get}
+use Rattle.std.proofs.lemmas.Option.{slice_get_within}
 use Rattle.crash_model.specs.declared.patches.Patch.{Patch}
 use Rattle.patch_graph.proofs.Steps.{Collects, collects_none, collects_one, collects_skip}
 use Rattle.order_modules.specs.Log.{SharesAt}

@@ -11,7 +11,7 @@ returns c = λ demands base patches are of_kind.
     let first = least_is_first demands base patches c.args.faults.now in
     elim of_kind as (λ k. IsFirstOfKind k demands base patches (slice_index_or (c.first_of.result ∷ c.first_of-2.result
     ∷ c.first_of-3.result ∷ c.first_of-4.result ∷ c.first_of-5.result ∷ c.first_of-6.result ∷ c.first_of-7.result
-    ∷ c.first_of-8.result ∷ c.first_of-9.result ∷ [])
+    ∷ c.first_of-8.result ∷ c.first_of-9.result ∷ c.first_of-10.result ∷ [])
     (kind_number k - 1) None)) [
       | kind.Dangling ↦ first kind.Dangling c.first_of.result are c.first_of.ensures
       | kind.Twice ↦ first kind.Twice c.first_of-2.result are c.first_of-2.ensures
@@ -22,4 +22,5 @@ returns c = λ demands base patches are of_kind.
       | kind.Lost ↦ first kind.Lost c.first_of-7.result are c.first_of-7.ensures
       | kind.NoBlock ↦ first kind.NoBlock c.first_of-8.result are c.first_of-8.ensures
       | kind.HalfDone ↦ first kind.HalfDone c.first_of-9.result are c.first_of-9.ensures
+      | kind.BrokenPromise ↦ first kind.BrokenPromise c.first_of-10.result are c.first_of-10.ensures
     ]

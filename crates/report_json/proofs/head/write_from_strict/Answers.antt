@@ -1,6 +1,6 @@
 use Rattle.std.proofs.Common.{◌≡◌, ◌++◌, codes, string_bytes, ap, ◌∙◌}
 use Rattle.report_model.specs.Whole.{rules_json, told_with, told_without}
-use Rattle.report_sections.proofs.Pieces.{five_pieces}
+use Rattle.report_json.proofs.Keys.{six_pieces}
 use Rattle.report_json.proofs.head.write_from_strict.Goals as goal
 
 pub returns : goal.returns
@@ -14,5 +14,6 @@ returns g c = λ base.
     ++ rules_json (codes "without") (told_without settings) =
     c.in_ok-write_rule_key-2.ensures ∙ ap (λ rs. string_bytes c.write_rule_key.new.out ++ rules_json (codes "without")
     rs) (c.as_slice-2.ensures.value ∙ c.taken_out.ensures) in
-    five_pieces _ _ _ _ _ _ _ _ _ _ _ c.in_ok-write_strict_key.ensures (c.in_ok-write_explained_trace.ensures base)
+    six_pieces _ _ _ _ _ _ _ _ _ _ _ _ _ c.in_ok-write_strict_key.ensures (c.in_ok-write_explained_trace.ensures base)
+    (c.in_ok-write_waits.ensures base)
     c.in_ok-write_whole_key.ensures with without

@@ -2,19 +2,21 @@ use Rattle.std.proofs.Common.{◌≡◌, ◌++◌, length, string_bytes}
 use Rattle.std.proofs.lemmas.Result.{on_ok_weaker}
 use Rattle.crash_model.specs.Disk.{Disk}
 use Rattle.report_sections.specs.Bodies.{explanation_by}
-use Rattle.report_json.specs.JsonReport.{WritesFromModule, from_strict}
+use Rattle.report_json.specs.JsonReport.{WritesFromModule, from_strict, told_promises}
 use Rattle.report_json.proofs.Reports.{keys_from_module}
 use Rattle.report_json.proofs.report.write_from_module.Goals as goal
 
 pub returns : goal.returns
 returns g c =
     let report = c.args.report.now in
-    let number : c.len.result ≡ length report.traced.now.patches = cc in
+    let number : c.len-patches.result ≡ length report.traced.now.patches = cc in
     let late = string_bytes c.write_late.new.out in
     let after = string_bytes c.write_from_strict.new.out in
     on_ok_weaker {P = (base : Disk) → after ≡ late ++ from_strict report.settings.now
-    (explanation_by base report.traced.now)}
+    (length report.traced.now.patches) (explanation_by base report.traced.now)
+    (told_promises report.settings.now report.demands.now)}
     {Q = WritesFromModule report (string_bytes c.args.out.now) after}
     c.write_from_strict.result
-    (λ wrote body tells. keys_from_module report c.len.result body _ _ _ _ number c.in_ok-write_module.ensures
+    (λ wrote body tells. keys_from_module report c.len-patches.result body _ _ _ _ _ number c.in_ok-write_module.ensures
+    c.in_ok-write_promises.ensures
     (c.in_ok-write_late.ensures body tells) (wrote report.base.now)) c.write_from_strict.ensures

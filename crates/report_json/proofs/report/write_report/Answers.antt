@@ -6,7 +6,8 @@ returns g c =
     let early = c.in_ok-write_early.ensures in (
       early.0,
       early.1,
-      whole_text c.args.report.now early.0 _ _ _ _ _ _ _ c.requires.empty c.in_ok-push_str.ensures.bytes
-          (c.in_ok-write_first_keys.ensures c.args.report.now.traced.now) c.in_ok-write.ensures.bytes early.2
+      whole_text c.args.report.now early.0 _ _ _ _ _ _ _ _ c.requires.empty c.in_ok-push_str.ensures.bytes
+          (c.in_ok-write_first_keys.ensures c.args.report.now.traced.now) c.in_ok-write.ensures.bytes
+          c.in_ok-write_promise_keys.ensures early.2
           (c.in_ok-write_from_module.ensures early.0 early.1) c.in_ok-push_str-2.ensures.bytes,
     )

@@ -2,6 +2,7 @@ use Rattle.std.proofs.Common.{◌++◌, [], codes, decimal}
 use Rattle.std.specs.Prelude.{if◌then◌else◌}
 use Rattle.std.proofs.lemmas.Result.{on_ok_weaker}
 use Rattle.report_model.specs.Report.{line}
+use Rattle.report_model.specs.Shows.{counted_text}
 use Rattle.crash_model.specs.Texts.{module_text}
 use Rattle.report_model.specs.Whole.{rule_lines, told_with, told_without, blocks_text}
 use Rattle.report_text.proofs.HeadLines.{head_of}
@@ -13,6 +14,7 @@ returns g c =
     on_ok_weaker c.write_numbers.result (λ wrote. head_of _ _ _ (line (codes "module " ++ module_text s.module))
     (rule_lines (codes "without") (told_without s)) (rule_lines (codes "with") (told_with s))
     (blocks_text s.generations s.whole_blocks) (if s.strict then line (codes "strict") else [])
-    (if s.atomic then line (codes "atomic") else []) (line (codes "patches " ++ decimal c.args.patches))
-    (line (codes "closed " ++ decimal c.args.closed)) (line (codes "failing " ++ decimal c.args.failing))
+    (if s.atomic then line (codes "atomic") else []) (if s.durable then line (codes "durable") else [])
+    (counted_text s.counted) (line (codes "patches " ++ decimal c.args.patches)) (line (codes "closed "
+    ++ decimal c.args.closed)) (line (codes "failing " ++ decimal c.args.failing))
     c.in_ok-write_ordering.ensures wrote) c.write_numbers.ensures

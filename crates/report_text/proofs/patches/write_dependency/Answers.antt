@@ -10,7 +10,7 @@ returns-then-is_empty g c = λ q at.
     let t = c.args.traced.now in
     let there = emitted_is t.emitted c.args.earlier c.requires.emitted in
     none_told t q there.0 c.args.earlier (length c.list-reasons.result.items) (string_bytes c.args.out.now) there.1
-    (c.list-reasons.ensures.some t q there.0 (c.reasons.ensures q there.0 at there.1))
+    (c.list-reasons.ensures.some t q c.args.earlier there.0 (c.reasons.ensures q there.0 at there.1))
     (eqb-true (length c.list-reasons.result.items) 0 (sym c.is_empty.ensures ∙ c.if-is_empty.true))
 
 pub returns : goal.returns
@@ -20,7 +20,7 @@ returns g c = λ q at.
     let are = c.reasons.ensures q there.0 at there.1 in
     some_told t q there.0 c.args.earlier (length c.list-reasons.result.items)
     (map reason_text c.list-reasons.result.items) (string_bytes c.args.out.now) _ _ _ there.1
-    (c.list-reasons.ensures.some t q there.0 are) (let some : length c.list-reasons.result.items ≢ 0 =
+    (c.list-reasons.ensures.some t q c.args.earlier there.0 are) (let some : length c.list-reasons.result.items ≢ 0 =
     eqb-false (length c.list-reasons.result.items) 0 (sym c.is_empty.ensures ∙ c.if-is_empty.false) in omega arith)
-    (c.list-reasons.ensures.texts t q there.0 are) c.in_ok-write.ensures.bytes
+    (c.list-reasons.ensures.texts t q c.args.earlier there.0 are) c.in_ok-write.ensures.bytes
     (rw c.as_slice.ensures.value at c.in_ok-write_reasons.ensures) c.in_ok-push_str.ensures.bytes

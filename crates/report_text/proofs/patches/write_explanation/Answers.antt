@@ -1,10 +1,10 @@
-use Rattle.std.proofs.Common.{refl}
-use Rattle.report_text.proofs.Reports.{explained, unexplained}
+use Rattle.report_text.proofs.PromiseLines.{explained, unexplained}
 use Rattle.report_text.proofs.patches.write_explanation.Goals as goal
 
-pub returns-in_ok-write_patches : goal.returns-in_ok-write_patches
-returns-in_ok-write_patches g c = λ base.
-    explained base c.args.traced.now c.args.explain _ _ c.if-explain.true c.in_ok-write_patches.ensures
+pub returns-in_ok-write_waits : goal.returns-in_ok-write_waits
+returns-in_ok-write_waits g c = λ base.
+    explained base c.args.traced.now c.args.explain c.len.result _ _ _ _ c.if-explain.true c.len.ensures.patches
+    c.waits.ensures c.in_ok-write_patches.ensures c.in_ok-write_waits.ensures
 
 pub returns-else-explain : goal.returns-else-explain
-returns-else-explain g c = λ base. unexplained base c.args.traced.now c.args.explain _ _ c.if-explain.false refl
+returns-else-explain g c = λ base. unexplained base c.args.traced.now c.args.explain _ c.if-explain.false

@@ -38,8 +38,9 @@ returns-in_ok-write_together-in-Sets g c =
       whole.Sets wrote.sections,
       subst (λ b. TellsBody (detail_by report) report.base.now patches b (whole.Sets wrote.sections)) (sym c.in-Sets.is)
           (wrote.sections, wrote.are, refl),
-      whole_text report c.len-patches.result (whole.Sets wrote.sections) _ _ _ _ c.requires.empty number
-          c.in_ok-write_head.ensures (c.in_ok-write_explanation.ensures report.base.now) wrote.whole,
+      whole_text report c.len-patches.result (whole.Sets wrote.sections) _ _ _ _ _ c.requires.empty number
+          c.in_ok-write_head.ensures (c.in_ok-write_explanation.ensures report.base.now) c.in_ok-write_promises.ensures
+          wrote.whole,
     )
 
 pub returns-in_ok-write_faults-in-Faults : goal.returns-in_ok-write_faults-in-Faults
@@ -51,8 +52,9 @@ returns-in_ok-write_faults-in-Faults g c =
       whole.Faults wrote.told,
       subst (λ b. TellsBody (detail_by report) report.base.now patches b (whole.Faults wrote.told)) (sym c.in-Faults.is)
           (wrote.told, wrote.of_rows, wrote.firsts, refl),
-      whole_text report c.len-patches.result (whole.Faults wrote.told) _ _ _ _ c.requires.empty number
-          c.in_ok-write_head.ensures (c.in_ok-write_explanation.ensures report.base.now) wrote.whole,
+      whole_text report c.len-patches.result (whole.Faults wrote.told) _ _ _ _ _ c.requires.empty number
+          c.in_ok-write_head.ensures (c.in_ok-write_explanation.ensures report.base.now) c.in_ok-write_promises.ensures
+          wrote.whole,
     )
 
 pub returns-in_ok-write_rules-in-Rules : goal.returns-in_ok-write_rules-in-Rules
@@ -62,12 +64,12 @@ returns-in_ok-write_rules-in-Rules g c =
     let number : c.len-patches.result ≡ length patches = cc in
     let rules = c.in-Rules.rules.now in
     let told = map told_rule rules in
-    let before = string_bytes c.write_explanation.new.out in (
+    let before = string_bytes c.write_promises.new.out in (
       whole.Rules told,
       subst (λ b. TellsBody (detail_by report) report.base.now patches b (whole.Rules told)) (sym c.in-Rules.is) refl,
-      whole_text report c.len-patches.result (whole.Rules told) _ _ _ _ c.requires.empty number
+      whole_text report c.len-patches.result (whole.Rules told) _ _ _ _ _ c.requires.empty number
           c.in_ok-write_head.ensures (c.in_ok-write_explanation.ensures report.base.now)
-          (c.in_ok-write_rules-in-Rules.ensures ∙ (ap (λ (k : ℕ). before
+          c.in_ok-write_promises.ensures (c.in_ok-write_rules-in-Rules.ensures ∙ (ap (λ (k : ℕ). before
           ++ flat_map (λ rule. told_rule_text k (told_rule rule)) rules) number
           ∙ ap (λ (t : List ℕ). before ++ t) (sym (flat_map-map (told_rule_text (length patches)) told_rule rules)))),
     )

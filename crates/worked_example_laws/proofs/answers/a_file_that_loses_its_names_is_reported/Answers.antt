@@ -1,10 +1,4 @@
 use Rattle.std.proofs.Common.{refl}
-use Rattle.crash_model.specs.Disk.{overwrite}
-use Rattle.crash_model.specs.Lists.{each_below, some_below, first_below}
-use Rattle.crash_model.specs.Layout.{generation_of, mark_generation}
-use Rattle.crash_model.specs.Plan.{plan_of, next_generation}
-use Rattle.crash_model.specs.Faults.{each_slot, each_entry, namers, entries_to, faults}
-use Rattle.crash_model.specs.Strict.{reach_in, is_reached, strict_faults}
 use Rattle.std.proofs.Common.{[], ◌∷◌}
 use Rattle.std.specs.Prelude.{codes}
 use Rattle.std.specs.Fmt.{digits}
@@ -16,19 +10,16 @@ use Rattle.crash_model.specs.declared.modules.Module.TheVariants.{Soft}
 use Rattle.worked_example_laws.specs.Examples.{root}
 use Rattle.worked_example_laws.specs.Spelled.{settings_of, strict_settings_of}
 use Rattle.std.proofs.Common.{true}
+use Rattle.worked_example_laws.specs.Opened.{planner, checker, strict_checker}
 use Rattle.worked_example_laws.proofs.Answering.{reported}
 use Rattle.worked_example_laws.proofs.answers.a_file_that_loses_its_names_is_reported.Goals as goal
 
 pub returns-clause-strict : goal.returns-clause-strict
-unfolding overwrite each_below some_below first_below plan_of each_slot each_entry namers entries_to faults reach_in
-    generation_of mark_generation next_generation
-    is_reached strict_faults fault_text text_report json_report digits
+unfolding strict_checker fault_text text_report json_report digits
 returns-clause-strict c = reported (strict_settings_of Soft 16 0 true) 4096 (Do (Create (root (codes "a"))) ∷ [])
     (Do (Link (root (codes "a")) (root (codes "b"))) ∷ Do (Unlink (root (codes "a"))) ∷ []) 8 (4 ∷ 5 ∷ 13 ∷ []) _ refl refl
 
 pub returns-clause-unasked : goal.returns-clause-unasked
-unfolding overwrite each_below some_below first_below plan_of each_slot each_entry namers entries_to faults fault_text
-    generation_of mark_generation next_generation
-    text_report json_report digits
+unfolding planner checker fault_text text_report json_report digits
 returns-clause-unasked c = reported (settings_of Soft 16 0 true) 4096 (Do (Create (root (codes "a"))) ∷ [])
     (Do (Link (root (codes "a")) (root (codes "b"))) ∷ Do (Unlink (root (codes "a"))) ∷ []) 8 [] _ refl refl

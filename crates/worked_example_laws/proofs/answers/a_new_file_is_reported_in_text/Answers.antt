@@ -1,9 +1,4 @@
 use Rattle.std.proofs.Common.{refl}
-use Rattle.crash_model.specs.Disk.{overwrite}
-use Rattle.crash_model.specs.Lists.{each_below, some_below, first_below}
-use Rattle.crash_model.specs.Layout.{generation_of, mark_generation}
-use Rattle.crash_model.specs.Plan.{plan_of, next_generation}
-use Rattle.crash_model.specs.Faults.{each_slot, each_entry, namers, entries_to, faults}
 use Rattle.std.proofs.Common.{[], ◌∷◌}
 use Rattle.std.specs.Prelude.{codes}
 use Rattle.std.specs.Fmt.{digits}
@@ -15,19 +10,16 @@ use Rattle.crash_model.specs.declared.modules.Module.TheVariants.{Async, Soft}
 use Rattle.worked_example_laws.specs.Examples.{root}
 use Rattle.worked_example_laws.specs.Spelled.{settings_of}
 use Rattle.std.proofs.Common.{false}
+use Rattle.worked_example_laws.specs.Opened.{planner, checker}
 use Rattle.worked_example_laws.proofs.Answering.{reported}
 use Rattle.worked_example_laws.proofs.answers.a_new_file_is_reported_in_text.Goals as goal
 
 pub returns-clause-unordered : goal.returns-clause-unordered
-unfolding overwrite each_below some_below first_below plan_of each_slot each_entry namers entries_to faults fault_text
-    generation_of mark_generation next_generation
-    text_report json_report digits
+unfolding planner checker fault_text text_report json_report digits
 returns-clause-unordered c = reported (settings_of Async 16 0 false) 4096 ([]) (Do (Create (root (codes "a"))) ∷ []) 4
     (2 ∷ []) _ refl refl
 
 pub returns-clause-soft : goal.returns-clause-soft
-unfolding overwrite each_below some_below first_below plan_of each_slot each_entry namers entries_to faults fault_text
-    generation_of mark_generation next_generation
-    text_report json_report digits
+unfolding planner checker fault_text text_report json_report digits
 returns-clause-soft c = reported (settings_of Soft 16 0 false) 4096 ([]) (Do (Create (root (codes "a"))) ∷ []) 3 []
     _ refl refl

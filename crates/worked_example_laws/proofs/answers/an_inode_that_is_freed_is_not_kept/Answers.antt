@@ -1,10 +1,4 @@
 use Rattle.std.proofs.Common.{refl}
-use Rattle.crash_model.specs.Disk.{overwrite}
-use Rattle.crash_model.specs.Lists.{each_below, some_below, first_below}
-use Rattle.crash_model.specs.Layout.{generation_of, mark_generation}
-use Rattle.crash_model.specs.Plan.{plan_of, next_generation}
-use Rattle.crash_model.specs.Faults.{each_slot, each_entry, namers, entries_to, faults}
-use Rattle.crash_model.specs.Strict.{reach_in, is_reached, strict_faults}
 use Rattle.std.proofs.Common.{[], ◌∷◌}
 use Rattle.std.specs.Prelude.{codes}
 use Rattle.std.specs.Fmt.{digits}
@@ -16,12 +10,11 @@ use Rattle.crash_model.specs.declared.modules.Module.TheVariants.{Soft}
 use Rattle.worked_example_laws.specs.Examples.{root}
 use Rattle.worked_example_laws.specs.Spelled.{strict_settings_of}
 use Rattle.std.proofs.Common.{false}
+use Rattle.worked_example_laws.specs.Opened.{strict_checker}
 use Rattle.worked_example_laws.proofs.Answering.{reported}
 use Rattle.worked_example_laws.proofs.answers.an_inode_that_is_freed_is_not_kept.Goals as goal
 
 pub returns : goal.returns
-unfolding overwrite each_below some_below first_below plan_of each_slot each_entry namers entries_to faults reach_in
-    generation_of mark_generation next_generation
-    is_reached strict_faults fault_text text_report json_report digits
+unfolding strict_checker fault_text text_report json_report digits
 returns c = reported (strict_settings_of Soft 16 0 false) 4096 (Do (Create (root (codes "a"))) ∷ [])
     (Do (Unlink (root (codes "a"))) ∷ Do (Create (root (codes "b"))) ∷ []) 5 [] _ refl refl

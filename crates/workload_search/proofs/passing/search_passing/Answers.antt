@@ -16,8 +16,10 @@ pub try_level-requires-clause-short : goal.try_level-requires-clause-short
 try_level-requires-clause-short g c κs within =
     let beginnings = c.loop-made.beginnings in
     let pool = c.args.pool in
+    let laws = g.met.J.Judge g.world.𝓛 g.world.𝓜 g.world.𝓡 ((λ s x. x), (λ x. x), (λ x. x), λ x. x) in
     subst (All (IsExtendable (g.J.Judge.search c.args.judge.now) pool)) (sym c.deref.ensures.value)
-    (all_extendable (g.J.Judge.search c.args.judge.now) pool c.loop-made.made beginnings.items c.requires.pool
+    (all_extendable (g.J.Judge.search c.args.judge.now) pool c.loop-made.made beginnings.items
+    (laws.begins c.args.judge.now) c.requires.pool
     (omega (arith, c.loop-made-test.true, c.requires.range.1))
     (c.loop-made.invariant.searched.fronts (omega (arith, c.loop-made-test.true, c.requires.most))))
 

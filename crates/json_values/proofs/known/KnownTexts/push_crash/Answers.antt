@@ -8,10 +8,11 @@ use Rattle.json_values.proofs.known.KnownTexts.push_crash.Goals as goal
 pub returns-clause-text : goal.returns-clause-text
 returns-clause-text g c =
     let patches = c.args.self.now in
+    let fault = c.args.fault in
     let s = section_of c.args.section.now in
     on_ok_weaker {P = string_bytes c.push_leading.new.out ≡ string_bytes c.push_replay.new.out
-    ++ leading_json patches s}
-    {Q = string_bytes c.push_leading.new.out ≡ string_bytes c.args.out.now ++ crash_json patches s}
+    ++ leading_json patches fault s}
+    {Q = string_bytes c.push_leading.new.out ≡ string_bytes c.args.out.now ++ crash_json patches fault s}
     c.push_leading.result
-    (λ wrote. crash_pieces patches s (string_bytes c.args.out.now) _ _ c.in_ok-push_replay.ensures wrote)
+    (λ wrote. crash_pieces patches fault s (string_bytes c.args.out.now) _ _ c.in_ok-push_replay.ensures wrote)
     c.push_leading.ensures.text

@@ -1,22 +1,19 @@
-use Rattle.std.proofs.Common.{◌++◌, ℕ, List, map, string_bytes, ap, ◌∙◌}
-use Rattle.crash_model.specs.Lists.{join_of}
-use Rattle.report_model.specs.Report.{ids_json, write_json}
-use Rattle.patch_sets.specs.declared.write.BlockWrite.{BlockWrite}
+use Rattle.std.proofs.Common.{◌≡◌, ◌++◌, ℕ, string_bytes, ap, ◌∙◌}
+use Rattle.std.proofs.lemmas.Result.{on_ok_weaker}
+use Rattle.report_model.specs.Report.{ids_json}
 use Rattle.report_sections.specs.Sections.{section_of}
+use Rattle.json_values.specs.Items.{leading_json, last_json}
 use Rattle.json_values.proofs.SectionPieces.{leading_pieces}
 use Rattle.json_values.proofs.known.KnownTexts.push_leading.Goals as goal
 
 pub returns-clause-text : goal.returns-clause-text
 returns-clause-text g c =
     let patches = c.args.self.now in
-    let s = c.args.section.now in
+    let s = section_of c.args.section.now in
     let ids = ap (λ (n : ℕ). string_bytes c.push_str.new.self ++ ids_json n s.set) c.patches.ensures in
-    let writes = ap (λ (ws : List BlockWrite). string_bytes c.push_str-2.new.self
-    ++ join_of 44 (map (write_json patches) ws)) c.deref.ensures.value in
-    leading_pieces patches (section_of s) (string_bytes c.args.out.now)
-    _ _ _ _ (string_bytes c.push_str-3.new.self)
-    c.in_ok-push_str.ensures.bytes
-    (c.in_ok-push_set.ensures ∙ ids)
-    c.in_ok-push_str-2.ensures.bytes
-    (c.in_ok-push_writes.ensures.text ∙ writes)
-    c.in_ok-push_str-3.ensures.bytes
+    on_ok_weaker {P = string_bytes c.push_last.new.out ≡ string_bytes c.push_shows.new.out ++ last_json patches s}
+    {Q = string_bytes c.push_last.new.out ≡ string_bytes c.args.out.now ++ leading_json patches c.args.fault s}
+    c.push_last.result
+    (λ wrote. leading_pieces patches c.args.fault s (string_bytes c.args.out.now) _ _ _ _
+    c.in_ok-push_str.ensures.bytes (c.in_ok-push_set.ensures ∙ ids) c.in_ok-push_shows.ensures wrote)
+    c.push_last.ensures.text

@@ -1,11 +1,11 @@
 use Rattle.std.proofs.Common.{◌≡◌, ◌++◌, ℕ, List, map, string_bytes, ap, ◌∙◌}
 use Rattle.std.proofs.lemmas.Result.{on_ok_weaker}
 use Rattle.crash_model.specs.Lists.{join_of}
-use Rattle.report_model.specs.Report.{section_json}
+use Rattle.report_model.specs.Report.{ids_json, section_json}
 use Rattle.crash_model.specs.declared.fault.Fault.{Fault}
 use Rattle.report_sections.specs.Sections.{section_of}
 use Rattle.json_values.specs.Known.{fault_json}
-use Rattle.json_values.specs.Items.{crash_json}
+use Rattle.json_values.specs.Items.{last_json}
 use Rattle.json_values.proofs.SectionPieces.{section_pieces}
 use Rattle.json_values.proofs.known.KnownTexts.push_section.Goals as goal
 
@@ -16,11 +16,13 @@ returns-clause-text g c =
     let faults = ap (λ (fs : List Fault). string_bytes c.push_str.new.self ++ join_of 44 (map fault_json fs))
     c.deref.ensures.value in
     let same : c.push_faults.new.self ≡ patches = c.in_ok-push_faults.ensures.kept in
-    let crash = ap (λ (n : ℕ). string_bytes c.push_str-2.new.self ++ crash_json n s) same in
-    on_ok_weaker {P = string_bytes c.push_crash.new.out ≡ string_bytes c.push_str-2.new.self
-    ++ crash_json c.push_faults.new.self s}
-    {Q = string_bytes c.push_crash.new.out ≡ string_bytes c.args.out.now ++ section_json patches s}
-    c.push_crash.result
-    (λ wrote. section_pieces patches s (string_bytes c.args.out.now) _ _ _ _ c.in_ok-push_str.ensures.bytes
-    (c.in_ok-push_faults.ensures.text ∙ faults) c.in_ok-push_str-2.ensures.bytes (wrote ∙ crash))
-    c.push_crash.ensures.text
+    let ids = ap (λ (n : ℕ). string_bytes c.push_str-3.new.self ++ ids_json n s.set) (c.patches.ensures ∙ same) in
+    let last = ap (λ (n : ℕ). string_bytes c.push_all_shows.new.out ++ last_json n s) same in
+    on_ok_weaker {P = string_bytes c.push_last.new.out ≡ string_bytes c.push_all_shows.new.out
+    ++ last_json c.push_faults.new.self s}
+    {Q = string_bytes c.push_last.new.out ≡ string_bytes c.args.out.now ++ section_json patches s}
+    c.push_last.result
+    (λ wrote. section_pieces patches s (string_bytes c.args.out.now) _ _ _ _ _ _ _ _ c.in_ok-push_str.ensures.bytes
+    (c.in_ok-push_faults.ensures.text ∙ faults) c.in_ok-push_str-2.ensures.bytes c.in_ok-push_replay.ensures
+    c.in_ok-push_str-3.ensures.bytes (c.in_ok-push_set.ensures ∙ ids) c.in_ok-push_all_shows.ensures (wrote ∙ last))
+    c.push_last.ensures.text

@@ -1,4 +1,4 @@
-use Rattle.std.proofs.Common.{◌≡◌, ℕ, ◌&&◌, sym, ap, ◌∙◌, subst}
+use Rattle.std.proofs.Common.{◌≡◌, ℕ, sym, ap, ◌∙◌, subst}
 use Rattle.std.specs.Prelude.{◌==◌, false, true}
 use Rattle.crash_model.specs.Disk.{Disk, byte}
 use Rattle.known_bytes.specs.Generations.{generation_byte}

@@ -4,7 +4,7 @@ use Rattle.std.specs.List.{list_any}
 use Rattle.crash_model.specs.Plan.{unless}
 use Rattle.crash_model.specs.Trace.{is_among, is_same_group}
 use Rattle.crash_model.specs.declared.refusals.TraceFault.TheVariants as fault
-use Rattle.traced_patches.specs.Labels.{group_by}
+use Rattle.traced_patches.specs.Labels.{group_by, waits_by}
 use Rattle.order_modules.specs.Log.{Log}
 use Rattle.order_modules.specs.Tracer.{Trace, Moves, names_by, trace_of}
 use Rattle.order_modules.proofs.Grouping.{refused, accepted, or_first, or_second, or_neither, among_read}
@@ -41,7 +41,7 @@ returns-clause-ok g c =
     let earlier = c.args.earlier.now in
     let line = c.args.line in
     let old : Trace = trace_of i.log i.disk i.turn i.next (group_by i.current) (names_by i.opened.items)
-    (names_by i.ended.items) in
+    (names_by i.ended.items) i.forced (waits_by i.waits.items) in
     let a : Bool = not (is_among earlier (names_by i.ended.items)) in
     let b : Bool = bytes_eq later earlier in
     let p : Bool = list_any (λ e. is_same_group e.origin.group later) i.log.emitted in
@@ -49,7 +49,7 @@ returns-clause-ok g c =
     c.is_among.ensures c.as_slice.ensures.value refl in
     let linked = c.in_ok-link.ensures.ok in
     subst (λ (t : Trace). Moves t (trace_of c.link.new.self i.disk i.turn i.next (group_by i.current)
-    (names_by i.opened.items) (names_by i.ended.items))
+    (names_by i.opened.items) (names_by i.ended.items) i.forced (waits_by i.waits.items))
     (unless (not (is_among earlier t.tracing.ended) || bytes_eq later earlier
     || list_any (λ e. is_same_group e.origin.group later) t.tracing.emitted) (fault.GroupFault line)
     (Ok (record t.tracing { links = t.tracing.links ++ (later, earlier) ∷ [] })))) c.self.view_is

@@ -3,7 +3,7 @@ use Rattle.std.specs.Prelude.{Some, is_some, Ok}
 use Rattle.crash_model.specs.Plan.{unless}
 use Rattle.crash_model.specs.Trace.{is_among}
 use Rattle.crash_model.specs.declared.refusals.TraceFault.TheVariants as fault
-use Rattle.traced_patches.specs.Labels.{group_by}
+use Rattle.traced_patches.specs.Labels.{group_by, waits_by}
 use Rattle.order_modules.specs.Tracer.{Trace, Moves, names_by, trace_of}
 use Rattle.order_modules.proofs.Grouping.{refused, accepted, or_first, or_second, or_neither, some_group, among_read}
 use Rattle.order_modules.proofs.Grouping.{names_push}
@@ -34,7 +34,7 @@ returns-clause-ok g c =
     let s = c.args.self.now.tracing in
     let name = c.args.name.now in
     let old : Trace = trace_of i.log i.disk i.turn i.next (group_by i.current) (names_by i.opened.items)
-    (names_by i.ended.items) in
+    (names_by i.ended.items) i.forced (waits_by i.waits.items) in
     let line = c.args.line in
     let current : is_some (group_by i.current) ≡ false = some_group i.current ∙ sym c.is_some.ensures
     ∙ c.if-is_some.false in
@@ -42,7 +42,7 @@ returns-clause-ok g c =
     among_read old name i.opened.items c.as_slice.result.now c.is_among.result (names_by i.opened.items)
     c.is_among.ensures c.as_slice.ensures.value refl ∙ c.if-is_among.false in
     subst (λ (t : Trace). Moves t (trace_of i.log i.disk i.turn i.next (Some name) (names_by c.push.new.self.items)
-    (names_by i.ended.items))
+    (names_by i.ended.items) i.forced (waits_by i.waits.items))
     (unless (is_some t.tracing.current || is_among name t.tracing.opened) (fault.GroupFault line)
     (Ok (record t.tracing { current = Some name; opened = t.tracing.opened ++ name ∷ [] })))) c.self.view_is
     (record {

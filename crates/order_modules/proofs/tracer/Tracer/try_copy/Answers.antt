@@ -4,8 +4,11 @@ use Rattle.order_modules.proofs.tracer.Tracer.try_copy.Goals as goal
 
 pub returns : goal.returns
 returns g c =
-    let opened : c.in_ok-clone.field-0.items ≡ c.self.inside.opened.items =
-    each_same c.self.inside.opened.items c.in_ok-clone.field-0.items c.in_ok-clone.ensures.cases.0 in
-    let ended : c.in_ok-clone-2.field-0.items ≡ c.self.inside.ended.items =
-    each_same c.self.inside.ended.items c.in_ok-clone-2.field-0.items c.in_ok-clone-2.ensures.cases.0 in
-    rw (opened, ended, c.in_ok-try_copy.ensures, c.in_ok-try_copy-2.ensures) c.self.view_is
+    let i = c.self.inside in
+    let opened : c.in_ok-clone.field-0.items ≡ i.opened.items =
+    each_same i.opened.items c.in_ok-clone.field-0.items c.in_ok-clone.ensures.cases.0 in
+    let ended : c.in_ok-clone-2.field-0.items ≡ i.ended.items =
+    each_same i.ended.items c.in_ok-clone-2.field-0.items c.in_ok-clone-2.ensures.cases.0 in
+    let waits : c.in_ok-clone-3.field-0.items ≡ i.waits.items =
+    each_same i.waits.items c.in_ok-clone-3.field-0.items c.in_ok-clone-3.ensures.cases.0 in
+    rw (opened, ended, waits, c.in_ok-try_copy.ensures, c.in_ok-try_copy-2.ensures) c.self.view_is

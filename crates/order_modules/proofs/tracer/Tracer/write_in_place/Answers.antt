@@ -2,7 +2,7 @@ use Rattle.std.proofs.Common.{◌≡◌, ◌+◌, ◌≤◌, List, length, map, 
 use Rattle.std.specs.Prelude.{Ok}
 use Rattle.crash_model.specs.Trace.{origin_at, in_place_patch, trace_of_plan}
 use Rattle.crash_model.specs.declared.plans.Change.{Change}
-use Rattle.traced_patches.specs.Labels.{group_by}
+use Rattle.traced_patches.specs.Labels.{group_by, waits_by}
 use Rattle.order_modules.specs.Log.{Adds}
 use Rattle.order_modules.specs.Tracer.{Trace, Moves, IsOrdered, names_by, trace_of}
 use Rattle.order_modules.specs.Transactions.{changes_in_place}
@@ -38,15 +38,15 @@ pub returns-clause-ok : goal.returns-clause-ok
 returns-clause-ok g c =
     let i = c.self.inside in
     let old : Trace = trace_of i.log i.disk i.turn i.next (group_by i.current) (names_by i.opened.items)
-    (names_by i.ended.items) in
+    (names_by i.ended.items) i.forced (waits_by i.waits.items) in
     let cs = c.args.plan.now.items in
     let order = subst (λ (t : Trace). IsOrdered t.log.kind) (sym c.self.view_is) c.requires.order in
     let room : length i.log.emitted + c.len.result ≤ 124 = c.has_room.ensures.0 c.if-not-has_room.false in
     let adds = subst (λ (xs : List Change). Adds i.log c.emit_in_place.new.self
-    (map (in_place_patch i.turn (origin_at c.args.line c.args.op.now (group_by i.current)))
+    (map (in_place_patch i.turn (origin_at c.args.line c.args.op.now (group_by i.current) i.forced))
     (changes_in_place i.log.kind xs))) c.as_slice.ensures.value c.in_ok-emit_in_place.ensures.ok in
     subst (λ (t : Trace). Moves t (trace_of c.emit_in_place.new.self c.apply.new.image (i.turn + 1) i.next
-    (group_by i.current) (names_by i.opened.items) (names_by i.ended.items))
+    (group_by i.current) (names_by i.opened.items) (names_by i.ended.items) i.forced (waits_by i.waits.items))
     (trace_of_plan t.log.kind c.args.line c.args.op.now t.tracing (Ok cs))) c.self.view_is
     (moves_in_place old c.args.line c.args.op.now cs c.emit_in_place.new.self c.apply.new.image (i.turn + 1) i.next refl
     refl refl c.apply.ensures.changes order adds refl refl c.self.invariant.to

@@ -1,7 +1,7 @@
 use Rattle.std.proofs.Common.{◌≡◌, ◌+◌, ◌<◌, ◌≤◌, length, arith, refl, sym, ap, subst, ◌∙◌}
 use Rattle.std.specs.Prelude.{Ok}
 use Rattle.crash_model.specs.Trace.{origin_at, trace_of_plan}
-use Rattle.traced_patches.specs.Labels.{group_by}
+use Rattle.traced_patches.specs.Labels.{group_by, waits_by}
 use Rattle.order_modules.specs.Tracer.{Trace, Moves, IsJournaled, names_by, trace_of}
 use Rattle.order_modules.specs.Transactions.{targets_of}
 use Rattle.order_modules.proofs.Planning.{trace_kept, moves_journaled, refused_full, refused_many, past_room}
@@ -53,7 +53,7 @@ pub returns-clause-ok : goal.returns-clause-ok
 returns-clause-ok g c =
     let i = c.self.inside in
     let old : Trace = trace_of i.log i.disk i.turn i.next (group_by i.current) (names_by i.opened.items)
-    (names_by i.ended.items) in
+    (names_by i.ended.items) i.forced (waits_by i.waits.items) in
     let cs = c.args.plan.now.items in
     let targets = c.touched_by-targets.result.items in
     let order = subst (λ (t : Trace). IsJournaled t.log.kind) (sym c.self.view_is) c.requires.order in
@@ -61,11 +61,11 @@ returns-clause-ok g c =
     c.touched_by-targets.ensures in
     let room = c.has_room.ensures.0 c.if-not-has_room.false in
     let adds = transaction_read i.log c.emit_transaction.new.self c.apply.new.image i.turn i.next
-    (origin_at c.args.line c.args.op.now (group_by i.current)) targets c.as_slice.result.now cs
+    (origin_at c.args.line c.args.op.now (group_by i.current) i.forced) targets c.as_slice.result.now cs
     c.as_slice-2.result.now c.in_ok-emit_transaction.ensures.ok c.as_slice.ensures.value
     c.as_slice-2.ensures.value in
     subst (λ (t : Trace). Moves t (trace_of c.emit_transaction.new.self c.apply.new.image (i.turn + 1)
-    (i.next + 1 + c.len.result) (group_by i.current) (names_by i.opened.items) (names_by i.ended.items))
+    (i.next + 1 + c.len.result) (group_by i.current) (names_by i.opened.items) (names_by i.ended.items) i.forced (waits_by i.waits.items))
     (trace_of_plan t.log.kind c.args.line c.args.op.now t.tracing (Ok cs))) c.self.view_is
     (moves_journaled old c.args.line c.args.op.now cs c.emit_transaction.new.self c.apply.new.image (i.turn + 1)
     (i.next + 1 + c.len.result) refl refl refl c.apply.ensures.changes targets order are adds refl

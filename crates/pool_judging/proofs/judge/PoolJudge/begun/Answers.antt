@@ -1,32 +1,49 @@
-use Rattle.std.proofs.Common.{◌<◌, List, ℕ, length, refl, subst, sym}
+use Rattle.std.proofs.Common.{◌<◌, List, ℕ, length, arith, refl, subst, sym}
 use Rattle.std.specs.List.{All}
 use Rattle.question_model.specs.Verdict.{IsAccepted}
+use Rattle.pool_judging.specs.Beginnings.{IsBegun}
 use Rattle.pool_judging.specs.Judging.{search_by}
-use Rattle.pool_judging.proofs.Beginnings.{next_accepted, trace_taken, demands_taken}
+use Rattle.pool_judging.proofs.Beginnings.{begun_first, few_turns, next_accepted, begun_more, begun_all}
 use Rattle.pool_judging.proofs.judge.PoolJudge.begun.Goals as goal
 
-pub take-requires-clause-accepted : goal.take-requires-clause-accepted
-take-requires-clause-accepted g c =
+pub loop-place-init : goal.loop-place-init
+loop-place-init g c =
+    begun_first (search_by c.args.self.now) c.as_slice-place-items.result.now c.in_ok-begun.begun
+    c.in_ok-begun.ensures
+
+pub longer-requires-clause-few : goal.longer-requires-clause-few
+longer-requires-clause-few g c =
+    let short = subst (λ (places : List ℕ). length places < 8) (sym c.as_slice-place-items.ensures.value)
+    c.requires.short in
+    let few = few_turns (search_by c.args.self.now) c.as_slice-place-items.result.now c.loop-place.place-index
+    c.loop-place.begun short c.loop-place.invariant in
+    omega (arith, few)
+
+pub longer-requires-clause-accepted : goal.longer-requires-clause-accepted
+longer-requires-clause-accepted g c =
     let s = search_by c.args.self.now in
     let same = c.as_slice-place-items.ensures.value in
-    let i = c.loop-place.place-index in
     let among = subst (λ (places : List ℕ). All (λ place. place < length s.pool) places) (sym same) c.requires.among in
-    next_accepted s c.as_slice-place-items.result.now i c.loop-place.tracer _ c.index-self-place.result
-    c.loop-place-test.true (among i 0 c.loop-place-test.true) refl c.loop-place.invariant.trace
-    (subst (IsAccepted s) (sym same) c.requires.accepted)
+    next_accepted s c.as_slice-place-items.result.now c.loop-place.place-index c.loop-place.begun _
+    c.index-self-place.result c.loop-place-test.true (among c.loop-place.place-index 0 c.loop-place-test.true) refl
+    c.loop-place.invariant (subst (IsAccepted s) (sym same) c.requires.accepted)
 
 pub loop-place-preserved : goal.loop-place-preserved
 loop-place-preserved g c =
     let s = search_by c.args.self.now in
-    let places = c.as_slice-place-items.result.now in
-    let i = c.loop-place.place-index in
-    let among = subst (λ (ps : List ℕ). All (λ place. place < length s.pool) ps)
+    let among = subst (λ (places : List ℕ). All (λ place. place < length s.pool) places)
     (sym c.as_slice-place-items.ensures.value) c.requires.among in
-    let low = among i 0 c.loop-place-test.true in
-    let old = c.loop-place.invariant in
-    record {
-      trace = trace_taken s places i c.loop-place.tracer _ c.index-self-place.result c.loop-place-test.true low refl
-          old.trace c.take.new.tracer c.in_ok-take.ensures.moves c.in_ok-take.ensures.names;
-      demands = demands_taken s places i _ c.index-self-place.result c.loop-place.demanding c.step.new.self
-          c.loop-place-test.true low refl c.in_ok-step.ensures old.demands;
-    }
+    let is = c.loop-place.invariant in
+    begun_more s c.as_slice-place-items.result.now c.loop-place.place-index c.loop-place.begun _
+    c.index-self-place.result c.loop-place-test.true (among c.loop-place.place-index 0 c.loop-place-test.true) refl is
+    c.in_ok-begun-2.begun (c.in_ok-begun-2.ensures.begun s _ is.are) c.in_ok-begun-2.ensures.moves
+
+pub returns : goal.returns
+returns g c =
+    let s = search_by c.args.self.now in
+    let same = c.as_slice-place-items.ensures.value in
+    subst (λ (places : List ℕ). IsBegun s places c.loop-place.begun) same
+    (begun_all s c.as_slice-place-items.result.now c.loop-place.place-index c.loop-place.begun
+    (subst (λ (places : List ℕ). length places < 8) (sym same) c.requires.short)
+    (subst (λ (places : List ℕ). All (λ place. place < length s.pool) places) (sym same) c.requires.among)
+    c.loop-place-test.false c.loop-place.invariant)

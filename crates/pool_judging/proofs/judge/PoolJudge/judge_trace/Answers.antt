@@ -4,9 +4,10 @@ use Rattle.std.specs.List.{All}
 use Rattle.std.proofs.lemmas.Result.{IfOk-weaker}
 use Rattle.std.proofs.Math.Logic.{∥∥₁_elim}
 use Rattle.crash_model.specs.declared.patches.Patch.{Patch}
-use Rattle.question_model.specs.Workloads.{steps_at}
+use Rattle.question_model.specs.Workloads.{workload_at}
 use Rattle.pool_judging.specs.Judging.{search_by, IsVerdictOn}
 use Rattle.pool_judging.proofs.Beginnings.{graph_at, fits_at, patches_of}
+use Rattle.pool_judging.proofs.Demanded.{none_counts}
 use Rattle.pool_judging.proofs.Verdicts.{verdict_on, never_fails, no_failure_prop}
 use Rattle.pool_judging.proofs.judge.PoolJudge.judge_trace.Goals as goal
 
@@ -28,11 +29,11 @@ returns-clause-verdict g c = λ places trace wanted.
     c.judge_graph.ensures)
 
 pub returns-clause-full : goal.returns-clause-full
-returns-clause-full g c = λ is.
+returns-clause-full g c = λ is quiet.
     let j = c.args.self.now in
     let s = search_by j in
     let (places, trace, wanted) = c.requires in
-    let steps = steps_at s.pool places in
+    let steps = workload_at s places in
     let t = c.args.tracer in
     let patches = c.finish-traced.result.patches in
     let demands = c.args.demands.now in
@@ -44,5 +45,5 @@ returns-clause-full g c = λ is.
     (λ sound. let safe = c.finish-traced.ensures.recovers s.ordering s.rules s.whole s.base steps
     (record { over = trace.base; by = trace.rules; names = trace.names; traced = trace.traced })
     (record { journal = record { full = is.full; all = is.all }; disk = disk; sound = sound.0; zeros = sound.1 }) in
-    IfOk-weaker c.judge_graph.result _ _ (λ verdict is_on. never_fails s.strict s.atomic s.whole demands s.base steps
-    patches verdict disk wanted safe is_on) on)
+    IfOk-weaker c.judge_graph.result _ _ (λ verdict is_on. never_fails s.asked s.whole demands s.base steps patches
+    verdict disk wanted (none_counts s places demands wanted quiet) safe is_on) on)

@@ -1,59 +1,56 @@
-use Rattle.std.proofs.Common.{◌++◌, ◌∷◌, [], refl, arith, sym, subst, ◌∙◌}
-use Rattle.std.proofs.Math.Logic.{∥∥₁_elim}
+use Rattle.std.proofs.Common.{◌++◌, ◌∷◌, [], refl, arith, ◌∙◌}
 use Rattle.crash_model.specs.Trace.{trace_start}
-use Rattle.question_model.specs.Workloads.{IsOperation, steps_at}
-use Rattle.pool_judging.specs.Beginnings.{AreDemandsAt}
+use Rattle.question_model.specs.Workloads.{IsOfPool, workload_at}
 use Rattle.pool_judging.specs.Judging.{search_by}
-use Rattle.pool_judging.proofs.Beginnings.{trace_one, trace_longer, demands_longer, longer_among}
-use Rattle.pool_judging.proofs.Pools.{all_at}
-use Rattle.pool_judging.proofs.Refusals.{operation_refused}
+use Rattle.pool_judging.proofs.Beginnings.{trace_at_one, trace_at_longer, demands_at_longer}
+use Rattle.pool_judging.proofs.Pools.{all_in_workload, keeps_of_pool, places_of_pool}
+use Rattle.pool_judging.proofs.Refusals.{pool_refused}
 use Rattle.pool_judging.proofs.judge.PoolJudge.verdict_on.Goals as goal
 
 pub with_step-requires : goal.with_step-requires
-with_step-requires g c = let b = c.requires.begun.1 in omega (arith, b.is.turns, b.short)
+with_step-requires g c = let b = c.requires.begun.1 in omega (arith, b.turns, b.short)
 
 pub judge_trace-requires : goal.judge_trace-requires
 judge_trace-requires g c =
     let s = search_by c.args.self.now in
     let (front, b) = c.requires.begun in
+    let place = c.args.place in
+    let begun = c.args.begun.now in
     let low = c.requires.among in
     let step = c.index-self-place.result in (
-      front ++ c.args.place ∷ [],
-      trace_longer s front c.args.place c.args.begun.now.tracer _ step low refl b.is c.in-Ok.longer
-          c.in-Ok.ensures.ok c.in-Ok.ensures.names,
-      subst (AreDemandsAt s (front ++ c.args.place ∷ [])) (sym c.into_demands-demands.ensures)
-          (demands_longer s front c.args.place _ step c.args.begun.now.demanding c.in_ok-demanding-in-Ok.demanding low
-          refl
-          c.in_ok-demanding-in-Ok.ensures b.demands).demands,
+      front ++ place ∷ [],
+      trace_at_longer s front place begun _ step low refl b c.in-Ok.longer c.in-Ok.ensures.ok c.in-Ok.ensures.names,
+      demands_at_longer s front place begun _ step low refl b c.in_ok-demands-in-Ok.demands
+          (λ steps are. c.in_ok-demands-in-Ok.ensures steps are c.in-Ok.ensures.ok),
     )
 
-pub returns-in_ok-demanding-in-Ok-clause-verdict : goal.returns-in_ok-demanding-in-Ok-clause-verdict
-returns-in_ok-demanding-in-Ok-clause-verdict g c = λ front is.
+pub returns-in_ok-demands-in-Ok-clause-verdict : goal.returns-in_ok-demands-in-Ok-clause-verdict
+returns-in_ok-demands-in-Ok-clause-verdict g c = λ front is.
     let s = search_by c.args.self.now in
+    let place = c.args.place in
+    let begun = c.args.begun.now in
     let low = c.requires.among in
     let step = c.index-self-place.result in
-    c.judge_trace.ensures.verdict (front ++ c.args.place ∷ [])
-    (trace_longer s front c.args.place c.args.begun.now.tracer _ step low refl is.is c.in-Ok.longer
-    c.in-Ok.ensures.ok c.in-Ok.ensures.names)
-    (subst (AreDemandsAt s (front ++ c.args.place ∷ [])) (sym c.into_demands-demands.ensures)
-    (demands_longer s front c.args.place _ step c.args.begun.now.demanding c.in_ok-demanding-in-Ok.demanding low refl
-    c.in_ok-demanding-in-Ok.ensures is.demands).demands)
+    c.judge_trace.ensures.verdict (front ++ place ∷ [])
+    (trace_at_longer s front place begun _ step low refl is c.in-Ok.longer c.in-Ok.ensures.ok c.in-Ok.ensures.names)
+    (demands_at_longer s front place begun _ step low refl is c.in_ok-demands-in-Ok.demands
+    (λ steps are. c.in_ok-demands-in-Ok.ensures steps are c.in-Ok.ensures.ok))
 
 pub refused-requires : goal.refused-requires
-refused-requires g c =
-    let s = search_by c.args.self.now in
-    let b = c.requires.begun in
-    let places = b.0 ++ c.args.place ∷ [] in
-    let among = longer_among s b.0 c.args.place c.args.begun.now c.requires.among b.1 in
-    ∥∥₁_elim c.args.self.now.operations (hlevel)
-    (λ all memory. operation_refused s.ordering (steps_at s.pool places) (trace_start s.whole s.base)
-    (all_at s.pool IsOperation all places among) c.in-Err.fault
-    (trace_one s b.0 c.args.place c.args.begun.now.tracer _ c.index-self-place.result c.requires.among refl b.1.is
-    ∙ c.in-Err.ensures.refused memory))
+refused-requires g c = λ memory.
+    let j = c.args.self.now in
+    let s = search_by j in
+    let (front, b) = c.requires.begun in
+    let places = front ++ c.args.place ∷ [] in
+    pool_refused s.ordering (workload_at s places) (trace_start s.whole s.base)
+    (all_in_workload s IsOfPool (keeps_of_pool s.keeps j.promises) (places_of_pool s.pool j.places) places)
+    c.in-Err.fault
+    (trace_at_one s front c.args.place c.args.begun.now _ c.index-self-place.result c.requires.among refl b
+    ∙ c.in-Err.ensures.refused memory)
 
 pub returns-in-Err-clause-verdict : goal.returns-in-Err-clause-verdict
 returns-in-Err-clause-verdict g c = λ front is.
     let s = search_by c.args.self.now in
     c.refused.ensures.verdict s (front ++ c.args.place ∷ [])
-    (λ memory. trace_one s front c.args.place c.args.begun.now.tracer _ c.index-self-place.result c.requires.among refl
-    is.is ∙ c.in-Err.ensures.refused memory)
+    (λ memory. trace_at_one s front c.args.place c.args.begun.now _ c.index-self-place.result c.requires.among refl is
+    ∙ c.in-Err.ensures.refused memory)

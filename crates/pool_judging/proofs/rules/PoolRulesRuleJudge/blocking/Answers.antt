@@ -6,12 +6,16 @@ use Rattle.pool_judging.specs.Judging.{search_by}
 use Rattle.pool_judging.proofs.Workloads.{below, traced, found_in_trace}
 use Rattle.pool_judging.proofs.rules.PoolRulesRuleJudge.blocking.Goals as goal
 
-pub steps_at-requires : goal.steps_at-requires
-steps_at-requires g c = below (search_by c.args.self.now.judge.now) c.args.places.now.items c.requires.passing
+pub workload_at-requires : goal.workload_at-requires
+workload_at-requires g c = below (search_by c.args.self.now.judge.now) c.args.places.now.items c.requires.passing
 
 pub traced_of-requires : goal.traced_of-requires
 traced_of-requires g c = traced (search_by c.args.self.now.judge.now) c.args.places.now.items c.requires.passing
     c.in_ok-steps.steps.items c.deref.result.now c.in_ok-steps.ensures c.deref.ensures.value
+
+pub demands-requires : goal.demands-requires
+demands-requires g c = traced (search_by c.args.self.now.judge.now) c.args.places.now.items c.requires.passing
+    c.in_ok-steps.steps.items c.deref-2.result.now c.in_ok-steps.ensures c.deref-2.ensures.value
 
 pub blocking_in-requires-clause-within : goal.blocking_in-requires-clause-within
 blocking_in-requires-clause-within g c =

@@ -13,10 +13,11 @@ returns-clause-text g c =
     let decided = c.args.decided in
     let before = string_bytes c.push_str-2.new.self in
     let same : c.push_fault.new.self ≡ n = c.in_ok-push_fault.ensures.kept in
-    on_ok_weaker {P = string_bytes c.push_crash.new.out ≡ before ++ crash_json c.push_fault.new.self first}
+    on_ok_weaker {P = string_bytes c.push_crash.new.out ≡ before
+    ++ crash_json c.push_fault.new.self decided.fault first}
     {Q = string_bytes c.push_crash.new.out ≡ string_bytes c.args.out.now
     ++ decided_json n (record { decided = decided; first = first })}
     c.push_crash.result
     (λ wrote. fault_pieces n decided first _ _ _ _ _ c.in_ok-push_str.ensures.bytes
     c.in_ok-push_fault.ensures.text c.in_ok-push_str-2.ensures.bytes
-    (wrote ∙ ap (λ (k : ℕ). before ++ crash_json k first) same)) c.push_crash.ensures.text
+    (wrote ∙ ap (λ (k : ℕ). before ++ crash_json k decided.fault first) same)) c.push_crash.ensures.text

@@ -14,8 +14,9 @@ returns-clause-text g c =
     let before = string_bytes c.push_str.new.self in
     let same : c.write_group_head.new.known ≡ n = c.in_ok-write_group_head.ensures.known in
     on_ok_weaker {P = string_bytes c.push_leading.new.out ≡ before
-    ++ leading_json c.write_group_head.new.known told.fault.first}
+    ++ leading_json c.write_group_head.new.known told.fault.decided.fault told.fault.first}
     {Q = string_bytes c.push_leading.new.out ≡ string_bytes c.args.out.now ++ group_json rules n told}
     c.push_leading.result
     (λ wrote. group_pieces rules n told _ _ _ _ c.in_ok-write_group_head.ensures.text c.in_ok-push_str.ensures.bytes
-    (wrote ∙ ap (λ (k : ℕ). before ++ leading_json k told.fault.first) same)) c.push_leading.ensures.text
+    (wrote ∙ ap (λ (k : ℕ). before
+    ++ leading_json k told.fault.decided.fault told.fault.first) same)) c.push_leading.ensures.text

@@ -15,8 +15,9 @@ returns g c =
     ++ join_of 44 (map (λ step. json_string (step_text step)) (steps_at pool places))) c.as_slice.ensures.value in
     let writes = ap (λ (ws : List BlockWrite). string_bytes c.write.new.self ++ join_of 44 (map (write_json known) ws))
     c.deref.ensures.value in
-    kind_pieces pool c.args.crash.now known (string_bytes c.args.out.now) _ _ _ _ _ _ _ _
+    kind_pieces pool c.args.crash.now known (string_bytes c.args.out.now) _ _ _ _ _ _ _ _ _
     (c.in_ok-write_head.ensures.known ∙ c.in_ok-known.ensures) c.in_ok-write_head.ensures.text
-    c.in_ok-push_str.ensures.bytes c.in_ok-push_set.ensures c.in_ok-push_str-2.ensures.bytes
+    c.in_ok-push_str.ensures.bytes c.in_ok-push_set.ensures c.in_ok-push_all_shows.ensures
+    c.in_ok-push_str-2.ensures.bytes
     (c.in_ok-write_steps.ensures ∙ steps) c.in_ok-write.ensures.bytes (c.in_ok-push_writes.ensures.text ∙ writes)
     c.in_ok-push_str-3.ensures.bytes

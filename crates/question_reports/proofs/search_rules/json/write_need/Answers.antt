@@ -16,8 +16,8 @@ returns g c =
     let writes = ap (λ (ws : List BlockWrite). string_bytes c.push_str-3.new.self
     ++ join_of 44 (map (write_json known) ws)) c.deref.ensures.value in
     need_pieces c.args.ordering.now.rules.items pool c.args.needed.now known (string_bytes c.args.out.now)
-    _ _ _ _ _ _ _ _
+    _ _ _ _ _ _ _ _ _
     (c.in_ok-write_group_head.ensures.known ∙ c.in_ok-known.ensures) c.in_ok-write_group_head.ensures.text
-    c.in_ok-push_str.ensures.bytes c.in_ok-push_set.ensures c.in_ok-push_str-2.ensures.bytes
+    c.in_ok-push_str.ensures.bytes c.in_ok-push_set.ensures c.in_ok-push_shows.ensures c.in_ok-push_str-2.ensures.bytes
     (c.in_ok-write_steps.ensures ∙ steps) c.in_ok-push_str-3.ensures.bytes
     (c.in_ok-push_writes.ensures.text ∙ writes) c.in_ok-push_str-4.ensures.bytes

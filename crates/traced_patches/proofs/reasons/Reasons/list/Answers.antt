@@ -7,17 +7,17 @@ use Rattle.traced_patches.proofs.ReasonTexts.{texts_are, some_are}
 use Rattle.traced_patches.proofs.reasons.Reasons.list.Goals as goal
 
 pub returns-clause-texts : goal.returns-clause-texts
-returns-clause-texts c = λ t q p are.
+returns-clause-texts c = λ t q id p are.
     let r = c.args.self.now in
-    let all = c.loop-rule.invariant.items ∙ ap (λ (rs : List rules.Rule). first_reasons r.overlap r.block r.group
+    let all = c.loop-rule.invariant.items ∙ ap (λ (rs : List rules.Rule). first_reasons r.overlap r.block r.group r.wait
     ++ map Rule rs) (take_all c.loop-rule.rule-index r.rules.items
     (omega (arith, ap length c.as_slice-rule-items.ensures.value))) in
-    texts_are t q p r c.loop-rule.list.items all are
+    texts_are t q id p r c.loop-rule.list.items all are
 
 pub returns-clause-some : goal.returns-clause-some
-returns-clause-some c = λ t q p are.
+returns-clause-some c = λ t q id p are.
     let r = c.args.self.now in
-    let all = c.loop-rule.invariant.items ∙ ap (λ (rs : List rules.Rule). first_reasons r.overlap r.block r.group
+    let all = c.loop-rule.invariant.items ∙ ap (λ (rs : List rules.Rule). first_reasons r.overlap r.block r.group r.wait
     ++ map Rule rs) (take_all c.loop-rule.rule-index r.rules.items
     (omega (arith, ap length c.as_slice-rule-items.ensures.value))) in
-    some_are t q p r c.loop-rule.list.items all are
+    some_are t q id p r c.loop-rule.list.items all are

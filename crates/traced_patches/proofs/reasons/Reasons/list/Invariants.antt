@@ -5,6 +5,7 @@ use Rattle.traced_patches.proofs.reasons.Reasons.list.Given as goal
 
 abbrev pub invariant-loop-rule : goal.invariant-loop-rule
 invariant-loop-rule l = record {
-  items : l.list.items ≡ first_reasons l.self.overlap l.self.block l.self.group ++ map Rule (take l.rule-index l.self.rules.items);
-  few : length l.list.items ≤ l.rule-index + 3;
+  items : l.list.items ≡ first_reasons l.self.overlap l.self.block l.self.group l.self.wait
+      ++ map Rule (take l.rule-index l.self.rules.items);
+  few : length l.list.items ≤ l.rule-index + 4;
 }

@@ -1,7 +1,7 @@
 use Rattle.std.proofs.Common.{◌≡◌, ℕ, List, Some, sym, ap, ◌∙◌, subst}
 use Rattle.std.specs.Prelude.{slice_get}
 use Rattle.crash_model.specs.Patches.{place, overlap}
-use Rattle.crash_model.specs.Trace.{Emitted, groups_depend, rules_between}
+use Rattle.crash_model.specs.Trace.{Emitted, groups_depend, waits_for, rules_between}
 use Rattle.crash_model.specs.declared.patches.Patch.{Patch}
 use Rattle.crash_model.specs.declared.rules.Rule.{Rule}
 use Rattle.traced_patches.specs.Labels.{emitted_at, emitted_of, links_by}
@@ -38,6 +38,7 @@ returns g c = λ q p at_q at_p.
           ∙ ap (λ (t : TracedPatches). groups_depend t.links (emitted_of later) (emitted_of earlier)) c.self.view_is
           ∙ ap (λ (e : Emitted). groups_depend c.args.self.now.links e (emitted_of earlier)) (sym q_is)
           ∙ ap (λ (e : Emitted). groups_depend c.args.self.now.links q e) (sym p_is);
+      wait = c.is_forced.ensures ∙ ap (λ (e : Emitted). waits_for e c.args.earlier) (sym q_is);
       rules = c.rules_between.ensures
           ∙ ap (λ (rs : List Rule). rules_between rs (emitted_of later) (emitted_of earlier)) c.as_slice-2.ensures.value
           ∙ ap (λ (t : TracedPatches). rules_between t.rules (emitted_of later) (emitted_of earlier)) c.self.view_is

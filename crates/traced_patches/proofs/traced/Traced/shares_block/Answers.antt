@@ -1,6 +1,5 @@
 use Rattle.std.proofs.Common.{◌≡◌, ap, sym, ◌∙◌, refl, true}
 use Rattle.std.specs.Prelude.{slice_get}
-use Rattle.crash_model.specs.Patches.{place}
 use Rattle.traced_patches.specs.Traced.{TracedPatches}
 use Rattle.traced_patches.proofs.Labelled.{emitted_placed}
 use Rattle.traced_patches.proofs.traced.Traced.shares_block.Goals as goal

@@ -1,0 +1,4 @@
+pub mod Each
+pub mod Ids
+pub mod Steps
+pub mod Touching

@@ -1,0 +1,11 @@
+pub mod Shows
+pub mod Commits
+pub mod Steps
+pub mod Rests
+pub mod Recovered
+pub mod Kept
+pub mod Frames
+pub mod Chains
+pub mod Fsynced
+pub mod Lasting
+pub mod Lines

@@ -1,8 +1,0 @@
-use Rattle.std.proofs.Common.{◌≡◌, ◌++◌, string_bytes, take}
-use Rattle.std.specs.List.{flat_map}
-use Rattle.section_lines.specs.Cache.{fault_line}
-use Rattle.section_lines.proofs.lines.write_faults.Given as goal
-
-abbrev pub invariant-loop-fault : goal.invariant-loop-fault
-invariant-loop-fault g l = string_bytes l.out ≡ string_bytes l.initial.out ++ flat_map fault_line
-    (take l.fault-index l.faults)
