@@ -9,7 +9,7 @@ patches, it changes in one of them.
 import copy
 import json
 
-HEAD = {"atomic", "generations", "module", "strict", "whole_blocks", "with", "without"}
+HEAD = {"atomic", "counted", "durable", "generations", "module", "strict", "whole_blocks", "with", "without"}
 """The keys that reports on every question can have."""
 
 MAY_LACK = HEAD - {"module"}
@@ -18,11 +18,11 @@ MAY_LACK = HEAD - {"module"}
 OTHERS = (None, True, 0.5, "other", {"other": 1})
 """Values of other types, none of which is right anywhere, but `True` for some keys."""
 
-TOO_LARGE = {"block": 128, "closed": 10**9 + 1, "kind": 10, "line": 2**20 + 1, "number": 21, "offset": 128,
+TOO_LARGE = {"after": 124, "block": 128, "closed": 10**9 + 1, "counted": 11, "ids": 124, "kind": 11, "line": 2**20 + 1, "number": 21, "offset": 128,
              "pairs": 7627, "patch": 123, "patches": 125, "pool": 2**20, "search": 9, "set": 124, "sets": 10**9 + 1}
 """A number above the right ones, for the key that it has or is in a list of."""
 
-TOO_SMALL = {"block": 0, "closed": 0, "count": 0, "kind": 0, "line": 1, "number": 0, "search": 0}
+TOO_SMALL = {"block": 0, "closed": 0, "count": 0, "counted": 0, "kind": 0, "line": 1, "number": 0, "search": 0}
 
 WRONG_RULES = ("Ptr", "Ptr:Ptrs", "Ptr:next-Ptr", "Ptr:previous-before-Ptr", "reason", "Ptr:InitFile ")
 WRONG_FAULTS = (
@@ -33,27 +33,31 @@ WRONG_FAULTS = (
     "3 unwritten pointer: inode 1 slot 0 block 05", "4 low link count: inode 1 entries 161 links 1",
     "4 low link count: inode 1 entries 2 links 160", "5 used block marked free: inode 1 slot 0 block 128",
     "6 wild pointer: inode 1 slot 0 block 0", "6 wild pointer: inode 1 slot 0 block 256", "7 lost inode: inode 16",
-    "8 directory without a block: inode -1", "9 half-done operation: inode 1", "10 broken promise: line 3")
+    "8 directory without a block: inode -1", "9 half-done operation: inode 1", "10 broken promise: line 1",
+    "10 broken promise: line 1048577", "11 broken promise: line 3")
 WRONG_STEPS = ("copy /a", "create", "create a", "create /", "create /A", "create /a/b/c/d/e", "create /abcdefghijk",
                "create /a /b", "link /a", "overwrite /a 4", "create  /a", "start")
+WRONG_PATHS = ("a", "/", "/A", "/a/b/c/d/e", "/abcdefghijk", "/a /b")
+WRONG_SHOWN = ("", "File", "file 4", "file wild 46010000 - - -", "nothing directory", "directory |")
 WRONG_BYTES = ("", "0", "zz", 256 * "g", 256 * "A", 258 * "0")
 WRONG_TEXTS = {
     "base": WRONG_BYTES, "bytes": WRONG_BYTES, "new": WRONG_BYTES, "undo": WRONG_BYTES,
     "closed": ("", "0", "01", "1e3", 39 * "9"),
     "enough": WRONG_RULES, "rule": WRONG_RULES, "rules": WRONG_RULES, "why": WRONG_RULES, "with": WRONG_RULES,
     "without": WRONG_RULES + ("Ptr:Ptr",),
+    "keep": WRONG_PATHS, "hold": WRONG_PATHS, "shows": WRONG_SHOWN, "spares": ("/a", "file", "/a File", "/a / file"),
     "fault": WRONG_FAULTS, "faults": WRONG_FAULTS,
     "module": ("hard", "Soft"), "name": ("lost block", "Lost inode"), "part": ("InPlace", "Inode"),
     "step": WRONG_STEPS, "steps": WRONG_STEPS, "text": ("no", "Not found", "group fault")}
 """Texts that are wrong for the key that they have or are in a list of."""
 
-NEVER_EMPTY = {"set", "patches", "writes", "steps", "why", "faults", "rules", "with", "without", "base"}
+NEVER_EMPTY = {"patches", "steps", "keep", "hold", "counted", "why", "faults", "rules", "with", "without", "base"}
 """Keys of lists that are not empty. `faults` and `rules` of a whole report can be."""
 
 
 def question_of(report):
     """What tells reports on one question from others: their keys."""
-    return tuple(sorted(set(report) - HEAD - {"base", "trace"}))
+    return tuple(sorted(set(report) - HEAD - {"base", "trace", "promises", "waits"}))
 
 
 def places(value, place=()):
@@ -104,7 +108,7 @@ def wrong_objects(place, value, is_search):
     if {"set", "writes"} <= set(value) and "replay" not in value and not is_search:
         yield dict(value, replay=[])
     for key in value:
-        if is_needed(place, key, is_search):
+        if is_needed(place, key, is_search) and not (key == "shows" and "set" in value):
             yield {other: inner for other, inner in value.items() if other != key}
 
 

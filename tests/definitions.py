@@ -13,12 +13,13 @@ CRATES = ROOT / "crates"
 GROUPS = {
     1: ["patch_sets/Sets", "patch_sets/Closed", "patch_sets/Machine", "patch_sets/Writes", "state_space/Counts"],
     2: ["crash_model/Lists", "crash_model/Disk", "crash_model/Layout", "crash_model/Slots", "crash_model/Plan"],
-    3: ["crash_model/Patches", "crash_model/Rules", "crash_model/Refusals", "crash_model/Trace"],
-    4: ["crash_model/Replay", "crash_model/Faults", "crash_model/Strict", "crash_model/Atomic", "crash_model/Checker",
-        "crash_model/FaultRows"],
-    5: ["crash_model/Names", "crash_model/Script", "crash_model/Texts", "crash_model/Reasons", "crash_model/RuleUse",
-        "report_model/Report", "report_model/Explain", "report_model/Summary", "report_model/Needs",
-        "report_model/Whole"],
+    3: ["crash_model/Patches", "crash_model/Rules", "crash_model/Refusals", "crash_model/Emitted", "crash_model/Paths",
+        "crash_model/Waiting", "crash_model/Trace"],
+    4: ["crash_model/Replay", "crash_model/Faults", "crash_model/Strict", "crash_model/Atomic", "crash_model/Promises",
+        "crash_model/FaultKinds", "crash_model/Checker", "crash_model/FaultRows"],
+    5: ["crash_model/Names", "crash_model/Script", "crash_model/Texts", "crash_model/ShownTexts", "crash_model/Reasons",
+        "crash_model/RuleUse", "report_model/Parts", "report_model/Shows", "report_model/Report",
+        "report_model/Explain", "report_model/Summary", "report_model/Needs", "report_model/Whole"],
     6: ["report_model/Answer"],
     7: ["question_model/Decided", "question_model/Decision"],
     8: ["question_model/Enough", "question_model/EnoughReport"],
@@ -31,7 +32,25 @@ GROUPS = {
 # What each question needs besides a plain run, as places: a file, a file and the names of its definitions, or a file
 # and a pattern that its lines have, written `/pattern/`; `FILE after TITLE` is what follows that heading.
 ROWS = {
-    "--json": ["report_model/Report after JSON",
+    "lines that wait and promise": [
+        "crash_model/Paths", "crash_model/Waiting", "crash_model/Promises", "crash_model/FaultKinds",
+        "crash_model/ShownTexts", "crash_model/Emitted /pub waits_for/",
+        "crash_model/Checker has_promises promised counted_among",
+        "crash_model/Checker /pub (durable|counted|tells|kind|promises) :/",
+        "crash_model/Trace target_found when_found with_wait waits_for",
+        "crash_model/Trace /Sync|Fsync|Keep|Hold|Spare|is_same_path|when_found|OnlyAfter/",
+        "crash_model/Trace /pub (forced|waits)|(forced|waits) = /",
+        "crash_model/Script target_text IsTarget IsTargetWord",
+        "crash_model/Script /TargetOperand|PathsOperand|MOST_PATHS|Keep|Hold|Spare|Sync|Fsync/",
+        "crash_model/Texts act_text", "crash_model/Texts /BrokenPromise/",
+        "report_model/Shows shown_at shown_for broken_shown breaks shown_of together shows_text shows_if told_shows "
+        "wait_text promise_word after_text spare_text promise_text promises_text shows_json wait_json promise_json "
+        "promises_json waits_json counted_numbers counted_text counted_json durable_json",
+        "report_model/Shows /BrokenPromise of/",
+        "report_model/Report shows_of", "report_model/Report /pub shows|shows = shows_of/",
+        "report_model/Answer /(durable|counted|tells|kind|promises) =/",
+        "report_model/Whole /settings.durable|counted_text|pub promises/"],
+    "--json": ["report_model/Report after JSON", "report_model/Parts json_string json_array ids_json",
                "report_model/Whole rules_json atomic_json first_json early_json late_json json_report"],
     "why a script is refused": [
         "crash_model/Refusals", "crash_model/Script AreWords IsPathWord Fits HasPaths HasForm",
@@ -46,10 +65,12 @@ ROWS = {
                        "report_model/Whole /whole_blocks/"],
     "--generations": ["crash_model/Layout generation_of mark_generation", "crash_model/Plan next_generation",
                       "crash_model/Disk with_generations", "report_model/Whole /generations/"],
-    "--strict": ["crash_model/Strict", "crash_model/Checker /pub kept|Some kept/", "crash_model/Texts /Lost|NoBlock/",
+    "--strict": ["crash_model/Strict", "crash_model/Checker /pub kept|Some kept|pub strict/",
+                 "crash_model/Texts /Lost|NoBlock/", "report_model/Answer /strict = /",
                  "report_model/Whole /strict/"],
-    "--atomic": ["crash_model/Atomic", "crash_model/Strict disk_after", "crash_model/Checker /pub disks|Some disks/",
-                 "crash_model/Texts /HalfDone/", "report_model/Whole atomic_json", "report_model/Whole /atomic/"],
+    "--atomic": ["crash_model/Atomic", "crash_model/Strict disk_after",
+                 "crash_model/Checker /pub disks|Some disks|pub atomic/", "crash_model/Texts /HalfDone/",
+                 "report_model/Answer /atomic = /", "report_model/Whole atomic_json", "report_model/Whole /atomic/"],
     "--explain": ["crash_model/Reasons", "crash_model/Texts op_text", "crash_model/Rules part_text",
                   "crash_model/Trace rules_between", "report_model/Explain",
                   "report_model/Whole /pub explanation|trace_json/",
@@ -72,7 +93,7 @@ ROWS = {
 NO_ANSWER = ["patch_sets/Sets with_id", "crash_model/Disk IsDisk", "crash_model/Faults IsClean",
              "crash_model/Checker IsCleanKeeping"]
 
-IMPORT = re.compile(r"\s*use ")
+IMPORT = re.compile(r"\s*(pub )?use ")
 DEFINITION = re.compile(r"(?:(?:abbrev|unfoldable) )?pub (?:(?:record|data) )?([A-Za-z_0-9]+)")
 
 

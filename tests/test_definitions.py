@@ -9,7 +9,7 @@ sys.path.insert(0, str(pathlib.Path(__file__).resolve().parent))
 from definitions import ROWS, File, files, plain_run, row
 from program import ROOT
 
-MOST_OF_A_PLAIN_RUN = 825
+MOST_OF_A_PLAIN_RUN = 836
 
 
 class Definitions(unittest.TestCase):

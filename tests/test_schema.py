@@ -11,7 +11,7 @@ import subprocess
 import sys
 import unittest
 
-from reference.faults import BROKEN_PROMISE, FAULT_NAMES
+from reference.faults import FAULT_NAMES
 from reference.refusals import REFUSAL_TEXTS
 from reference.rules import MODULES, PARTS, ROLES, rules_of
 from tests import case_files
@@ -122,7 +122,7 @@ class Schema(unittest.TestCase):
             self.assertEqual(DEFS["journal_rule"]["enum"], list(rules_of(module)))
 
     def test_faults_are_those_of_the_reference(self):
-        names = {number: name for number, name in FAULT_NAMES.items() if number != BROKEN_PROMISE}
+        names = dict(FAULT_NAMES)
         self.assertEqual(dict(zip(texts_of("kind"), texts_of("name"))), names)
         texts = [one.get("pattern") or "^" + one["const"] for one in DEFS["fault_text"]["anyOf"]]
         self.assertEqual([text.split(":")[0] for text in texts],
