@@ -89,6 +89,7 @@ const FAULT_MEANINGS = {
   7: "The script never deletes this file or directory, but no path leads to it any more.",
   8: "A path leads to a directory that has no block, so the directory cannot hold names.",
   9: "An operation is half done: the disk is not the one after some number of whole operations.",
+  10: "A program was promised what its files show after a crash. The disk shows something else.",
 };
 
 /** The number that a fault's text begins with. */

@@ -81,6 +81,7 @@ const KINDS = [
   ["7 lost inode: inode 1", "no path leads to it any more"],
   ["8 directory without a block: inode 1", "directory that has no block"],
   ["9 half-done operation", "An operation is half done"],
+  ["10 broken promise: line 4", "A program was promised what its files show after a crash"],
 ];
 
 async function testMeanings() {
