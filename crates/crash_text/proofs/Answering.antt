@@ -26,8 +26,8 @@ use Rattle.uniqueness_laws.proofs.Scripts.{read_or_refused, script_one}
 use Rattle.crash_text.specs.BaseRefusal.{IsBaseRefusal}
 use Rattle.crash_text.specs.Searching.{IsPoolRefusal, IsSearchOf}
 use Rattle.crash_text.specs.SearchingRules.{IsRuleSearchOf}
-use Rattle.full_journal_laws.specs.Full.{MakeNoPromise}
-use Rattle.crash_text.specs.Traced.{IsTraced, IsTraceRefusal, IsReportOn, PromisesNothing}
+use Rattle.promise_laws.specs.Waited.{RiskNoPromise}
+use Rattle.crash_text.specs.Traced.{IsTraced, IsTraceRefusal, IsReportOn, RisksNothing}
 use Rattle.crash_text.specs.declared.traced_script.TracedScript.{TracedScript}
 
 module _ (bytes : List ℕ) (settings : Settings) where
@@ -45,11 +45,11 @@ module _ (bytes : List ℕ) (settings : Settings) where
     built = subst (λ (s : List Step). base_from formatted s ≡ Ok base) same is;
   }
 
-  -- no promise of its steps counts
-  pub nothing_counts : (base : Disk) (steps seen : List Step) → HasBase bytes settings base steps → seen ≡ steps
-      → PromisesNothing bytes settings → MakeNoPromise (asked_by settings seen) seen
-  nothing_counts base steps seen start same nothing =
-      subst (λ (s : List Step). MakeNoPromise (asked_by settings s) s) (sym same) (nothing base steps start)
+  -- no promise of its steps is at risk
+  pub nothing_at_risk : (base : Disk) (steps seen : List Step) → HasBase bytes settings base steps → seen ≡ steps
+      → RisksNothing Decide bytes settings → RiskNoPromise (asked_by settings seen) seen
+  nothing_at_risk base steps seen start same nothing =
+      subst (λ (s : List Step). RiskNoPromise (asked_by settings s) s) (sym same) (nothing base steps start)
 
   -- there is no base, so no step after the start line is asked about
   abbrev HasNone : Type 0

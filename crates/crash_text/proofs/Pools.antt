@@ -8,15 +8,14 @@ use Rattle.crash_model.specs.Sound.{IsSound, HasZeroJournal}
 use Rattle.crash_model.specs.declared.modules.Module.TheVariants.{Full}
 use Rattle.crash_model.specs.declared.settings.Settings.{Settings}
 use Rattle.crash_model.specs.declared.steps.Step.{Step}
-use Rattle.full_journal_laws.specs.Full.{MakeNoPromise}
-use Rattle.report_model.specs.Answer.{asked_by, ordering_rules}
+use Rattle.report_model.specs.Answer.{ordering_rules}
 use Rattle.question_model.specs.Found.{AreFound}
 use Rattle.question_model.specs.SearchReport.{search_of}
-use Rattle.question_model.specs.Workloads.{Search, is_keep, is_place}
+use Rattle.question_model.specs.Workloads.{Search, is_place}
 use Rattle.question_model.specs.declared.found.Found.{Found}
 use Rattle.pool_judging.specs.Judging.{IsFullJournal}
-use Rattle.pool_judging.proofs.Demanded.{makes_none_apart}
 use Rattle.pool_judging.proofs.Full.{nothing_fails, none_failing}
+use Rattle.pool_judging.proofs.Pools.{all_keeps, all_places}
 use Rattle.crash_text.proofs.Safe.{full_rules}
 
 -- ---- acts
@@ -39,18 +38,16 @@ are_acts bytes before steps script =
 
 -- under the full journal no workload of such a pool fails, so the number that a search reports is 0
 pub none_reported : (settings : Settings) (most : ℕ) (base : Disk) (lines : List Step) (found : Found) (number : ℕ)
-    → settings.module ≡ Full → settings.without.items ≡ [] → MakeNoPromise (asked_by settings lines) lines
-    → IsDisk base → IsSound base → HasZeroJournal base → All (λ step. IsAct step.act) lines
+    → settings.module ≡ Full → settings.without.items ≡ [] → IsDisk base → IsSound base → HasZeroJournal base → All (λ step. IsAct step.act) lines
     → AreFound (search_of settings most base lines) found
     → number ≡ (if found.failing == 0 then 0 else 1) → number ≡ 0
-none_reported settings most base lines found number full none nothing disk sound zeros acts exactly is =
-    is ∙ ap (λ (n : ℕ). if n == 0 then 0 else 1) (none_failing s found exactly (nothing_fails s is_full
-    (makes_none_apart (asked_by settings lines) lines nothing) disk sound zeros
-    (All-filter (λ (step : Step). is_place step.act) (λ step. IsAct step.act) lines acts)
-    (All-filter (λ (step : Step). is_keep step.act) (λ step. IsAct step.act) lines acts)))
+none_reported settings most base lines found number full none disk sound zeros acts exactly is =
+    is ∙ ap (λ (n : ℕ). if n == 0 then 0 else 1) (none_failing s found exactly (nothing_fails s is_full disk sound zeros
+    (All-filter (λ (step : Step). is_place step.act) (λ step. IsAct step.act) lines acts) (all_places lines)
+    (all_keeps lines)))
   where
     s : Search
     s = search_of settings most base lines
 
     is_full : IsFullJournal (search_of settings most base lines)
-    is_full = record { full = full; all = full_rules settings (ordering_rules settings) full none refl }
+    is_full = record { full = full; all = full_rules settings (ordering_rules settings) full none refl; asked = full }

@@ -13,7 +13,9 @@ use Rattle.crash_model.specs.declared.settings.Asked.{Asked}
 use Rattle.crash_model.specs.declared.settings.Settings.{Settings}
 use Rattle.crash_model.specs.declared.steps.Step.{Step}
 use Rattle.traced_patches.specs.Traced.{TracedPatches}
-use Rattle.full_journal_laws.specs.Full.{MakeNoPromise}
+use Rattle.promise_laws.specs.Waited.{RiskNoPromise}
+use Rattle.question_model.specs.declared.question.Question.{Question}
+use Rattle.question_model.specs.declared.question.Question.TheVariants.{Search, SearchRules}
 use Rattle.crash_text.specs.declared.traced_script.TracedScript.{TracedScript}
 
 -- the ordering that the settings ask for
@@ -59,11 +61,14 @@ IsTraceRefusal settings base steps fault =
 abbrev pub NoneFails : {A : Type 0} → TracedScript A → Type 0
 NoneFails s = (set : ℕ) → ¬ (IsFailingUnder s.demands s.base.now s.traced.patches set)
 
--- no promise of the steps behind the start line counts
-abbrev pub PromisesNothing : List ℕ → Settings → Type 0
-PromisesNothing bytes settings =
+-- no promise of the steps behind the start line is at risk; in a search none is, since each workload makes its promises
+-- before its first step
+abbrev pub RisksNothing : Question → List ℕ → Settings → Type 0
+RisksNothing (Search longest) bytes settings = Unit {0}
+RisksNothing (SearchRules longest) bytes settings = Unit {0}
+RisksNothing _ bytes settings =
     (base : Disk) (steps : List Step) → HasBase bytes settings base steps
-    → MakeNoPromise (asked_by settings steps) steps
+    → RiskNoPromise (asked_by settings steps) steps
 
 -- the text and the number are those of such a report on a traced script, whatever state traced its patches
 abbrev pub IsReportOn : {A : Type 0} → (Demands → Disk → Tracing → List Patch → List ℕ → ℕ → Type 0) → Settings

@@ -9,7 +9,7 @@ ghost use Rattle.report_model.specs.Answer.{Reported, Refused};
 ghost use Rattle.question_model.specs.Answers.{IsAnswerTo};
 ghost use Rattle.question_model.specs.Asked.{CanBeAsked};
 ghost use Rattle.crash_text.specs.BaseRefusal.{IsBaseRefusal};
-ghost use Rattle.crash_text.specs.Traced.{PromisesNothing};
+ghost use Rattle.crash_text.specs.Traced.{RisksNothing};
 
 use crate::deciding::decided;
 use crate::enough::enough;
@@ -46,8 +46,9 @@ pub struct Outcome<A: Allocator> {
 ///
 /// For every number of workers, 1 to 16, and every schedule, an answer other than out of memory is the one defined for
 /// the script's bytes and the settings, without threads. The gate gets each claim of a worker on a board, and progress
-/// reports. Under the full journal with no rule taken out no set fails and no fault is found, if no promise counts:
-/// whatever the script and the rules put in, whatever else is demanded of images, and also with whole blocks.
+/// reports. Under the full journal with no rule taken out no set fails and no fault is found, if no promise is at risk:
+/// whatever the script and the rules put in, whatever else is demanded of images, and also with whole blocks. At risk are
+/// the promise of a `hold`, and that of a `keep` unless a script without groups has waited for it; in a search none is.
 pub fn run<R, A, G>(
     host: &Host<'_, R, A>,
     script: &[u8],
@@ -65,7 +66,8 @@ where
     ensures refused { IfErr result (λ fault. (fault ≢ RunFault.OutOfMemory)
         → IsAnswerTo request.now.question script.now request.now.settings (Refused fault)) }
     ensures full { request.now.settings.module ≡ Full → request.now.settings.without.items ≡ []
-        → PromisesNothing script.now request.now.settings → IfOk result (λ outcome. outcome.number ≡ 0) }
+        → RisksNothing request.now.question script.now request.now.settings
+        → IfOk result (λ outcome. outcome.number ≡ 0) }
 {
     let read = read_script(host.alloc, script)?;
     let settings = &request.settings;

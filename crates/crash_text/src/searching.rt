@@ -5,11 +5,9 @@ ghost use Rattle.std.specs.Prelude.{OnOk, ◌==◌, if◌then◌else◌};
 ghost use Rattle.crash_model.specs.Script.{IsAct};
 ghost use Rattle.crash_model.specs.Sound.{IsSound, HasZeroJournal};
 ghost use Rattle.crash_model.specs.declared.modules.Module.TheVariants.{Full};
-ghost use Rattle.full_journal_laws.specs.Full.{MakeNoPromise};
 ghost use Rattle.question_model.specs.Found.{AreFound, IsShown};
 ghost use Rattle.pool_judging.specs.Judging.{search_by};
 ghost use Rattle.pool_judging.specs.Pools.{IsPoolOf};
-ghost use Rattle.report_model.specs.Answer.{asked_by};
 ghost use Rattle.crash_text.specs.Searching.{IsPoolRefusal, IsSearchOf, IsReportBy, AreToldKinds};
 
 use crate::host::Host;
@@ -59,7 +57,6 @@ where
     ensures refused { IfErr result (λ fault. (fault ≢ RunFault.OutOfMemory)
         → IsPoolRefusal pool.now.steps.now fault) }
     ensures full { request.now.settings.module ≡ Full → request.now.settings.without.items ≡ []
-        → MakeNoPromise (asked_by request.now.settings pool.now.steps.now) pool.now.steps.now
         → IfOk result (λ outcome. outcome.number ≡ 0) }
 {
     let steps = steps_of(host.alloc, pool.steps)?;

@@ -13,8 +13,6 @@ ghost use Rattle.workload_search.specs.Passing.{AreAllPassing};
 ghost use Rattle.workload_search.specs.Tries.{items_of};
 ghost use Rattle.pool_judging.specs.Judging.{search_by};
 ghost use Rattle.crash_text.specs.Searching.{IsPoolRefusal};
-ghost use Rattle.full_journal_laws.specs.Full.{MakeNoPromise};
-ghost use Rattle.report_model.specs.Answer.{asked_by};
 ghost use Rattle.crash_text.specs.SearchingRules.{IsRuleSearchOf, IsRuleReportBy};
 
 use crate::host::Host;
@@ -56,7 +54,6 @@ where
     ensures refused { IfErr result (λ fault. (fault ≢ RunFault.OutOfMemory)
         → IsPoolRefusal pool.now.steps.now fault) }
     ensures full { request.now.settings.module ≡ Full → request.now.settings.without.items ≡ []
-        → MakeNoPromise (asked_by request.now.settings pool.now.steps.now) pool.now.steps.now
         → IfOk result (λ outcome. outcome.number ≡ 0) }
 {
     let steps = steps_of(host.alloc, pool.steps)?;

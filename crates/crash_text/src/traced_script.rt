@@ -3,7 +3,7 @@
 ghost use Rattle.std.specs.Prelude.{◌≡◌, ◌≢◌, [], IfOk, IfErr};
 ghost use Rattle.crash_model.specs.Sound.{IsSound, HasZeroJournal};
 ghost use Rattle.crash_model.specs.declared.modules.Module.TheVariants.{Full};
-ghost use Rattle.full_journal_laws.specs.Full.{MakeNoPromise};
+ghost use Rattle.promise_laws.specs.Waited.{RiskNoPromise};
 ghost use Rattle.report_model.specs.Answer.{asked_by};
 ghost use Rattle.report_sections.specs.Bodies.{AreOnBase};
 ghost use Rattle.crash_text.specs.Traced.{asks_of, IsOrderingOf, IsTraced, IsTraceRefusal, NoneFails};
@@ -28,7 +28,7 @@ pub(crate) struct TracedScript<'steps, A: Allocator + Copy> {
 
 /// Traces the steps over the base, under the ordering that the settings ask for.
 ///
-/// Under the full journal with no rule taken out no set that a crash can leave fails, if no promise counts.
+/// Under the full journal with no rule taken out no set that a crash can leave fails, if no promise is at risk.
 pub(crate) fn trace_script<'steps, A: Allocator + Copy>(
     alloc: A,
     base: &'steps Image<A>,
@@ -43,7 +43,7 @@ pub(crate) fn trace_script<'steps, A: Allocator + Copy>(
     ensures refused { IfErr result (λ fault. (fault ≢ RunFault.OutOfMemory)
         → IsTraceRefusal settings.now base.now steps.now fault) }
     ensures full { settings.now.module ≡ Full → settings.now.without.items ≡ []
-        → MakeNoPromise (asked_by settings.now steps.now) steps.now → IfOk result NoneFails }
+        → RiskNoPromise (asked_by settings.now steps.now) steps.now → IfOk result NoneFails }
 {
     // For the proof: what holds of every image.
     let _blocks = base.blocks();

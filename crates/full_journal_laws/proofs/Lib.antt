@@ -14,4 +14,3 @@ pub mod Safe
 pub mod Failing
 pub mod Kept
 pub mod Showing
-pub mod Promising

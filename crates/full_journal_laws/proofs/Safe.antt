@@ -31,7 +31,7 @@ act_gives (Hold path) gives = All-nil GivesName
 act_gives (Spare path other) gives = All-nil GivesName
 
 -- the names that operations of steps give are names
-steps_give : (steps : List Step) → All GivesNames steps → All GivesName (ops_of steps)
+pub steps_give : (steps : List Step) → All GivesNames steps → All GivesName (ops_of steps)
 steps_give [] all = All-nil GivesName
 steps_give (x ∷ xs) all = All-append GivesName (ops_at x.act) (ops_of xs)
     (act_gives x.act (All-head GivesNames x xs all)) (steps_give xs (All-tail GivesNames x xs all))

@@ -1,13 +1,12 @@
 -- The promise of the full journal.
 use Rattle.std.specs.Prelude.{◌≡◌, ℕ, ◌+◌, ◌<◌, ◌≤◌, ◌⊎◌, List, [], ◌∷◌, flat_map, take, Bool, true, false, ◌&&◌}
 use Rattle.std.specs.Prelude.{if◌then◌else◌, Ok, Some}
-use Rattle.std.specs.List.{list_any}
 use Rattle.crash_model.specs.declared.disk_bytes.TheConstants.{JOURNAL_AT}
 use Rattle.patch_sets.specs.Sets.{has}
 use Rattle.patch_sets.specs.Closed.{IsClosed}
 use Rattle.crash_model.specs.Disk.{Disk, block_of}
 use Rattle.crash_model.specs.Atomic.{shows}
-use Rattle.crash_model.specs.Checker.{Asked, Demands, promised}
+use Rattle.crash_model.specs.Checker.{Demands, promised}
 use Rattle.crash_model.specs.Plan.{plan_of, with_plan}
 use Rattle.crash_model.specs.Sound.{IsSound}
 use Rattle.crash_model.specs.Patches.{deps_of, image_of}
@@ -18,10 +17,9 @@ use Rattle.crash_model.specs.declared.rules.Part.TheVariants.{Commit}
 use Rattle.crash_model.specs.declared.operations.Op.{Op}
 use Rattle.crash_model.specs.declared.patches.Patch.{Patch}
 use Rattle.crash_model.specs.declared.steps.Act.{Act}
-use Rattle.crash_model.specs.declared.steps.Act.TheVariants.{Do, Fsync, Hold, Keep}
+use Rattle.crash_model.specs.declared.steps.Act.TheVariants.{Do}
 use Rattle.crash_model.specs.declared.modules.Module.TheVariants.{Full}
 use Rattle.crash_model.specs.declared.steps.Step.{Step}
-use Rattle.crash_model.specs.declared.steps.Target.TheVariants.{At}
 use Rattle.inode_fs.specs.Inside.{GivesName}
 
 -- the operations of steps, in order
@@ -74,16 +72,3 @@ IsFullSafe whole base steps patches =
 abbrev pub CountsNoPromise : Demands → Type 0
 CountsNoPromise demands =
     (promised demands.promises ≡ []) ⊎ ((counted : ℕ) × (demands.counted ≡ Some counted) × (has counted 10 ≡ false))
-
--- what makes a promise: `keep`, `hold`, and an fsync of a path, if fsyncs promise
-abbrev pub makes_promise : Bool → Act → Bool
-makes_promise durable (Keep _) = true
-makes_promise durable (Hold _) = true
-makes_promise durable (Fsync (At _)) = durable
-makes_promise durable _ = false
-
--- no promise of steps counts: no step makes one, or broken promises are not among the faults that are asked for
-abbrev pub MakeNoPromise : Asked → List Step → Type 0
-MakeNoPromise asked steps =
-    (list_any (λ x. makes_promise asked.durable x.act) steps ≡ false)
-    ⊎ ((counted : ℕ) × (asked.counted ≡ Some counted) × (has counted 10 ≡ false))

@@ -8,3 +8,4 @@ pub mod Full
 pub mod Found
 pub mod Workloads
 pub mod Demanded
+pub mod Sure

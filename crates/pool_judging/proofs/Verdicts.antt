@@ -1,14 +1,11 @@
 -- What is found of one graph of a sequence holds of each, since a sequence has only one.
 use Rattle.std.proofs.Common.{◌≡◌, ℕ, List, subst}
-use Rattle.std.specs.Prelude.{Bool, Result, Ok, Err, IfOk}
-use Rattle.crash_model.specs.Disk.{Disk, IsDisk}
-use Rattle.crash_model.specs.Checker.{Demands, Asked, AreDemands}
+use Rattle.std.specs.Prelude.{Result, Ok, Err, IfOk}
+use Rattle.crash_model.specs.Disk.{Disk}
+use Rattle.crash_model.specs.Checker.{Demands, IsFailingUnder}
 use Rattle.crash_model.specs.Trace.{Tracing, IsGraphOf}
 use Rattle.crash_model.specs.declared.patches.Patch.{Patch}
 use Rattle.crash_model.specs.declared.refusals.TraceFault.{TraceFault}
-use Rattle.crash_model.specs.declared.steps.Step.{Step}
-use Rattle.full_journal_laws.specs.Full.{IsFullSafe, CountsNoPromise}
-use Rattle.full_journal_laws.proofs.Failing.{none_fails}
 use Rattle.question_model.specs.Verdict.{IsVerdict}
 use Rattle.question_model.specs.Workloads.{Search, HasPatches, workload_at, trace_at}
 use Rattle.question_model.specs.declared.verdict.Verdict.{Verdict}
@@ -59,13 +56,10 @@ no_failure_prop (Ok Passes) = hlevel
 no_failure_prop (Ok (Fails firsts)) = hlevel
 no_failure_prop (Err e) = hlevel
 
--- where replay recovers from every crash no set fails
-pub never_fails : (asked : Asked) (whole : Bool) (demands : Demands) (base : Disk) (steps : List Step)
-    (patches : List Patch)
-    (verdict : Verdict) → IsDisk base → AreDemands asked base steps demands → CountsNoPromise demands
-    → IsFullSafe whole base steps patches
-    → IsVerdictOn demands base patches verdict → IsNoFailure verdict
-never_fails asked whole demands base steps patches Passes disk told none safe is = tt
-never_fails asked whole demands base steps patches (Refused reason) disk told none safe is = tt
-never_fails asked whole demands base steps patches (Fails firsts) disk told none safe (some, are) =
-    absurd (none_fails asked whole demands base steps patches disk told none safe some.0 some.1)
+-- where no set fails the verdict is not that one does
+pub never_fails : (demands : Demands) (base : Disk) (patches : List Patch) (verdict : Verdict)
+    → ((set : ℕ) → ¬ (IsFailingUnder demands base patches set)) → IsVerdictOn demands base patches verdict
+    → IsNoFailure verdict
+never_fails demands base patches Passes none is = tt
+never_fails demands base patches (Refused reason) none is = tt
+never_fails demands base patches (Fails firsts) none (some, are) = absurd (none some.0 some.1)

@@ -6,7 +6,6 @@ use Rattle.crash_model.specs.Rules.{rules_of}
 use Rattle.crash_model.specs.Checker.{Demands, IsFailingUnder}
 use Rattle.crash_model.specs.declared.modules.Module.TheVariants.{Full}
 use Rattle.crash_model.specs.declared.patches.Patch.{Patch}
-use Rattle.full_journal_laws.specs.Full.{MakeNoPromise}
 use Rattle.kept_promises.specs.Asking.{asked_of}
 use Rattle.pool_judging.specs.Firsts.{AreFirstOfKinds}
 use Rattle.question_model.specs.Lengths.{operations_of}
@@ -44,11 +43,8 @@ abbrev pub IsNoFailure : Verdict → Type 0
 IsNoFailure (Fails firsts) = ⊥
 IsNoFailure _ = Unit {0}
 
--- no promise of a workload counts
-abbrev pub CountsNoPromises : Search → Type 0
-CountsNoPromises s = MakeNoPromise s.asked (s.keeps ++ s.pool)
-
--- the ordering is the full journal with all its rules, and perhaps others
+-- the ordering is the full journal with all its rules, and perhaps others, and its promises are judged
 pub record IsFullJournal (s : Search) : Type 0 where
   pub full : s.ordering ≡ Full
   pub all : AreAmong (rules_of Full) s.rules
+  pub asked : s.asked.kind ≡ Full

@@ -11,7 +11,7 @@ ghost use Rattle.question_model.specs.Verdict.{IsVerdict};
 ghost use Rattle.question_model.specs.Refused.{refusal_of};
 ghost use Rattle.question_model.specs.Workloads.{Search, workload_at, trace_at};
 ghost use Rattle.pool_judging.specs.Beginnings.{IsBegun, AreBegun, IsTraceAt, AreDemandsAt};
-ghost use Rattle.pool_judging.specs.Judging.{search_by, IsVerdictOn, IsNoFailure, IsFullJournal, CountsNoPromises};
+ghost use Rattle.pool_judging.specs.Judging.{search_by, IsVerdictOn, IsNoFailure, IsFullJournal};
 ghost use Rattle.pool_judging.specs.Keeps.{keeps_accepted};
 ghost use Rattle.pool_judging.specs.Pools.{is_waiting};
 ghost use Rattle.pool_judging.specs.Traces.{IsTraced};
@@ -85,14 +85,13 @@ impl<'a, A: Allocator + Copy> PoolJudge<'a, A> {
     /// The verdict on the steps of a beginning, followed by the one at this place of the pool. It fails only when out
     /// of memory.
     ///
-    /// Under the full journal with all its rules, and with any others put in, none fails where no promise counts.
+    /// Under the full journal with all its rules, and with any others put in, none fails.
     pub fn verdict_on(&self, begun: &Begun<'a, A>, place: usize) -> Result<Verdict, AllocError>
         requires begun { (front : List ℕ) × IsBegun (search_by self.now) front begun.now }
         requires among { place < length self.now.pool.now }
         ensures verdict { (front : List ℕ) → IsBegun (search_by self.now) front begun.now
             → IfOk result (IsVerdict (search_by self.now) (front ++ place ∷ [])) }
-        ensures full { IsFullJournal (search_by self.now) → CountsNoPromises (search_by self.now)
-            → IfOk result IsNoFailure }
+        ensures full { IsFullJournal (search_by self.now) → IfOk result IsNoFailure }
     {
         let step = &self.pool[place];
         match begun.tracer.with_step(step) {
@@ -137,8 +136,7 @@ impl<'a, A: Allocator + Copy> PoolJudge<'a, A> {
         ensures verdict { (places : List ℕ) → IsTraceAt (search_by self.now) places tracer.entry
             → AreDemandsAt (search_by self.now) places demands.now
             → IfOk result (IsVerdict (search_by self.now) places) }
-        ensures full { IsFullJournal (search_by self.now) → CountsNoPromises (search_by self.now)
-            → IfOk result IsNoFailure }
+        ensures full { IsFullJournal (search_by self.now) → IfOk result IsNoFailure }
     {
         // For the proof: what holds of every image.
         let _blocks = self.base.blocks();

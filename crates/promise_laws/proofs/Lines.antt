@@ -3,7 +3,6 @@ use Rattle.std.proofs.Common.{◌≡◌, ℕ, zero, suc, inl, inr, List, [], ◌
 use Rattle.std.proofs.Common.{Some, None, Result, Ok, Err, append_assoc, refl, sym, ◌∙◌, ap, subst}
 use Rattle.std.specs.Prelude.{All, option_to_list, ◌==◌}
 use Rattle.std.proofs.lemmas.List.Folds.{list_any-append}
-use Rattle.std.proofs.lemmas.List.Elements.{All-nil, All-cons, All-head, All-tail, All-append}
 use Rattle.patch_sets.specs.Closed.{IsClosed}
 use Rattle.patch_sets.proofs.Ids.{eq_from_true}
 use Rattle.crash_model.specs.Checker.{Asked, Demands, AreDemands, IsFailingUnder, counted_among, promised, all_faults}
@@ -33,9 +32,11 @@ use Rattle.crash_model.specs.Plan.{then_ok}
 use Rattle.inode_fs.specs.Inside.{GivesName}
 use Rattle.promise_steps.proofs.Whole.{begins}
 use Rattle.full_journal_laws.specs.Full.{ops_at, ops_of, GivesNames}
-use Rattle.full_journal_laws.proofs.Failing.{only_broken}
+use Rattle.full_journal_laws.proofs.Failing.{only_broken, none_fails}
 use Rattle.full_journal_laws.proofs.Final.{recovered}
+use Rattle.full_journal_laws.proofs.Safe.{steps_give, traced_is_safe}
 use Rattle.promise_laws.specs.Waited.{HasNoOperation, HasNoGroups, EndBehind, IsWaitedFor, IsSure, IsSureAt, AreSure}
+use Rattle.promise_laws.specs.Waited.{RiskNoPromise}
 use Rattle.promise_laws.proofs.Kept.{waited_kept, durable_kept}
 use Rattle.promise_laws.proofs.Steps.{first_step, joined, ops_of-append}
 
@@ -169,46 +170,41 @@ none_broken promises set d none = no_lines (breaks_line promises set d) (lines_e
 
 -- ---- so nothing fails
 
-act_gives : (act : Act) → ((op : Op) → act ≡ Do op → GivesName op) → All GivesName (ops_at act)
-act_gives (Do op) gives = All-cons GivesName op [] (gives op refl) (All-nil GivesName)
-act_gives _ gives = All-nil GivesName
-
--- the names that operations of steps give are names
-steps_give : (steps : List Step) → All GivesNames steps → All GivesName (ops_of steps)
-steps_give [] all = All-nil GivesName
-steps_give (x ∷ xs) all = All-append GivesName (ops_at x.act) (ops_of xs)
-    (act_gives x.act (All-head GivesNames x xs all)) (steps_give xs (All-tail GivesNames x xs all))
-
 module _ (rules : List Rule) (whole : Bool) (asked : Asked) (base : Disk) (steps : List Step) (s : Tracing)
     (patches : List Patch) (set : ℕ) (demands : Demands) (disk : IsDisk base) (sound : IsSound base)
     (zeros : HasZeroJournal base) (names : All GivesNames steps)
     (is_traced : trace_from Full (trace_start whole base) steps ≡ Ok s) (among : AreAmong journal_rules rules)
-    (graph : IsGraphOf rules base s patches) (full : asked.kind ≡ Full) (are : AreDemands asked base steps demands)
-    (sure : AreSure steps) where
-  told_none : (closed : IsClosed (deps_of patches) set) (tells : Bool)
+    (graph : IsGraphOf rules base s patches) (full : asked.kind ≡ Full)
+    (are : AreDemands asked base steps demands) where
+  told_none : AreSure steps → (closed : IsClosed (deps_of patches) set) (tells : Bool)
       → broken_lines (promised (when tells (promises_of Full asked.durable base steps))) set
       (image_after_replay (image_of base patches set)) ≡ []
-  told_none closed true = none_broken (promises_of Full asked.durable base steps) set
+  told_none sure closed true = none_broken (promises_of Full asked.durable base steps) set
       (image_after_replay (image_of base patches set)) (λ line.
       line_kept rules whole asked.durable base steps s patches
       set line disk sound zeros (steps_give steps names) is_traced among graph closed (sure line))
-  told_none closed false = none_broken [] set (image_after_replay (image_of base patches set)) (λ line. refl)
+  told_none sure closed false =
+      none_broken [] set (image_after_replay (image_of base patches set)) (λ line. refl)
 
-  faultless : IsClosed (deps_of patches) set
+  faultless : AreSure steps → IsClosed (deps_of patches) set
       → all_faults demands set (image_after_replay (image_of base patches set)) ≡ []
-  faultless closed =
+  faultless sure closed =
       only_broken asked base steps s patches set disk
       (recovered rules whole base steps s patches set disk sound zeros (steps_give steps names) is_traced among graph closed) demands are
       ∙ (ap (λ (ps : Option (List Promise)). broken_lines (promised ps) set
       (image_after_replay (image_of base patches set))) (are.promises
       ∙ ap (λ (kind : Module). when asked.tells (promises_of kind asked.durable base steps)) full)
-      ∙ told_none closed asked.tells)
+      ∙ told_none sure closed asked.tells)
 
-  pub none_fails : ¬ (IsFailingUnder demands base patches set)
-  none_fails failing = failing.unclean (record {
-    faultless = ap (counted_among demands.counted) (faultless failing.closed) ∙ nothing demands.counted;
+  pub none_at_risk : RiskNoPromise asked steps → ¬ (IsFailingUnder demands base patches set)
+  none_at_risk (inl sure) failing = failing.unclean (record {
+    faultless = ap (counted_among demands.counted) (faultless sure failing.closed) ∙ nothing demands.counted;
   })
     where
       nothing : (counted : Option ℕ) → counted_among counted [] ≡ []
       nothing None = refl
       nothing (Some counted) = refl
+  none_at_risk (inr (counted, is, without)) failing =
+      none_fails asked whole demands base steps patches disk are (inr (counted, are.counted ∙ is, without))
+      (traced_is_safe Full rules whole base steps s patches refl among disk sound zeros names is_traced graph) set
+      failing

@@ -1,6 +1,8 @@
 -- Which promises a script has waited for.
-use Rattle.std.specs.Prelude.{◌≡◌, ◌⊎◌, ℕ, List, [], ◌∷◌, ◌++◌, Bool, true, false}
+use Rattle.std.specs.Prelude.{◌≡◌, ◌⊎◌, ℕ, List, [], ◌∷◌, ◌++◌, Bool, true, false, Some}
 use Rattle.std.specs.List.{list_any}
+use Rattle.patch_sets.specs.Sets.{has}
+use Rattle.crash_model.specs.Checker.{Asked}
 use Rattle.crash_model.specs.declared.names.Path.{Path}
 use Rattle.crash_model.specs.declared.steps.Act.{Act}
 use Rattle.crash_model.specs.declared.steps.Act.TheVariants.{Group, End, Depend, Sync, Fsync, Keep, Hold}
@@ -55,3 +57,9 @@ IsSureAt line steps =
 -- of each line of the script
 abbrev pub AreSure : List Step → Type 0
 AreSure steps = (line : ℕ) → IsSureAt line steps
+
+-- No promise of the steps is at risk: each is sure, if there is one, or broken promises are not among the faults that
+-- are asked for.
+abbrev pub RiskNoPromise : Asked → List Step → Type 0
+RiskNoPromise asked steps =
+    AreSure steps ⊎ ((counted : ℕ) × (asked.counted ≡ Some counted) × (has counted 10 ≡ false))

@@ -20,7 +20,7 @@ ghost use Rattle.crash_model.specs.declared.steps.Step.{Step};
 ghost use Rattle.crash_model.specs.declared.steps.Target.TheVariants.{At};
 ghost use Rattle.inode_fs.specs.Inside.{GivesName};
 ghost use Rattle.full_journal_laws.specs.Full.{ops_of, GivesNames};
-ghost use Rattle.promise_laws.specs.Waited.{HasNoGroups, EndBehind, IsWaitedFor, IsSureAt, AreSure};
+ghost use Rattle.promise_laws.specs.Waited.{HasNoGroups, EndBehind, IsWaitedFor, IsSureAt, RiskNoPromise};
 
 /// In a script without groups no set that a crash can leave breaks the promise of a line `keep` for which the script has
 /// waited: the line stands before the first operation; or a `sync` stands before it, with no operation between; or it
@@ -64,13 +64,13 @@ pub fn sure_lines_are_kept()
         (image_after_replay (image_of base patches set)) line ≡ false }
 {}
 
-/// So nothing fails, whatever is demanded, if this is so of all promises of a script.
-pub fn nothing_fails_where_all_is_sure()
+/// So nothing fails, whatever is demanded, if this is so of each promise of a script, or if broken promises do not count.
+pub fn nothing_fails_where_no_promise_is_at_risk()
     ensures { (rules : List Rule) → (whole : Bool) → (asked : Asked) → (base : Disk) → (steps : List Step)
         → (s : Tracing) → (patches : List Patch) → (set : ℕ) → (demands : Demands)
         → IsDisk base → IsSound base → HasZeroJournal base → All GivesNames steps
         → trace_from Full (trace_start whole base) steps ≡ Ok s → AreAmong (rules_of Full) rules
         → IsGraphOf rules base s patches → asked.kind ≡ Full → AreDemands asked base steps demands
-        → AreSure steps
+        → RiskNoPromise asked steps
         → ¬ (IsFailingUnder demands base patches set) }
 {}

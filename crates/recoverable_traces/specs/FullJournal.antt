@@ -1,6 +1,7 @@
--- When the full journal recovers: its rules are there, and the disk that it begins with is sound.
-use Rattle.std.specs.Prelude.{◌≡◌, List, Bool, Ok}
+-- When the full journal recovers, and what fails then. Its rules are there, and the disk that it begins with is sound.
+use Rattle.std.specs.Prelude.{◌≡◌, ℕ, List, Bool, Ok}
 use Rattle.std.specs.List.{All}
+use Rattle.crash_model.specs.Checker.{Asked, Demands, AreDemands, IsFailingUnder}
 use Rattle.crash_model.specs.Disk.{Disk, IsDisk}
 use Rattle.crash_model.specs.RuleFacts.{AreAmong}
 use Rattle.crash_model.specs.Rules.{rules_of}
@@ -8,9 +9,11 @@ use Rattle.crash_model.specs.Sound.{IsSound, HasZeroJournal}
 use Rattle.crash_model.specs.Trace.{trace_start, trace_from}
 use Rattle.crash_model.specs.declared.modules.Module.{Module}
 use Rattle.crash_model.specs.declared.modules.Module.TheVariants.{Full}
+use Rattle.crash_model.specs.declared.patches.Patch.{Patch}
 use Rattle.crash_model.specs.declared.rules.Rule.{Rule}
 use Rattle.crash_model.specs.declared.steps.Step.{Step}
 use Rattle.order_modules.specs.Tracer.{Trace, GivesNames}
+use Rattle.promise_laws.specs.Waited.{RiskNoPromise}
 
 -- the ordering is the full journal with all its rules, and perhaps others
 pub record IsFullJournal (ordering : Module) (rules : List Rule) : Type 0 where
@@ -31,3 +34,9 @@ pub record IsRecoverable (ordering : Module) (rules : List Rule) (base : Disk) :
   pub disk : IsDisk base
   pub sound : IsSound base
   pub zeros : HasZeroJournal base
+
+-- whatever is demanded, no set that a crash can leave fails if no promise of the steps is at risk
+abbrev pub FailAtRiskAlone : Disk → List Step → List Patch → Type 0
+FailAtRiskAlone base steps patches =
+    (asked : Asked) (demands : Demands) → asked.kind ≡ Full → AreDemands asked base steps demands
+    → RiskNoPromise asked steps → (set : ℕ) → ¬ (IsFailingUnder demands base patches set)

@@ -1,7 +1,8 @@
-//! Traces of scripts, with the promise of the full journal: from each crash, replay recovers the committed operations.
+//! Traces of scripts, with the promise of the full journal: from each crash, replay recovers the committed operations, and
+//! nothing fails but a promise that is at risk.
 //!
 //! [`trace`] traces a whole script, and [`finish`] ends the trace of a workload. Both trace as `order_modules` does. Their
-//! contracts add what `full_journal_laws` proves, so that the tracer does not depend on that proof.
+//! contracts add what `full_journal_laws` and `promise_laws` prove, so that the tracer does not depend on these proofs.
 #![tactic(auto)]
 
 ghost use Rattle.std.specs.Prelude.{◌≡◌, ◌<◌, List, Bool, Ok, IfOk, All};
@@ -13,7 +14,7 @@ ghost use Rattle.crash_model.specs.declared.rules.Rule.{Rule as ARule};
 ghost use Rattle.crash_model.specs.declared.steps.Step.{Step as AStep};
 ghost use Rattle.full_journal_laws.specs.Full.{GivesNames, IsFullSafe};
 ghost use Rattle.order_modules.specs.Tracer.{RefusesAs};
-ghost use Rattle.recoverable_traces.specs.FullJournal.{IsFullJournal, IsRecoverable, IsTraceOf};
+ghost use Rattle.recoverable_traces.specs.FullJournal.{IsFullJournal, IsRecoverable, IsTraceOf, FailAtRiskAlone};
 
 use crash_model::orderings::Ordering;
 use crash_model::refusals::TraceFault;
@@ -28,7 +29,7 @@ use traced_patches::Traced;
 ///
 /// Under the full journal with all its rules, and with any others put in, replay recovers from every crash: outside the
 /// journal, the image after replay is the base after the first k operations. Here k is the number of commit patches
-/// that the crash left.
+/// that the crash left. No set fails if no promise of the steps is at risk.
 pub fn trace<'a, A: Allocator + Copy>(
     alloc: A,
     base: &'a Image<A>,
@@ -48,6 +49,8 @@ pub fn trace<'a, A: Allocator + Copy>(
     ensures names { IfOk result (λ _. All GivesNames steps.now) }
     ensures recovers { IsFullJournal ordering.now.«module» ordering.now.rules.items
         → IfOk result (λ t. IsFullSafe ordering.now.whole_blocks base.now steps.now t.patches) }
+    ensures safe { IsFullJournal ordering.now.«module» ordering.now.rules.items
+        → IfOk result (λ t. FailAtRiskAlone base.now steps.now t.patches) }
 {
     // For the proof: what holds of every image.
     let _blocks = base.blocks();
@@ -57,13 +60,16 @@ pub fn trace<'a, A: Allocator + Copy>(
 /// The patches of a trace that has come to its end.
 ///
 /// Under the full journal with all its rules, and with any others put in, replay recovers from every crash of each list
-/// of steps that has this trace, as [`trace`] says.
+/// of steps that has this trace, and none fails if no promise of the steps is at risk, as [`trace`] says.
 pub fn finish<'a, A: Allocator + Copy>(tracer: Tracer<'a, A>) -> Traced<'a, A>
     ensures graph { IsGraphOf tracer.entry.log.rules tracer.entry.log.base tracer.entry.tracing result.patches }
     ensures fits { All (λ patch. patch.block < tracer.entry.log.base.blocks) result.patches }
     ensures recovers { (ordering : AModule) → (rules : List ARule) → (whole : Bool) → (base : Disk)
         → (steps : List AStep) → IsTraceOf ordering rules whole base steps tracer.entry
         → IsRecoverable ordering rules base → IsFullSafe whole base steps result.patches }
+    ensures safe { (ordering : AModule) → (rules : List ARule) → (whole : Bool) → (base : Disk)
+        → (steps : List AStep) → IsTraceOf ordering rules whole base steps tracer.entry
+        → IsRecoverable ordering rules base → FailAtRiskAlone base steps result.patches }
 {
     tracer.into_traced()
 }

@@ -13,8 +13,8 @@ use Rattle.question_model.specs.EnoughReport.{IsEnoughReport}
 use Rattle.crash_text.specs.BaseRefusal.{IsBaseRefusal}
 use Rattle.crash_text.specs.Searching.{IsPoolRefusal, IsSearchOf}
 use Rattle.crash_text.specs.SearchingRules.{IsRuleSearchOf}
-use Rattle.crash_text.specs.Traced.{IsTraced, IsTraceRefusal}
-use Rattle.crash_text.proofs.Answering.{has_base, nothing_counts, refused_script, refused_base, refused_steps, reported_on}
+use Rattle.crash_text.specs.Traced.{IsTraced, IsTraceRefusal, RisksNothing}
+use Rattle.crash_text.proofs.Answering.{has_base, nothing_at_risk, refused_script, refused_base, refused_steps, reported_on}
 use Rattle.crash_text.proofs.Answering.{reported_visit, refused_visit, refused_pool, reported_pool, reported_rules}
 use Rattle.crash_text.proofs.Pools.{are_acts}
 use Rattle.crash_text.proofs.run.run.Goals as goal
@@ -105,8 +105,9 @@ returns-in-Visit-clause-full g c = λ full none nothing.
     let base = c.in_ok-built.built in
     let start = has_base c.args.script.now asked.settings read.base.items _ read.traced.items base
     c.in_ok-read.ensures.ok c.in_ok-built.ensures.lawful c.deref.ensures.value c.in_ok-built.ensures.built in
-    c.visited-answer.ensures.safe (c.in_ok-script-in-Visit.ensures.full full none (nothing_counts c.args.script.now asked.settings base read.traced.items _ start
-    c.deref-in-Visit.ensures.value nothing))
+    c.visited-answer.ensures.safe (c.in_ok-script-in-Visit.ensures.full full none
+    (nothing_at_risk c.args.script.now asked.settings base read.traced.items _ start c.deref-in-Visit.ensures.value
+    (subst (λ q. RisksNothing q c.args.script.now asked.settings) c.in-Visit.is nothing)))
 
 -- ---- a decision
 
@@ -149,8 +150,9 @@ returns-in-Decide-clause-full g c = λ full none nothing.
     let base = c.in_ok-built.built in
     let start = has_base c.args.script.now asked.settings read.base.items _ read.traced.items base
     c.in_ok-read.ensures.ok c.in_ok-built.ensures.lawful c.deref.ensures.value c.in_ok-built.ensures.built in
-    c.in_ok-decided-in-Decide.ensures.safe (c.in_ok-script-in-Decide.ensures.full full none (nothing_counts c.args.script.now asked.settings base read.traced.items _ start
-    c.deref-in-Decide.ensures.value nothing))
+    c.in_ok-decided-in-Decide.ensures.safe (c.in_ok-script-in-Decide.ensures.full full none
+    (nothing_at_risk c.args.script.now asked.settings base read.traced.items _ start c.deref-in-Decide.ensures.value
+    (subst (λ q. RisksNothing q c.args.script.now asked.settings) c.in-Decide.is nothing)))
 
 -- ---- the rules that are enough
 
@@ -193,8 +195,9 @@ returns-in-Enough-clause-full g c = λ full none nothing.
     let base = c.in_ok-built.built in
     let start = has_base c.args.script.now asked.settings read.base.items _ read.traced.items base
     c.in_ok-read.ensures.ok c.in_ok-built.ensures.lawful c.deref.ensures.value c.in_ok-built.ensures.built in
-    c.in_ok-enough-in-Enough.ensures.safe (c.in_ok-script-in-Enough.ensures.full full none (nothing_counts c.args.script.now asked.settings base read.traced.items _ start
-    c.deref-in-Enough.ensures.value nothing))
+    c.in_ok-enough-in-Enough.ensures.safe (c.in_ok-script-in-Enough.ensures.full full none
+    (nothing_at_risk c.args.script.now asked.settings base read.traced.items _ start c.deref-in-Enough.ensures.value
+    (subst (λ q. RisksNothing q c.args.script.now asked.settings) c.in-Enough.is nothing)))
 
 -- ---- a search, and one for rules
 
@@ -237,14 +240,7 @@ returns-in-Search-clause-refused g c =
     c.searched.ensures.refused)
 
 pub returns-in-Search-clause-full : goal.returns-in-Search-clause-full
-returns-in-Search-clause-full g c = λ full none nothing.
-    let asked = c.args.request.now in
-    let read = c.in_ok-read.read in
-    let base = c.in_ok-built.built in
-    let start = has_base c.args.script.now asked.settings read.base.items _ read.traced.items base
-    c.in_ok-read.ensures.ok c.in_ok-built.ensures.lawful c.deref.ensures.value c.in_ok-built.ensures.built in
-    c.searched.ensures.full full none (nothing_counts c.args.script.now asked.settings base read.traced.items _ start
-    c.deref-in-Search.ensures.value nothing)
+returns-in-Search-clause-full g c = λ full none nothing. c.searched.ensures.full full none
 
 pub searched_for_rules-requires-clause-acts : goal.searched_for_rules-requires-clause-acts
 searched_for_rules-requires-clause-acts g c κs within =
@@ -285,11 +281,4 @@ returns-clause-refused g c =
     c.searched_for_rules.ensures.refused)
 
 pub returns-clause-full : goal.returns-clause-full
-returns-clause-full g c = λ full none nothing.
-    let asked = c.args.request.now in
-    let read = c.in_ok-read.read in
-    let base = c.in_ok-built.built in
-    let start = has_base c.args.script.now asked.settings read.base.items _ read.traced.items base
-    c.in_ok-read.ensures.ok c.in_ok-built.ensures.lawful c.deref.ensures.value c.in_ok-built.ensures.built in
-    c.searched_for_rules.ensures.full full none (nothing_counts c.args.script.now asked.settings base read.traced.items _ start
-    c.deref-in-SearchRules.ensures.value nothing)
+returns-clause-full g c = λ full none nothing. c.searched_for_rules.ensures.full full none

@@ -27,7 +27,7 @@ invariant_of-judge g c =
     }
 
 pub returns-clause-full : goal.returns-clause-full
-returns-clause-full g c = λ full none nothing.
+returns-clause-full g c = λ full none.
     let settings = c.args.request.now.settings in
     let pool = c.args.pool.now in
     let found = c.in_ok-searched.searched.found in
@@ -39,7 +39,7 @@ returns-clause-full g c = λ full none nothing.
     by.ensures.«module» by.ensures.whole by.ensures.rules in
     let disk : IsDisk pool.base.now = search rules in
     none_reported settings (operations_of pool.longest) pool.base.now pool.steps.now found c.in_ok-outcome.outcome.number full
-    none nothing disk c.requires.sound.0 c.requires.sound.1 c.requires.acts
+    none disk c.requires.sound.0 c.requires.sound.1 c.requires.acts
     (subst (λ (s : Search). AreFound s found) same c.in_ok-searched.ensures.found) c.in_ok-outcome.ensures.number
 
 pub returns-clause-reported : goal.returns-clause-reported

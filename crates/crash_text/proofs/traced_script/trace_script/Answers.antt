@@ -1,9 +1,7 @@
-use Rattle.std.proofs.Common.{rules, ◌≡◌, List, Bool, Ok, refl, subst, ap, ◌∙◌}
+use Rattle.std.proofs.Common.{◌≡◌, List, Bool, Ok, refl, subst, ap, ◌∙◌}
 use Rattle.report_model.specs.Answer.{asked_by, ordering_rules}
 use Rattle.crash_model.specs.Checker.{AreDemands}
-use Rattle.crash_model.specs.Disk.{Disk, IsDisk}
-use Rattle.crash_model.specs.Rules.{rules_of}
-use Rattle.crash_model.specs.RuleFacts.{AreAmong}
+use Rattle.crash_model.specs.Disk.{Disk}
 use Rattle.crash_model.specs.Trace.{Tracing, trace_start, trace_from, IsGraphOf}
 use Rattle.crash_model.specs.declared.rules.Rule.{Rule}
 use Rattle.crash_model.specs.declared.patches.Patch.{Patch}
@@ -11,9 +9,6 @@ use Rattle.crash_model.specs.declared.settings.Asked as code
 use Rattle.crash_model.specs.declared.settings.Settings.{Settings}
 use Rattle.crash_model.specs.declared.steps.Step.{Step}
 use Rattle.crash_model.specs.declared.modules.Module.{Module}
-use Rattle.crash_model.specs.declared.modules.Module.TheVariants.{Full}
-use Rattle.full_journal_laws.proofs.Failing.{none_fails}
-use Rattle.full_journal_laws.proofs.Promising.{counts_none}
 use Rattle.kept_promises.specs.Asking.{asked_of}
 use Rattle.crash_text.specs.Traced.{asks_of, IsTraceOf}
 use Rattle.crash_text.proofs.Safe.{full_rules}
@@ -40,22 +35,19 @@ same_asked settings asked kind steps of_kind is =
     ∙ ap (λ (m : Module). asked_of (asks_of settings) m steps) of_kind
 
 pub returns-clause-full : goal.returns-clause-full
-returns-clause-full g c = λ full none nothing.
+returns-clause-full g c = λ full none risk.
     let settings = c.args.settings.now in
     let base = c.args.base.now in
     let steps = c.args.steps.now in
     let ordering = c.args.ordering.now in
     let demands = c.in_ok-demands.demands in
     let same = c.requires.ordering in
-    let among : AreAmong (rules_of Full) ordering.rules.items =
-    full_rules settings ordering.rules.items full none same.rules in
-    let disk : IsDisk base = search rules in
-    let safe = c.in_ok-traced.ensures.recovers (record { full = same.kind ∙ full; all = among }) in
+    let all = full_rules settings ordering.rules.items full none same.rules in
     let are = subst (λ asked. AreDemands asked base steps demands)
     (same_asked settings c.asked_of.result ordering.«module» steps same.kind c.asked_of.ensures)
     c.in_ok-demands.ensures in
-    none_fails (asked_by settings steps) ordering.whole_blocks demands base steps c.in_ok-traced.traced.patches disk are
-    (counts_none (asked_by settings steps) base steps demands are nothing) safe
+    c.in_ok-traced.ensures.safe (record { full = same.kind ∙ full; all = all }) (asked_by settings steps) demands full are
+    risk
 
 pub returns-clause-traced : goal.returns-clause-traced
 returns-clause-traced g c =
