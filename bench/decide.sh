@@ -7,6 +7,10 @@
 # four workers. At the end ten creates with five writes under soft updates are timed beside a script without
 # operations. Every run is a process of its own, so the time to start it is part of each number.
 #
+# PROMISES says how many lines `keep` or `hold` a second script has beside each of these, which is otherwise the same
+# (0, and then there is none). It takes its turns, and how much longer it takes is printed, by the clock and in
+# processor time.
+#
 # Where DECIDE_TRIAL names the folder of the unverified trial in Rust, and cargo is there, the trial is built and takes
 # its turns. Its times are shown beside, and the faults and their first sets must be the same. CRASHMAP_PROGRAM names
 # another program to time than the one that is built here.
@@ -29,4 +33,4 @@ if [ -n "${DECIDE_TRIAL:-}" ] && command -v cargo >/dev/null; then
 fi
 cd "$top"
 GLIBC_TUNABLES=$tunables python3 -m bench.time_decisions "$work" "${1:-60}" "${2:-bench}" "${ROUNDS:-3}" \
-    "$program" ${trial[@]+"${trial[@]}"}
+    "${PROMISES:-0}" "$program" ${trial[@]+"${trial[@]}"}

@@ -1,4 +1,4 @@
-"""Times decisions of big random scripts: `time_decisions.py FOLDER COUNT SEED ROUNDS PROGRAM [TRIAL]`.
+"""Times decisions of big random scripts: `time_decisions.py FOLDER COUNT SEED ROUNDS PROMISES PROGRAM [TRIAL]`.
 
 `decide.sh` says what is timed and calls this. Scripts are written to FOLDER. TRIAL is the trial in Rust.
 """
@@ -13,6 +13,8 @@ from collections import namedtuple
 
 from reference.random_cases.big import BLOCKS, big_script
 from reference.random_cases.make import chance_of
+from reference.random_cases.promise_lines import worlds_before
+from reference.random_cases.world import World
 from reference.rules import MODULE_RULES
 
 KINDS = {"no ordering": ("async", False), "soft updates": ("soft", False), "a metadata journal": ("meta", False),
@@ -22,11 +24,15 @@ KINDS = {"no ordering": ("async", False), "soft updates": ("soft", False), "a me
 
 FIVE_WRITES = ["start"] + ["create /" + name for name in "abcdefghij"] + ["write /" + name for name in "abcde"]
 
-Script = namedtuple("Script", "kind path words")
-"""A script on the disk, and the words that program and trial both know."""
+Script = namedtuple("Script", "kind path words promised", defaults=(None,))
+"""A script on the disk, the words that program and trial both know, and the path of the same script with promises."""
 
-Timed = namedtuple("Timed", "script ours trial patches closed")
-"""The milliseconds of a script in its shortest runs, and its numbers of patches and closed sets."""
+Spent = namedtuple("Spent", "clock processor")
+"""The milliseconds that a run takes by the clock, and those of processors."""
+
+Timed = namedtuple("Timed", "script ours trial promised patches closed broken")
+"""What the shortest runs of a script take, without promises, by the trial and with promises, its numbers of patches and
+closed sets, and how many promises are broken."""
 
 PIPE_BYTES = 4096
 
@@ -43,6 +49,10 @@ class Programs:
         words = [self.program, script.path, *script.words, "--decide", "--strict", "--workers", str(workers)]
         return words, os.environ
 
+    def promised(self, script):
+        """The same for the script with promises, by one worker."""
+        return self.ours(script._replace(path=script.promised), 1)
+
     def theirs(self, script):
         """The words and the environment of a run of the trial."""
         return [self.trial, script.path, *script.words, "--strict", "--what", "core"], self.plain
@@ -54,12 +64,22 @@ def start(words, environment, output):
     return os.posix_spawn(words[0], words, environment, file_actions=actions)
 
 
-def milliseconds(words, environment):
-    """How long a run takes."""
+def spent(words, environment):
+    """What a run takes."""
     with open(os.devnull, "wb") as nothing:
         before = time.perf_counter()
-        os.waitpid(start(words, environment, nothing.fileno()), 0)
-    return (time.perf_counter() - before) * 1000
+        _, _, used = os.wait4(start(words, environment, nothing.fileno()), 0)
+    return Spent((time.perf_counter() - before) * 1000, (used.ru_utime + used.ru_stime) * 1000)
+
+
+def milliseconds(words, environment):
+    """How long a run takes by the clock."""
+    return spent(words, environment).clock
+
+
+def shortest(runs):
+    """The least of each kind of time, or None if there is no run."""
+    return Spent(*map(min, zip(*runs))) if runs else None
 
 
 def printed(folder, words, environment):
@@ -102,13 +122,33 @@ def write_script(folder, name, lines):
     return str(path)
 
 
-def make_script(folder, seed, kind, index):
-    """A script of a kind."""
+def promise(chance, there):
+    """A line that promises: one path or two that are there, or one that is not."""
+    paths = there or ["/q"]
+    return "%s %s" % chance.choice([("keep", chance.choice(paths)), ("hold", chance.choice(paths)),
+                                    ("keep", " ".join(chance.choice(paths) for _ in range(2)))])
+
+
+def with_promises(chance, world, base, traced, count):
+    """The traced lines with some that promise, each before one of them."""
+    places = [chance.randrange(len(traced)) for _ in range(count)]
+    return [line for at, (own, before) in enumerate(zip(traced, worlds_before(world, base, traced)))
+            for line in [promise(chance, before.paths()) for _ in range(places.count(at))] + [own]]
+
+
+def make_script(folder, seed, kind, index, promises=0):
+    """A script of a kind, and where promises are asked for also one with so many."""
     module, without = KINDS[kind]
     journal, base, traced = big_script(chance_of(seed, index, "bench", kind), module)
-    path = write_script(folder, "%s-%d" % (kind.replace(" ", "-"), index), base + ["start"] + traced)
+    name = "%s-%d" % (kind.replace(" ", "-"), index)
+    path, promised = write_script(folder, name, base + ["start"] + traced), None
+    if promises:
+        chance = chance_of(seed, index, "bench", kind, "promises")
+        traced = with_promises(chance, World(chance, BLOCKS, journal), base, traced, promises)
+        promised = write_script(folder, name + "-promised", base + ["start"] + traced)
     words = ["--module", module, "--blocks", str(BLOCKS), "--journal", str(journal)]
-    return Script(kind, path, words + [word for rule in MODULE_RULES[module] * without for word in ("--without", rule)])
+    words += [word for rule in MODULE_RULES[module] * without for word in ("--without", rule)]
+    return Script(kind, path, words, promised)
 
 
 def faults_of(report):
@@ -124,11 +164,13 @@ def time_script(programs, folder, script):
         sys.exit("%s: the program makes no report" % script.path)
     if programs.trial and faults_of(report) != faults_of(printed(folder, *programs.theirs(script))):
         sys.exit("%s: the trial answers otherwise" % script.path)
-    ours, theirs = [], []
+    ours, theirs, promised = [], [], []
     for _ in range(programs.rounds):
-        ours.append(milliseconds(*programs.ours(script, 1)))
-        theirs += [milliseconds(*programs.theirs(script))] if programs.trial else []
-    return Timed(script, min(ours), min(theirs, default=None), int(numbers[1]), int(numbers[2]))
+        ours.append(spent(*programs.ours(script, 1)))
+        theirs += [spent(*programs.theirs(script))] if programs.trial else []
+        promised += [spent(*programs.promised(script))] if script.promised else []
+    broken = printed(folder, *programs.promised(script)).count("broken promise") if script.promised else 0
+    return Timed(script, *map(shortest, (ours, theirs, promised)), int(numbers[1]), int(numbers[2]), broken)
 
 
 def at(share, values):
@@ -147,19 +189,35 @@ def print_times(name, some):
     power = [len(str(one.closed)) - 1 for one in some]
     print("%s: %d scripts, %d to %d patches, 10^%d to 10^%d closed sets" % (
         name, len(some), min(one.patches for one in some), max(one.patches for one in some), min(power), max(power)))
-    ours = spread([one.ours for one in some])
+    ours = spread([one.ours.clock for one in some])
     print("  one worker: median %.1f ms, 99 of 100 within %.1f ms, the worst %.1f ms" % ours)
     if some[0].trial is not None:
-        theirs = spread([one.trial for one in some])
+        theirs = spread([one.trial.clock for one in some])
         print("  the trial:  median %.1f ms, 99 of 100 within %.1f ms, the worst %.1f ms" % theirs)
-        print("  the program takes %.1f, %.1f and %.1f times as long" % tuple(
-            one / other for one, other in zip(ours, theirs)))
+        print("  the program takes %.1f, %.1f and %.1f times as long" % ratios(ours, theirs))
+    if some[0].promised is not None:
+        print_promised(some)
+
+
+def ratios(these, others):
+    """How often each of the others is one of these."""
+    return tuple(one / other for one, other in zip(these, others))
+
+
+def print_promised(some):
+    """Prints the times of some scripts with promises, and how much longer that is than without."""
+    print("  with promises, of which %d are broken:" % sum(one.broken for one in some))
+    for kind in Spent._fields:
+        plain, promised = (spread([getattr(one, kind) for one in times]) for times in (
+            [each.ours for each in some], [each.promised for each in some]))
+        print("    %s: median %.1f ms, 99 of 100 within %.1f ms, the worst %.1f ms" % (kind, *promised))
+        print("    that is %.2f, %.2f and %.2f times as long" % ratios(promised, plain))
 
 
 def print_workers(programs, timed):
     """Prints how much faster four workers are on the slowest tenth, and the most memory there."""
-    slowest = sorted(timed, key=lambda one: one.ours)[-max(1, len(timed) // 10):]
-    one = sum(each.ours for each in slowest)
+    slowest = sorted(timed, key=lambda one: one.ours.clock)[-max(1, len(timed) // 10):]
+    one = sum(each.ours.clock for each in slowest)
     four = sum(min(milliseconds(*programs.ours(each.script, 4)) for _ in range(programs.rounds)) for each in slowest)
     print("the slowest tenth: one worker %.1f ms in all, four workers %.1f ms, %.2f times as fast" % (
         one, four, one / four))
@@ -178,13 +236,14 @@ def print_creates(programs, folder):
         times[0], times[0] - times[1]))
 
 
-def main(folder, count, seed, rounds, program, trial=None):
+def main(folder, count, seed, rounds, promises, program, trial=None):
     """Times all kinds and prints a table."""
     programs = Programs(program, trial, int(rounds))
     print("load before: %.2f" % os.getloadavg()[0])
     timed = []
     for kind in KINDS:
-        some = [time_script(programs, folder, make_script(folder, seed, kind, k)) for k in range(int(count))]
+        some = [time_script(programs, folder, make_script(folder, seed, kind, k, int(promises)))
+                for k in range(int(count))]
         print_times(kind, some)
         timed += some
     print_times("all", timed)
