@@ -2,6 +2,7 @@
 import {
   ReportError, checkCount, checkHex, checkList, checkObject, checkText, checkTexts, isCount, isObject, kindOf, must,
 } from "./form.js";
+import { checkPromises } from "./promises.js";
 
 /** Longer lists of faults, rules, sets of rules or failing sets are shown up to here. */
 export const MOST_CHOICES = 500;
@@ -59,6 +60,7 @@ export function checkSet(place, one, report) {
   one.writes.forEach((write, k) => checkWrite(`${place}.writes[${k}]`, write, one.set, report));
   const written = one.writes.flatMap(write => write.patches).sort((a, b) => a - b);
   must(written.join() === one.set.join(), `${place}.writes`, "writes of exactly the patches in set", one.writes);
+  if (one.shows !== undefined) checkTexts(`${place}.shows`, one.shows);
   if (one.replay === undefined) return;
   checkList(`${place}.replay`, one.replay);
   one.replay.forEach((change, k) => checkChange(`${place}.replay[${k}]`, change, report));
@@ -143,9 +145,17 @@ function checkHead(json) {
 export function checkOrdering(json) {
   checkText("module", json.module);
   for (const list of ["with", "without"]) if (json[list] !== undefined) checkTexts(list, json[list]);
-  for (const flag of ["atomic", "generations", "strict", "whole_blocks"]) {
+  if (json.counted !== undefined) checkCounted(json.counted);
+  for (const flag of ["atomic", "durable", "generations", "strict", "whole_blocks"]) {
     if (json[flag] !== undefined) must(typeof json[flag] === "boolean", flag, "true or false", json[flag]);
   }
+}
+
+/** The numbers of the faults that count. */
+function checkCounted(counted) {
+  checkList("counted", counted);
+  must(counted.length > 0, "counted", "a list of at least one number", counted);
+  counted.forEach((number, k) => checkCount(`counted[${k}]`, number, 1));
 }
 
 const checkLength = ({ failing, closed }) =>
@@ -183,6 +193,7 @@ export function checkReport(json) {
   }
   checkBase(json.base);
   checkTrace(json.trace, json.base.length);
+  checkPromises(json);
   checkHead(json);
   if (isOfEnough(json)) checkEnough(json); else checkLists(json);
 }

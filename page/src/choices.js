@@ -1,4 +1,5 @@
 // The list of what can be looked at, and what holds of all crashes together.
+import { cleanDisk } from "./clean.js";
 import { searchVerdict } from "./search.js";
 import { actions, byId, choiceNow, choicesNow, element, view } from "./view.js";
 import { countOf } from "./words.js";
@@ -44,10 +45,11 @@ function drawVerdict(report) {
 const drawSearchVerdict = report =>
   element("p", { class: report.search.failing ? "verdict" : "verdict good" }, searchVerdict(report));
 
-function nothingFails({ closed, asks }) {
+function nothingFails(report) {
+  const { closed, asks } = report;
   const crashes = closed === 1 ? "the one crash that is possible" : `each of the ${closed} crashes that are possible`;
   return `${asks === "rules" ? "With all of them nothing fails" : "None"}: after ${crashes}, `
-    + "replay leaves a clean disk.";
+    + `replay leaves ${cleanDisk(report)}.`;
 }
 
 /** A list that is too long to look through. */

@@ -1,6 +1,7 @@
 // What a person can choose to look at in a report: faults, rules or failing sets, and the run without a crash. A choice
 // has words, its patches with their block writes, and the rules that its ordering is without.
 import { MOST_CHOICES } from "./check.js";
+import { shownOf } from "./promises.js";
 import { bytesOf, countOf } from "./words.js";
 
 /** The choices in their order, with a title; the run without a crash comes last. */
@@ -13,7 +14,8 @@ export function choicesOf(json, report) {
 }
 
 const changesOf = replay => (replay ?? []).map(({ block, bytes }) => ({ block, bytes: bytesOf(bytes) }));
-export const crashOf = one => ({ set: one.set, writes: one.writes, replay: changesOf(one.replay) });
+export const crashOf = one => ({ set: one.set, writes: one.writes, replay: changesOf(one.replay),
+  shown: shownOf(one.faults ?? [one.fault], one.shows) });
 
 export const faultChoice = one => ({ ...faultWords(one.fault), count: one.sets, units: ["set", "sets"],
   faults: [one.fault], ...crashOf(one) });

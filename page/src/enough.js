@@ -1,6 +1,7 @@
 // Which rules are enough (`--enough`): what can be looked at, and the words for it.
 import { MOST_CHOICES } from "./check.js";
 import { crashOf, faultChoice, wholeRun } from "./choosing.js";
+import { cleanDisk } from "./clean.js";
 import { listOf } from "./words.js";
 
 /** The sets that are enough, the groups of which one rule is needed, and the whole ordering. Where that is not enough,
@@ -51,24 +52,25 @@ export function foundWords({ enough }) {
 }
 
 /** What a set of rules is enough for, or what a group of rules prevents. */
-export const rulesWords = ({ rules, isEnough }) => isEnough ? enoughWords(rules) : neededWords(rules);
+export const rulesWords = ({ rules, isEnough }, report) =>
+  isEnough ? enoughWords(rules, cleanDisk(report)) : neededWords(rules, cleanDisk(report));
 
-function enoughWords(rules) {
+function enoughWords(rules, clean) {
   if (!rules.length) {
-    return "No rule is needed: without any rule, replay leaves a clean disk after every crash. "
+    return `No rule is needed: without any rule, replay leaves ${clean} after every crash. `
       + "The graph has no arrow of a rule.";
   }
   const [these, them] = rules.length === 1 ? ["This rule is", "it"] : ["These rules are", "them"];
   const smaller = rules.length === 1 ? "" : "No smaller part of them is enough. ";
-  return `${these} enough: ${listOf(rules)}. With ${them} and no other rule, replay leaves a clean disk after every `
+  return `${these} enough: ${listOf(rules)}. With ${them} and no other rule, replay leaves ${clean} after every `
     + `crash. ${smaller}The graph has no arrow of another rule.`;
 }
 
-function neededWords(rules) {
+function neededWords(rules, clean) {
   if (rules.length === 1) {
     return `This rule is needed: ${rules[0]}. Without it this crash is possible, even with all other rules of the `
       + "ordering.";
   }
   return `One of these rules is needed: ${listOf(rules, "or")}. Without all of them this crash is possible. `
-    + "With any one of them and the rest of the ordering, replay leaves a clean disk after every crash.";
+    + `With any one of them and the rest of the ordering, replay leaves ${clean} after every crash.`;
 }

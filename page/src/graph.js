@@ -1,5 +1,6 @@
 // The patch graph: who waits for whom and why, and where each patch is in the picture. Columns are operations;
 // inside a column patches are in layers, so that arrows run to the right.
+import { realLine } from "./real.js";
 import { below } from "./words.js";
 
 /** The graph under the ordering without these rules: edges {from, to, why, implied}; for each patch the edges that it
@@ -17,10 +18,11 @@ export function graphOf(report, without = []) {
   return { edges: waits.flat(), waits, before };
 }
 
-export function kindOfEdge(why) {
-  if (why.some(word => word.includes(":"))) return "rule";
-  return ["overlap", "block"].find(kind => why.includes(kind)) ?? "group";
-}
+/** What an arrow is drawn as: the first of these that is among its reasons. */
+export const EDGE_KINDS = ["rule", "overlap", "block", "group", "wait"];
+
+export const kindOfEdge = why =>
+  why.some(word => word.includes(":")) ? "rule" : EDGE_KINDS.find(kind => why.includes(kind));
 
 /* --- layout --- */
 
@@ -196,7 +198,7 @@ function placeColumn(operation, layers, left) {
     x += layer.width + LAYER_GAP;
   }
   x += COLUMN_PAD - LAYER_GAP;
-  const short = left + Math.min(170, textWidth(operation.text, "12px monospace") + 24) - x;
+  const short = left + Math.min(170, textWidth(realLine(operation.text), "12px monospace") + 24) - x;
   if (short <= 0) return x;
   for (const item of layers.flatMap(layer => layer.items)) item.x += short / 2;
   return x + short;

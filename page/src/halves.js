@@ -1,5 +1,6 @@
 // Which operation is half done on an image: some of its changes are there, and others are not.
 import { FREE, INODES, JOURNAL_START, inodeOf } from "./disk.js";
+import { realLine } from "./real.js";
 import { below, listOf } from "./words.js";
 
 /** A sentence on the operation that an image has in part, or on those out of their order; null if neither is clear. */
@@ -19,7 +20,7 @@ export function halvesWords(report, image) {
   return `On disk: ${nameOf(operations[later])}; but an earlier one is not: ${nameOf(operations[missing])}.`;
 }
 
-const nameOf = ({ line, text }) => `line ${line} ${text}`;
+const nameOf = ({ line, text }) => `line ${line} ${realLine(text)}`;
 
 /** Whether a byte has the value from before an operation, or one that the operation gives it. */
 const isWithin = ({ value, versions }, k) => before(versions, k) === value

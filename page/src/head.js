@@ -1,5 +1,7 @@
 // The head: which script this is, what was run, the ordering, the disk, and the counts.
+import { countedWords } from "./clean.js";
 import { foundWords } from "./enough.js";
+import { realNames } from "./real.js";
 import { refusedWords, searchTitle } from "./search.js";
 import { actions, element, view } from "./view.js";
 import { countOf, quoted, shortened } from "./words.js";
@@ -19,8 +21,9 @@ function diskWords({ blocks, journal, root }) {
   return `${countOf(blocks, "block", "blocks")}, ${part}, data from block ${root}`;
 }
 
-/** What the checker also asks for, if it does. */
-const checkersOf = report => ["strict", "atomic"].filter(name => report[name]);
+/** What the checker also asks for, and which faults alone count, if it does. */
+const checkersOf = report =>
+  [...["strict", "atomic", "durable"].filter(name => report[name]), countedWords(report)].filter(Boolean);
 
 /** The title of the window: script, result, ordering and size of the disk. */
 export function titleNow() {
@@ -123,8 +126,11 @@ function drawScript() {
     element("summary", {}, `Script, ${countOf(lines.length, "line", "lines")}`), element("ol", {}, shown, rest));
 }
 
-/** The lines before `start` build the disk; the others are what a crash can interrupt. */
+/** The lines before `start` build the disk; the others are what a crash can interrupt. Behind a line of a recorded
+    script are the real paths. */
 function drawLine(line, k, start) {
   const kind = line.startsWith("#") ? "comment" : k < start ? "base" : k === start ? "begin" : "traced";
-  return element("li", { class: kind }, shortened(line, MOST_LETTERS));
+  const real = kind === "comment" ? [] : realNames(line);
+  return element("li", { class: kind }, shortened(line, MOST_LETTERS),
+    real.length ? element("small", {}, shortened(real.join(" "), MOST_LETTERS)) : null);
 }

@@ -1,5 +1,6 @@
 // Patches that a person picks: are they closed, and which disk do they leave? The page finds both by itself, from the
 // dependencies and the bytes that the report has.
+import { cleanWords } from "./clean.js";
 import { runsOf } from "./choosing.js";
 import { imageOf, replayChanges } from "./disk.js";
 import { graphOf } from "./graph.js";
@@ -32,16 +33,18 @@ const choicesOn = report =>
 function knownFaults(report, set, without) {
   const same = choicesOn(report).filter(choice => choice.set?.join() === set.join());
   const faults = [...new Set(same.flatMap(choice => choice.faults))];
+  const shown = Object.assign({}, ...same.map(choice => choice.shown));
   if (faults.length && ["faults", "enough", "search"].includes(report.asks)) {
-    return { faults, verdict: "The report lists this set with what is said above; it can have other faults." };
+    return { faults, shown, verdict: "The report lists this set with what is said above; it can have other faults." };
   }
-  if (faults.length) return { faults, verdict: "The report lists this set among those that fail." };
+  if (faults.length) return { faults, shown, verdict: "The report lists this set among those that fail." };
+  const clean = `After replay this disk ${cleanWords(report)}`;
   const areAllListed = report.asks === "sets" && report.listed === report.choices.length - 1;
   if (!without.length && (report.failing === 0 || areAllListed)) {
-    return { faults, verdict: "After replay this disk is clean, since the report does not list it as failing." };
+    return { faults, verdict: `${clean}, since the report does not list it as failing.` };
   }
   if (choicesOn(report).some(choice => choice.isEnough && without.every(rule => choice.without.includes(rule)))) {
-    return { faults, verdict: "After replay this disk is clean, since the report says that these rules are enough." };
+    return { faults, verdict: `${clean}, since the report says that these rules are enough.` };
   }
   return { faults,
     verdict: "The page does not check disks, and the report does not say whether this one has faults." };

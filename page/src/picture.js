@@ -1,8 +1,9 @@
 // The patch graph as a picture: columns, patches, arrows, the ground of what is on disk, and what a patch says.
-import { NODE_HEIGHT, TOP, graphOf, kindOfEdge, layoutGraph, wayPath } from "./graph.js";
+import { EDGE_KINDS, NODE_HEIGHT, TOP, graphOf, kindOfEdge, layoutGraph, wayPath } from "./graph.js";
 import { hideHint, showHint } from "./hint.js";
+import { realLine } from "./real.js";
 import { actions, byId, choiceNow, element, idsAt, shape, stateOf, view } from "./view.js";
-import { countOf } from "./words.js";
+import { countOf, shortened } from "./words.js";
 
 export function drawGraph() {
   const { report } = view, card = byId("graph"), heading = element("h2", {}, "Patches");
@@ -58,9 +59,9 @@ function arrowTips() {
 }
 
 function drawColumn({ left, width, operation }, height) {
-  const room = Math.floor((width - 16) / 7.3);
-  const text = operation.text.length > room ? operation.text.slice(0, room - 1) + "\u2026" : operation.text;
-  return shape("g", { class: "column" }, shape("title", {}, `line ${operation.line}: ${operation.text}`),
+  const room = Math.floor((width - 16) / 7.3), whole = realLine(operation.text), text = shortened(whole, room);
+  const own = whole === operation.text ? "" : ` (in the script: ${operation.text})`;
+  return shape("g", { class: "column" }, shape("title", {}, `line ${operation.line}: ${whole}${own}`),
     shape("rect", { x: left, y: 2, width, height: height - 4, rx: 6 }),
     shape("text", { x: left + 10, y: 20 }, `line ${operation.line}`),
     shape("text", { x: left + 10, y: 36, class: "op" }, text));
@@ -221,7 +222,7 @@ function drawKey(edges) {
     isOpenSet() ? null : item(keyNode("disk"), "on disk"),
     item(keyNode("lost", "ready"), words[1]), item(keyNode("lost"), words[2]),
     view.named.size ? item(keyNode("lost", "named ready"), words[3]) : null,
-    ["rule", "overlap", "block", "group"].filter(kind => kinds.has(kind)).map(kind => item(keyLine(kind), kind)));
+    EDGE_KINDS.filter(kind => kinds.has(kind)).map(kind => item(keyLine(kind), kind)));
 }
 
 function keyNode(state, more = "") {

@@ -15,7 +15,8 @@ export function scriptReport(json) {
     ({ ...patch, id, bytes: bytesOf(patch.new), undo: bytesOf(patch.undo) }));
   const report = {
     ...orderingOf(json), closed: numberOf(json.closed), isDecision: isDecision(json), failing: failingOf(json),
-    enough: json.enough, base, blocks, journal, root: JOURNAL_START + journal, trace,
+    enough: json.enough, promises: json.promises ?? [], waits: json.waits ?? [], base, blocks, journal,
+    root: JOURNAL_START + journal, trace,
   };
   Object.assign(report, operationsOf(trace));
   explainPatches(report);
@@ -25,7 +26,8 @@ export function scriptReport(json) {
 /** The ordering, and what else the checker and the disk were asked for. */
 export function orderingOf(json) {
   return { module: json.module, without: json.without ?? [], with: json.with ?? [], strict: json.strict ?? false,
-    atomic: json.atomic ?? false, generations: json.generations ?? false, wholeBlocks: json.whole_blocks ?? false };
+    atomic: json.atomic ?? false, durable: json.durable ?? false, counted: json.counted,
+    generations: json.generations ?? false, wholeBlocks: json.whole_blocks ?? false };
 }
 
 /** A number of closed sets, which a decision writes as a text since it can have 38 digits. */

@@ -3,6 +3,7 @@
 // patches. `crashmap-page` adds the reports on these workloads, so that the page can show the crash.
 import { MOST_CHOICES, checkFailing, checkGroup, checkOrdering, checkSet, isOfEnough } from "./check.js";
 import { crashOf, wholeRun } from "./choosing.js";
+import { cleanDisk } from "./clean.js";
 import { enoughHead, foundWords } from "./enough.js";
 import { ReportError, checkCount, checkList, checkObject, checkText, checkTexts } from "./form.js";
 import { orderingOf, scriptReport } from "./report.js";
@@ -53,10 +54,16 @@ function checkKind(place, one, json) {
 
 const nameOf = steps => steps.join("\n");
 
+/** The operations of a report and its lines that wait, in their order. */
+function stepsOf({ operations, waits }) {
+  const steps = [...operations, ...waits.map(({ line, step }) => ({ line, text: step }))];
+  return steps.sort((one, other) => one.line - other.line).map(({ text }) => text);
+}
+
 /** The reports on workloads, by their operations; that on no operation has the disk before each workload. */
 function reportsOf(workloads) {
   return new Map(workloads.map(({ steps, report }) => {
-    const read = scriptReport(report), traced = read.operations.map(operation => operation.text);
+    const read = scriptReport(report), traced = stepsOf(read);
     if (nameOf(traced) === nameOf(steps)) return [nameOf(steps), read];
     throw new ReportError(`The report on the workload ${wordsOf(steps)} is on ${wordsOf(traced)}.`);
   }));
@@ -137,8 +144,11 @@ export const refusedWords = ({ refused }) =>
 const LEFT_OUT = "A workload that fails is not made longer, so longer ones that begin with it were not tried.";
 
 /** What holds of all workloads together, and what the search leaves out. */
-export function searchVerdict({ search, enough }) {
-  if (!search.failing) return `None of ${workloadsOf(search)} fails: after each crash, replay leaves a clean disk.`;
+export function searchVerdict(report) {
+  const { search, enough } = report;
+  if (!search.failing) {
+    return `None of ${workloadsOf(search)} fails: after each crash, replay leaves ${cleanDisk(report)}.`;
+  }
   const aside = enough ? " These fail under all rules, so they say nothing about the rules. Without --enough the "
     + "report shows them." : "";
   return `${failWords(search)}.${aside} ${LEFT_OUT}`;

@@ -4,6 +4,7 @@ import { drawPage } from "./page.js";
 import { pickedChoice } from "./pick.js";
 import { showWindow } from "./picture.js";
 import { readReport } from "./reading.js";
+import { realPaths } from "./real.js";
 import { actions, byId, element, view } from "./view.js";
 import { shortened } from "./words.js";
 
@@ -25,7 +26,7 @@ function drawDrop(error) {
 
 /** Shows a report, or says why it cannot be shown. `run` says where it is from. */
 function show(text, run) {
-  Object.assign(view, { report: null, run, picked: null });
+  Object.assign(view, { report: null, run, real: realPaths(run?.text), picked: null });
   try {
     view.report = readReport(text, run);
     readPicked();

@@ -3,6 +3,7 @@ import { AREAS, JOURNAL_START, areaOf, cellWords, imageOf, isBlank, pathOf, phra
   rowsOf, sameBytes } from "./disk.js";
 import { drawFacts } from "./facts.js";
 import { closureOf, pickedWords } from "./pick.js";
+import { realPath } from "./real.js";
 import { actions, byId, choiceNow, element, idsAt, view } from "./view.js";
 import { below } from "./words.js";
 
@@ -174,7 +175,8 @@ function drawRow(row, states) {
 }
 
 function latestPath(inode, states) {
-  return [...states].reverse().map(({ image }) => pathOf(image, view.report.root, inode)).find(Boolean);
+  const path = [...states].reverse().map(({ image }) => pathOf(image, view.report.root, inode)).find(Boolean);
+  return path && realPath(path);
 }
 
 /** New phrases marked, gone ones struck out, named ones underlined. */

@@ -1,8 +1,9 @@
 // What is looked at, and the making of elements.
 
 /** What is looked at. `choice` is an index into `choicesNow()`; `picked` is the choice for the patches that a person
-    picked, or null; `run` says where the report is from. */
-export const view = { report: null, run: null, choice: 0, picked: null, step: 0, block: null, every: false };
+    picked, or null; `run` says where the report is from, and `real` the real paths of a recorded script. */
+export const view = { report: null, run: null, real: null, choice: 0, picked: null, step: 0, block: null,
+  every: false };
 
 /** What a person can ask for; `page.js` says how it is done, which the files that it imports need not know. */
 export const actions = { goTo: null, choose: null, pick: null, pickAll: null, open: null };

@@ -168,6 +168,8 @@ const SHOWN = `(() => {
     facts: texts("#head dl div"), rules: texts(".rule"), choices: texts("#choices button"),
     verdict: texts("#choices .verdict"), parts: texts("#choices .part"), columns: texts(".column .op"),
     faults: texts(".fault"),
+    promises: [...document.querySelectorAll(".promise")].map(table => [...table.querySelectorAll("tr")]
+      .map(row => [...row.children].map(one => one.textContent))),
     steps: texts("#steps button b"), end: texts("#steps .end"),
     disk: ids(node => node.state === "disk"), later: ids(node => node.state === "later"),
     lost: ids(node => node.state === "lost"), named: ids(node => node.kinds.includes("named")),
