@@ -16,9 +16,17 @@ PAGE = 4096
 
 
 def block_size(text):
-    if int(text) < PAGE or int(text) % PAGE:
-        raise ValueError
+    if not text.isdecimal() or int(text) < PAGE or int(text) % PAGE:
+        raise argparse.ArgumentTypeError(f"{printable(text)} is not {PAGE} or a multiple of it")
     return int(text)
+
+
+def place(text):
+    """A file that can be written, as far as that is known before the command runs."""
+    there = text if os.path.exists(text) else os.path.dirname(text) or "."
+    if not text or os.path.isdir(text) or not os.access(there, os.W_OK):
+        raise argparse.ArgumentTypeError(f"{printable(text) or 'an empty path'} cannot be written")
+    return text
 
 
 def parse(words):
@@ -36,8 +44,8 @@ def parse(words):
     add("--block", type=block_size, default=PAGE, metavar="BYTES", help=f"size of a block: {PAGE} or a multiple of it")
     add("--ignore", **many, metavar="PATTERN", help="leave files out, such as '*.lock'")
     add("--lossy", action="store_true", help="write a comment, and what comes nearest, where the model cannot say it")
-    add("--trace", metavar="FILE", help="keep what strace wrote")
-    add("-o", dest="output", metavar="FILE", help="write the script to this file")
+    add("--trace", type=place, metavar="FILE", help="keep what strace wrote")
+    add("-o", dest="output", type=place, metavar="FILE", help="write the script to this file")
     add("command", nargs=argparse.REMAINDER, metavar="-- COMMAND ..")
     options = parser.parse_args(words)
     options.command = options.command[1:] if options.command[:1] == ["--"] else options.command
@@ -51,15 +59,14 @@ def below(top, path):
     directory, name = os.path.split(os.path.join(top, path))
     found = os.path.relpath(os.path.join(os.path.realpath(directory), name), top)
     if found.split("/")[0] in ("..", "."):
-        raise Stop(f"{printable(path)} is not below the current directory")
+        raise Stop(f"{printable(path) or 'an empty path'} is not below the current directory")
     return found
 
 
-def check(options, first, now):
-    """Refuses promises of files that there are none of."""
-    for path in options.keep:
-        if not any(path in it and it[path].kind == "file" for it in (first, now)):
-            raise Stop(f"--keep {printable(path)}: there is no such file, before the command and behind it")
+def missing(paths, *trees):
+    """What is wrong with promises of files that none of these trees has, or an empty text."""
+    return "\n".join(f"--keep {printable(path)}: there is no such file, before the command and behind it"
+                     for path in paths if not any(path in it and it[path].kind == "file" for it in trees))
 
 
 def say(text):
@@ -67,35 +74,48 @@ def say(text):
         print(f"crashmap-record: {line}", file=sys.stderr)
 
 
-def record(options, top, place):
-    """Runs the command, with the trace in the file `place`, and gives the script's text."""
+def traced(options):
+    """Runs the command, and gives its exit status and the lines that strace wrote."""
+    with tempfile.NamedTemporaryFile("r", prefix="crashmap-record-", encoding="latin-1") as written:
+        status = trace.run(options.command, calls.HANDLERS, written.name, options.output is not None)
+        return status, written.readlines()
+
+
+def script_of(options, world, status, lines):
+    """The text of the script, of the world before the command and what strace saw of it."""
+    first = dict(world.nodes)
+    calls.follow(world, list(trace.read(lines)), options.command)
+    calls.tell_of_overlaps(world)
+    wrong = "\n".join(world.faults) or difference(world.top, options.block, world.nodes)
+    wrong = wrong or missing(options.keep, first, world.nodes)
+    if wrong:
+        raise Stop(wrong)
+    return Script(world, first, options).text(options.command, status)
+
+
+def record(options):
+    """Runs the command, and gives the script's text. The trace is kept at the end, since it can be in the directory."""
+    top = os.path.realpath("/proc/self/cwd")
     options.keep = [below(top, it) for it in options.keep]
     options.spare = [(below(top, path), below(top, other)) for path, other in options.spare]
     if shutil.which(options.command[0]) is None:
         raise Stop(f"there is no command {printable(options.command[0])}")
-    first = snapshot(top, options.block)
-    world = World(top, dict(first), options)
-    status = trace.run(options.command, calls.HANDLERS, place, options.output is not None)
-    say(ended(status) if status else "")
-    with open(place, encoding="latin-1") as lines:
-        found = list(trace.read(lines))
-    if not found:
+    world = World(top, snapshot(top, options.block), options)
+    status, lines = traced(options)
+    if not lines:
         raise Stop("strace could not trace the command")
-    calls.follow(world, found, options.command)
-    calls.tell_of_overlaps(world)
-    wrong = "\n".join(world.faults) or difference(top, options.block, world.nodes)
-    if wrong:
-        raise Stop(wrong)
-    check(options, first, world.nodes)
-    return Script(world, first, options).text(options.command, status)
+    say(ended(status) if status else "")
+    try:
+        return script_of(options, world, status, lines)
+    finally:
+        with open(options.trace or os.devnull, "w", encoding="latin-1") as kept:
+            kept.writelines(lines)
 
 
 def main(words):
     options = parse(words)
     try:
-        with tempfile.TemporaryDirectory(prefix="crashmap-record-") as room:
-            place = os.path.abspath(options.trace) if options.trace else os.path.join(room, "trace")
-            text = record(options, os.path.realpath(os.getcwd()), place)
+        text = record(options)
         with open(options.output or 1, "wb", closefd=options.output is not None) as output:
             output.write(text.encode("utf-8", "backslashreplace"))
         return 0
@@ -104,5 +124,5 @@ def main(words):
     except Stop as stop:
         say(str(stop))
     except OSError as error:
-        say(f"{printable(str(error.filename))}: {error.strerror}")
+        say(f"{printable(str(error.filename or options.output or 'standard output'))}: {error.strerror}")
     return 2

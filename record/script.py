@@ -202,7 +202,7 @@ class Script:
         self.flush(list(self.waiting))
         self.settle()
         if all(it[0] == "#" for it in self.lines[begin:]):
-            outside = f", and {self.world.outside} files outside of it" if self.world.outside else ""
+            outside = f" (files outside of it: {self.world.outside})" if self.world.outside else ""
             raise Stop(f"the command changed nothing in this directory{outside}")
         if self.options.together:
             self.add("end")

@@ -1,10 +1,6 @@
-"""Whether a recorded script keeps its promise: the smallest crash that breaks it, and the waits that it needs.
-
-The program answers where it knows the lines of a recorded script, and the reference's second way where it does not.
-"""
+"""Whether a recorded script keeps its promise: the smallest crash that breaks it, and the waits that it needs."""
 
 import dataclasses
-import functools
 import itertools
 import re
 import subprocess
@@ -12,7 +8,7 @@ import subprocess
 from reference.refusals import Refusal
 from reference.second_way import decide
 from reference.settings import Settings
-from tests.program import program
+from tests.program import ROOT, program
 
 MODULES = ("async", "soft", "meta", "full")
 GEOMETRY = re.compile(r"# crashmap: --blocks (\d+) --journal (\d+)\n")
@@ -40,23 +36,21 @@ class Crash:
         return sum(len(roles) for _, roles, _ in self.lines)
 
 
-@functools.cache
-def program_promises():
-    """Whether the built program knows the lines of a recorded script."""
-    if not program().exists():
-        return False
-    run = subprocess.run([program().resolve(), "--decide", "--faults", "10"], input=b"start\nhold /a\n", check=False,
-                         capture_output=True)
-    return run.returncode == 0
-
-
 def report(text, module):
-    """The report of `--decide --explain` on a script, or the text of the refusal after `refused: `."""
+    """The program's report of `--decide --explain` on a script, or `refused: ` and why. Where no program is built the
+    launcher compiles one."""
     blocks, journal = GEOMETRY.match(text).groups()
-    if program_promises():
-        words = f"--module {module} --blocks {blocks} --journal {journal} --faults 10 --decide --explain".split()
-        run = subprocess.run([program().resolve(), *words], input=text.encode(), check=False, capture_output=True)
-        return run.stdout.decode() or f"refused: {run.stderr.decode().strip()}"
+    words = f"--module {module} --blocks {blocks} --journal {journal} --faults 10 --decide --explain".split()
+    built = program().resolve() if program().exists() else ROOT / "crashmap"
+    run = subprocess.run([built, *words], input=text.encode(), check=False, capture_output=True)
+    if run.returncode not in (0, 1, 2):
+        raise RuntimeError(f"{built} ended with status {run.returncode}: {run.stderr.decode()}")
+    return run.stdout.decode() if run.returncode < 2 else f"refused: {run.stderr.decode().splitlines()[-1]}"
+
+
+def reference_report(text, module):
+    """What the reference's second way answers in its place."""
+    blocks, journal = GEOMETRY.match(text).groups()
     try:
         return decide.answer(text.encode(), Settings(module=module, blocks=int(blocks), journal=int(journal),
                                                      explain=True, decide=True, counted=(10,)))[0]
@@ -78,9 +72,9 @@ def crash_of(found):
     return Crash(broken[1], tuple(lines))
 
 
-def judge(text, module):
+def judge(text, module, answer=report):
     """A `Crash`, None where the promise is kept, or the text of a refusal."""
-    found = report(text, module)
+    found = answer(text, module)
     return found.removeprefix("refused: ") if found.startswith("refused: ") else crash_of(found)
 
 
@@ -91,12 +85,15 @@ def waits_of(text):
 
 
 def needed(text, module):
-    """The first of the smallest sets of waits that are enough, or None where all are not."""
+    """The first of the smallest sets of waits that are enough, or None where all are not.
+
+    The reference judges the script without the other waits. The sets come as in `--enough --syncs`.
+    """
     waits = waits_of(text)
-    for count in range(len(waits) + 1):
-        for kept in itertools.combinations(waits, count):
-            if judge(without(text, set(waits) - set(kept)), module) is None:
-                return list(kept)
+    sets = itertools.chain.from_iterable(itertools.combinations(waits, count) for count in range(len(waits) + 1))
+    for kept in sorted(sets, key=lambda it: (len(it), sum(1 << waits.index(wait) for wait in it))):
+        if judge(without(text, set(waits) - set(kept)), module, reference_report) is None:
+            return list(kept)
     return None
 
 

@@ -14,10 +14,8 @@ from saves.programs import PROGRAMS
 
 FOLDER = pathlib.Path(__file__).resolve().parent
 PAGE = FOLDER.parent / "docs" / "SAVES.md"
-# The orderings with delayed allocation, too: what ext4 and XFS do.
-DELAYED = "meta, delayed"
-COLUMNS = (*MODULES, DELAYED)
-MOST_WAITS = 6  # With more of them there are too many sets to try.
+# Each column's ordering, and which of a program's scripts it is about: ext4 and XFS allocate with a delay.
+COLUMNS = {**{it: (it, "") for it in MODULES}, "meta, delayed": ("meta", ".delay")}
 
 HEAD = """# How programs save
 
@@ -27,8 +25,8 @@ backup or journal of the program, whenever it comes?
 
 `python3 -m saves.page --write` makes this page from the scripts in [saves](../saves). `python3 -m saves.record` records
 the programs again, and other versions of them may do other things. [RECORDING.md](RECORDING.md) says how a recording is
-made. crashmap does not take all lines of these scripts yet, such as `hold` and `fsync`. So the verdicts are those of the
-reference program.
+made. The verdicts are those of crashmap: `./crashmap saves/sed.script --module soft --decide --faults 10` gives one of
+them. The suite makes them again, and compares each with the reference program.
 
 Under **async** nothing orders the writes of the disk. **soft** has soft updates, **meta** a journal of metadata like
 that of ext3, and **full** a journal of everything. In **meta, delayed** a file gets its new blocks where it is forced
@@ -58,7 +56,7 @@ NOTES = """
   `synchronous=off` the database can be torn.
 
 In the sections below, *needs* has a smallest set of waits that is enough, out of those that the program makes. A dash
-stands where all of them together are not enough.
+stands where all of them together are not enough. The reference program answers this, by taking waits out of the script.
 """
 
 # A line feed that neither ends a paragraph nor begins an item of a list.
@@ -72,14 +70,13 @@ def text_of(program, suffix=""):
 
 
 def found_of(program):
-    """For each column the verdict and the waits that are enough, which are None where nothing is asked about them."""
+    """For each column the verdict and the waits that are enough, which are None where all of them are not."""
     found = {}
-    for column in COLUMNS:
-        module, _, delayed = column.partition(", ")
-        text = text_of(program, ".delay" if delayed else "")
+    for column, (module, suffix) in COLUMNS.items():
+        text = text_of(program, suffix)
         verdict = judge(text, module)
-        asks = verdict is None and 0 < len(waits_of(text)) <= MOST_WAITS
-        found[column] = (verdict, [text.split("\n")[it] for it in needed(text, module)] if asks else None)
+        waits = needed(text, module) if verdict is None else None
+        found[column] = (verdict, waits and [text.split("\n")[it] for it in waits])
     return found
 
 
@@ -135,6 +132,7 @@ def page():
 
 
 def main(words):
+    judge(text_of(PROGRAMS[0]), "soft")  # Where no program is built the launcher compiles one, once.
     made = page()
     if words == ["--write"]:
         PAGE.write_text(made)

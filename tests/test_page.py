@@ -76,6 +76,9 @@ class InABrowser(unittest.TestCase):
     def test_searches_are_shown(self):
         self.passes("test_search.mjs")
 
+    def test_promises_and_real_paths_are_shown(self):
+        self.passes("test_promises.mjs")
+
     def test_the_gallery_is_shown(self):
         scripts = sorted((ROOT / "gallery").glob("*.script"))
         self.assertTrue(scripts)

@@ -6,119 +6,14 @@ import re
 import shutil
 import signal
 import subprocess
-import sys
 import tempfile
 import unittest
 
-from saves.judge import judge, needed
-from tests.program import ROOT
-
-RECORDER = ROOT / "crashmap-record"
-PYTHON = sys.executable
+from tests.recording import PYTHON, RECORDER, Recording, can_trace, steps_of
 
 
-def can_trace():
-    """Whether strace is there and may trace."""
-    try:
-        return subprocess.run(["strace", "-o", os.devnull, "true"], capture_output=True, check=False).returncode == 0
-    except OSError:
-        return False
-
-
-def steps_of(script):
-    """The lines of a script that are no comments, and the real paths that its comments name."""
-    lines = script.splitlines()
-    names = dict(re.fullmatch(r"# (/\S+) is (.*)", it).groups() for it in lines if re.fullmatch(r"# /\S+ is .*", it))
-    return [it for it in lines if not it.startswith("#")], names
-
-
-class Recording(unittest.TestCase):
-    """A directory with a file `f`, and the recorder run in it."""
-
-    def setUp(self):
-        # In memory, where it takes no time to force a file.
-        room = tempfile.TemporaryDirectory(dir="/dev/shm" if os.access("/dev/shm", os.W_OK) else None)
-        self.addCleanup(room.cleanup)
-        self.folder = pathlib.Path(room.name)
-        (self.folder / "f").write_text("hello\n")
-
-    def record(self, *words, **more):
-        return subprocess.run([RECORDER, *words], cwd=self.folder, capture_output=True, text=True, check=False,
-                              stdin=subprocess.DEVNULL, timeout=600, errors="surrogateescape", **more)
-
-    def script(self, *words):
-        """The script of a recording that must succeed."""
-        answer = self.record(*words)
-        self.assertEqual((answer.returncode, answer.stderr), (0, ""))
-        self.assertTrue(answer.stdout.startswith("# crashmap: --blocks 128 --journal 62\n"))
-        return answer.stdout
-
-    def assert_steps(self, words, *steps, base=("create /f", "write /f", "overwrite /f", "start", "hold /f")):
-        """Where a step has `?`, any name of a new file fits."""
-        found = steps_of(self.script(*words))[0]
-        pattern = "\n".join(re.escape(it).replace(r"\?", "[a-z0-9]+") for it in (*base, *steps))
-        self.assertRegex("\n".join(found), f"^{pattern}$")
-
-    def assert_refused(self, words, text, **more):
-        """The recorder says that, and writes no script. Nothing of its own is left in the directory."""
-        before = set(os.listdir(self.folder))
-        answer = self.record(*words, **more)
-        self.assertEqual((answer.returncode, answer.stdout), (2, ""))
-        self.assertRegex(answer.stderr, text)
-        self.assertEqual({it for it in os.listdir(self.folder) if "crashmap" in it or "trace" in it} - before, set())
-
-
-
-class Programs(Recording):
-    """What real programs do. They are recorded where strace can trace."""
-
-    def test_shell(self):
-        self.assert_steps(["--", "sh", "-c", "echo new > f"], "truncate /f", "write /f", "spare /f /f")
-        self.assert_steps(["--", "sh", "-c", "echo new >> f"], "overwrite /f 0", "spare /f /f")
-
-    def test_sed(self):
-        self.assert_steps(["--", "sed", "-i", "s/h/H/", "f"], "create /?", "write /?", "replace /? /f", "spare /f /f")
-
-    def test_mv(self):
-        self.assert_steps(["--", "sh", "-c", "echo new > g && mv g f"], "create /g", "write /g", "replace /g /f",
-                          "spare /f /f")
-        self.assert_steps(["--spare", "f", "g", "--", "mv", "f", "g"], "rename /f /g", "spare /f /g")
-
-    def test_python(self):
-        save = "import os; g = open('g', 'w'); g.write('new'); g.flush(); {} g.close(); os.replace('g', 'f')"
-        self.assert_steps(["--", PYTHON, "-c", save.format("")], "create /g", "write /g", "replace /g /f",
-                          "spare /f /f")
-        self.assert_steps(["--", PYTHON, "-c", save.format("os.fsync(g.fileno());")], "create /g", "write /g",
-                          "fsync /g", "replace /g /f", "spare /f /f")
-
-    def test_git(self):
-        if not shutil.which("git"):
-            return
-        environment = {**os.environ, "HOME": str(self.folder), "GIT_CONFIG_NOSYSTEM": "1"}
-        subprocess.run(["sh", "-c", "git init -q -b main . && git config core.logAllRefUpdates false && git add f"],
-                       cwd=self.folder, env=environment, check=True)
-        answer = self.record("--keep", ".git/refs/heads/main", "--ignore", ".git/index*", "--ignore", ".git/COMMIT*",
-                             "--ignore", ".git/HEAD.lock", "--", "git", "-c", "user.name=a", "-c", "user.email=a@b",
-                             "-c", "maintenance.auto=false", "-c", "core.fsync=all", "commit", "-qm", "one",
-                             env=environment)
-        self.assertEqual((answer.returncode, answer.stderr), (0, ""))
-        steps, names = steps_of(answer.stdout)
-        self.assertEqual(names["/git/refs/heads/mainlock"], ".git/refs/heads/main.lock")
-        self.assertEqual(steps[-4:], [f"{word} /git/refs/heads/main{rest}" for word, rest in (
-            ("write", "lock"), ("fsync", "lock"), ("rename", "lock /git/refs/heads/main"),
-            ("spare", " /git/refs/heads/main"))])
-
-    def test_verdicts(self):
-        """What comes of a save in place, of one by a new file, and of one that forces the new file first."""
-        cases = {"echo new > f": ("empty", "empty"), "echo new > g && mv g f": ("empty", None),
-                 "echo new > g && sync g && mv g f": (None, None)}
-        for text, wanted in cases.items():
-            with self.subTest(text):
-                script = self.script("--", "sh", "-c", text)
-                found = [judge(script, module) for module in ("soft", "meta")]
-                self.assertEqual(tuple(it and it.left() for it in found), wanted)
-        self.assertEqual([script.split("\n")[it] for it in needed(script, "soft")], ["fsync /g"])
-        self.assertEqual(needed(script, "meta"), [])
+class Calls(Recording):
+    """Which file and which block a call is about."""
 
     def test_two_names_of_a_directory(self):
         """Names that a program makes by descriptors of directories, after chdir, and by children."""
@@ -179,6 +74,15 @@ class Options(Recording):
             self.assertTrue(pathlib.Path(room, "script").read_text().startswith("# crashmap: "))
             self.assertIn("execve", pathlib.Path(room, "trace").read_text())
 
+    def test_a_trace_in_the_directory(self):
+        """The recorder's own files may be there, and are none of the command's."""
+        for words, environment in ((["--trace", "t"], {}), ([], {"TMPDIR": str(self.folder)})):
+            answer = self.record(*words, "--", "sh", "-c", "echo new > f", env=os.environ | environment)
+            self.assertEqual((answer.returncode, answer.stderr), (0, ""))
+            self.assertEqual(steps_of(answer.stdout)[0][3:], ["start", "hold /f", "truncate /f", "write /f",
+                                                              "spare /f /f"])
+            self.assertEqual({it.name for it in self.folder.iterdir()}, {"f", "t"})
+
     def test_lossy(self):
         """A comment and the line that comes nearest, where the recorder refuses otherwise."""
         for command, text, *steps in (
@@ -193,14 +97,6 @@ class Options(Recording):
                 self.assertRegex(answer.stdout, f"# lossy: call .*{text}")
                 self.assertRegex(answer.stdout, "\n(# .*\n|.*\n)*".join(map(re.escape, steps)))
 
-    def make_directory(self):
-        """The file `f` and the directory `d` with a file, as if nothing had been recorded."""
-        for path in self.folder.iterdir():
-            shutil.rmtree(path) if path.is_dir() and not path.is_symlink() else path.unlink()
-        (self.folder / "d").mkdir()
-        for name in ("f", "d/g"):
-            (self.folder / name).write_text("hello\n")
-
 
 class Refusals(Recording):
     def test_commands(self):
@@ -208,7 +104,7 @@ class Refusals(Recording):
         self.assert_refused(["--", "true"], "^crashmap-record: the command changed nothing in this directory\n$")
         self.assert_refused(["--", "false"], "^crashmap-record: the command ended with status 1\n.*changed nothing")
         self.assert_refused(["--", "sh", "-c", "cd ..; echo > $$; rm $$"],
-                            "changed nothing in this directory, and 1 files outside")
+                            r"changed nothing in this directory \(files outside of it: 1\)")
         self.assert_refused([], "there is no COMMAND")
 
     def test_a_command_that_fails_or_is_killed(self):
@@ -218,14 +114,37 @@ class Refusals(Recording):
             self.assertEqual((answer.returncode, answer.stderr), (0, f"crashmap-record: {told}\n"))
             self.assertIn(f"\n# {told}\n", answer.stdout)
 
+    def with_strace(self, text):
+        """The environment with another strace, which does this."""
+        room = tempfile.TemporaryDirectory()
+        self.addCleanup(room.cleanup)
+        other = pathlib.Path(room.name, "strace")
+        other.write_text(f"#!/bin/sh\n{text}\n")
+        other.chmod(0o755)
+        return os.environ | {"PATH": f"{room.name}:{os.environ['PATH']}"}
+
     def test_nothing_is_traced(self):
         """strace is there, and may not trace."""
-        with tempfile.TemporaryDirectory() as room:
-            false = pathlib.Path(room, "strace")
-            false.write_text('#!/bin/sh\nwhile [ "$1" != -o ]; do shift; done\n: > "$2"\nexit 1\n')
-            false.chmod(0o755)
-            self.assert_refused(["--", "true"], "strace could not trace the command",
-                                env=os.environ | {"PATH": f"{room}:{os.environ['PATH']}"})
+        for text in ('while [ "$1" != -o ]; do shift; done\n: > "$2"\nexit 1', "exit 1"):
+            self.assert_refused(["--", "true"], "strace could not trace the command", env=self.with_strace(text))
+
+    def test_a_directory_that_changes(self):
+        """Something else changes the directory between the look at it and the recording."""
+        for change, told in (("rm f", "f is gone, and no call that was followed removed it"),
+                             ("echo > g", "g is there, and no call that was followed made it"),
+                             ("echo > f", "f has 1 bytes, and the calls that were followed leave 6"),
+                             ("rm f; mkdir f", "f is another file than the one that was followed")):
+            with self.subTest(change):
+                self.make_directory()
+                text = f'{change}\nexec {shutil.which("strace")} "$@"'
+                self.assert_refused(["--", "mkdir", "h"], f"^crashmap-record: {told}\n$", env=self.with_strace(text))
+
+    def test_a_directory_that_is_gone(self):
+        command = 'mkdir gone; cd gone; rmdir ../gone; exec "$@"'
+        answer = subprocess.run(["sh", "-c", command, "sh", PYTHON, RECORDER, "--", "true"], cwd=self.folder,
+                                capture_output=True, text=True, check=False)
+        self.assertEqual((answer.returncode, answer.stdout), (2, ""))
+        self.assertRegex(answer.stderr, r"^crashmap-record: the directory cannot be read, or .*/gone \(deleted\): No such ")
 
     def test_interrupted(self):
         """Ctrl-C is for the command, and the recorder tells what it did until then."""
@@ -241,7 +160,16 @@ class Refusals(Recording):
     def test_paths(self):
         self.assert_refused(["--keep", "../x", "--", "true"], "../x is not below the current directory")
         self.assert_refused(["--keep", "x", "--", "sh", "-c", "echo > f"], "--keep x: there is no such file")
-        self.assert_refused(["-o", "/nonexistent/x", "--", "sh", "-c", "echo > f"], "/nonexistent/x: No such file")
+        self.assert_refused(["--keep", "", "--", "true"], "an empty path is not below the current directory")
+
+    def test_places(self):
+        """A file that cannot be written is refused before the command runs, but for what is found out in the end."""
+        for place, told in (("/nonexistent/x", "/nonexistent/x"), (".", r"\."), ("", "an empty path")):
+            for option in ("-o", "--trace"):
+                self.assert_refused([option, place, "--", "sh", "-c", "echo new > f"], f": {told} cannot be written\n$")
+        self.assertEqual((self.folder / "f").read_text(), "hello\n")
+        self.assert_refused(["-o", "/dev/full", "--", "sh", "-c", "echo new > f"],
+                            "^crashmap-record: /dev/full: No space left on device\n$")
 
     def test_room(self):
         many = "mkdir d; for i in 1 2 3 4 5 6 7 8; do : > a$i; : > d/a$i; done"

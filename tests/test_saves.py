@@ -1,17 +1,31 @@
-"""docs/SAVES.md is what the scripts in saves/ give, and each of these can be read."""
+"""docs/SAVES.md is what the program gives for the scripts in saves/, and the reference gives the same."""
 
+import concurrent.futures
 import unittest
 
 from saves import page
-from saves.judge import Crash, crash_of, needed, program_promises
+from saves.judge import Crash, crash_of, judge, needed, reference_report, report
 from saves.programs import PROGRAMS
+
+
+def answers(name, module):
+    """What the program and the reference report on a script of saves/."""
+    text = (page.FOLDER / name).read_text()
+    return report(text, module), reference_report(text, module)
 
 
 class Saves(unittest.TestCase):
     def test_page(self):
         self.assertGreaterEqual(len(PROGRAMS), 20)
-        print(f"tests, saves: the {'program' if program_promises() else 'reference'} judges the recorded scripts")
         self.assertEqual(page.PAGE.read_text(), page.page(), "python3 -m saves.page --write")
+
+    def test_reports(self):
+        """The program and the reference give the same reports on all scripts, with their crashes and promises."""
+        asked = [(f"{it.name}{suffix}.script", module) for it in PROGRAMS for module, suffix in page.COLUMNS.values()]
+        with concurrent.futures.ProcessPoolExecutor() as pool:
+            for one, (found, wanted) in zip(asked, pool.map(answers, *zip(*asked))):
+                with self.subTest(one):
+                    self.assertEqual(found, wanted)
 
     def test_each_script_is_of_a_program(self):
         names = {f"{it.name}{suffix}.script" for it in PROGRAMS for suffix in ("", ".delay")}
@@ -27,6 +41,11 @@ class Saves(unittest.TestCase):
                                                   ("unlink /f", ("EntryClear",), 1))))
         self.assertEqual((crash.left(), crash.size()), ("gone", 3))
         self.assertIsNone(crash_of("module soft\npatches 0\n"))
+
+    def test_a_script_that_is_refused(self):
+        script = "# crashmap: --blocks 128 --journal 62\nstart\nunlink /a\n"
+        self.assertEqual([judge(script, "soft", it) for it in (report, reference_report)],
+                         ["crashmap: line 3: 10 not found"] * 2)
 
     def test_needed_waits(self):
         """As the question about waits has it for the same script: the wait for the new file alone, of two."""
