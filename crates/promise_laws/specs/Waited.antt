@@ -33,8 +33,8 @@ pub record EndBehind (act : Act) (steps : List Step) : Type 0 where
   pub does : step.act ≡ act
   pub quiet : HasNoOperation later
 
--- The steps before a line `keep` wait for its paths: there is no operation among them; or a `sync` stands behind the
--- last operation; or the line names one path, and an `fsync` of this path stands behind the last operation.
+-- The script waits for the paths of a line `keep` before it makes the promise. Before the line there is no operation,
+-- or a `sync` follows the last one. If the line names one path, an `fsync` of this path may follow it in its place.
 abbrev pub IsWaitedFor : List Step → List Path → Type 0
 IsWaitedFor before paths =
     HasNoOperation before
