@@ -21,7 +21,7 @@ use Rattle.chosen_rules.specs.Excluded.{MakesWait, Excludes}
 
 -- ---- why a patch depends on another
 
-or_cases : (a b : Bool) → (a || b) ≡ true → (a ≡ true) ⊎ (b ≡ true)
+pub or_cases : (a b : Bool) → (a || b) ≡ true → (a ≡ true) ⊎ (b ≡ true)
 or_cases true b h = inl refl
 or_cases false b h = inr h
 

@@ -87,8 +87,10 @@ less_or_not (suc a) (suc b) = elim (less_or_not a b) [
   | inr not ↦ inr (λ less. not (omega (arith, less)))
 ]
 
-module _ (rules others : List Rule) (base : Disk) (s : Tracing) (patches : List Patch)
-    (graph : IsGraphOf rules base s patches) where
+-- by other rules, in another state of tracing with the same places
+module _ (rules others : List Rule) (base : Disk) (first s : Tracing) (patches : List Patch)
+    (same : map (λ (e : Emitted). e.place) first.emitted ≡ map (λ (e : Emitted). e.place) s.emitted)
+    (graph : IsGraphOf rules base first patches) where
   abbrev waits_at : ℕ → ℕ → Bool
   waits_at q p = depends_if others s.whole s.links (slice_get s.emitted q) p (slice_get s.emitted p)
 
@@ -104,7 +106,7 @@ module _ (rules others : List Rule) (base : Disk) (s : Tracing) (patches : List 
       length-map patches (λ (p : Patch). place p.block p.offset p.new.items) in
       let emitted : length (map (λ (e : Emitted). e.place) s.emitted) ≡ length s.emitted =
       length-map s.emitted (λ (e : Emitted). e.place) in
-      sym places ∙ (ap (λ (ps : List Place). length ps) graph.places ∙ emitted)
+      sym places ∙ (ap (λ (ps : List Place). length ps) (graph.places ∙ same) ∙ emitted)
 
   at : (q : ℕ) → q < length patches → get_or (deps_of changed) q 0 ≡ deps_by q
   at q within = deps_at deps_by 0 q patches within ∙ ap deps_by {x = 0 + q} {y = q} (omega arith)
@@ -132,13 +134,17 @@ module _ (rules others : List Rule) (base : Disk) (s : Tracing) (patches : List 
         λ is. subst (λ (set : ℕ). Has set p) (sym here) ((in_below (waits_at q) q p).1 (less, same ∙ is)),
       )
 
-  pub graph_by_others : (other : List Patch) × IsGraphOf others base s other
-  graph_by_others = (
+  pub graph_of_others : (other : List Patch) × IsGraphOf others base s other
+  graph_of_others = (
     changed,
     record {
-      places = same_places deps_by 0 patches ∙ graph.places;
+      places = same_places deps_by 0 patches ∙ (graph.places ∙ same);
       undo = same_undo deps_by 0 base patches graph.undo;
       earlier = earlier_too;
       exactly = exactly_too;
     },
   )
+
+pub graph_by_others : (rules others : List Rule) (base : Disk) (s : Tracing) (patches : List Patch)
+    → IsGraphOf rules base s patches → (other : List Patch) × IsGraphOf others base s other
+graph_by_others rules others base s patches = graph_of_others rules others base s s patches refl

@@ -4,3 +4,9 @@ pub mod Lists
 pub mod Oracles
 pub mod Alike
 pub mod Placed
+pub mod Forced
+pub mod Waiting
+pub mod Promised
+pub mod Prevented
+pub mod LineOracles
+pub mod LinesPlaced

@@ -30,7 +30,7 @@ module _ {X : Type 0} (at : ℕ → Option X) where
     | inr rest ↦ absurd (in_none x rest)
   ]
 
-  in_some_below : (n k : ℕ) (x : X) → k < n → at k ≡ Some x → Contains (some_below n at) x
+  pub in_some_below : (n k : ℕ) (x : X) → k < n → at k ≡ Some x → Contains (some_below n at) x
   unfolding some_below
   in_some_below zero k x less is = absurd (omega arith)
   in_some_below (suc n) k x less is = elim (eq_or_not k n) [
@@ -40,7 +40,7 @@ module _ {X : Type 0} (at : ℕ → Option X) where
         (in_some_below n k x (omega (arith, less, ne)) is)
   ]
 
-  from_some_below : (n : ℕ) (x : X) → Contains (some_below n at) x → (k : ℕ) × (k < n) × (at k ≡ Some x)
+  pub from_some_below : (n : ℕ) (x : X) → Contains (some_below n at) x → (k : ℕ) × (k < n) × (at k ≡ Some x)
   unfolding some_below
   from_some_below zero x is = absurd (in_none x is)
   from_some_below (suc n) x is = elim (Contains-append_cases (some_below n at) (option_to_list (at n)) x is) [

@@ -1,5 +1,5 @@
 -- What a failing set says about the sets of rules that are enough.
-use Rattle.std.proofs.Common.{ℕ, ◌<◌, List, length, Some, arith, inl, inr}
+use Rattle.std.proofs.Common.{ℕ, ◌<◌, ◌^◌, ◌-◌, List, length, Some, arith, inl, inr}
 use Rattle.std.specs.Prelude.{◌↔◌}
 use Rattle.std.proofs.lemmas.Option.{slice_get_within}
 use Rattle.std.proofs.lemmas.Nat.Bits.{bit_at_ones, bit_at_ones_above}
@@ -20,16 +20,20 @@ use Rattle.chosen_rules.proofs.Excluded.{not_excluded, failing_too}
 use Rattle.chosen_rules.proofs.Graphs.{graph_by_others, less_or_not}
 use Rattle.chosen_rules.proofs.Lists.{in_rules, from_rules, fewer_among}
 
-pub all_places : (rules : List Rule) (place : ℕ) → Has (all_of rules) place ↔ (place < length rules)
-all_places rules place = (
-  λ has. elim (less_or_not place (length rules)) [
+-- the set of all numbers below another
+pub ones_below : (n place : ℕ) → Has (2 ^ n - 1) place ↔ (place < n)
+ones_below n place = (
+  λ has. elim (less_or_not place n) [
     | inl less ↦ less
     | inr past ↦
-        let none = bit_at_ones_above (length rules) place (omega (arith, past)) in
+        let none = bit_at_ones_above n place (omega (arith, past)) in
         absurd (omega (arith, none, has))
   ],
-  λ less. bit_at_ones (length rules) place less,
+  λ less. bit_at_ones n place less,
 )
+
+pub all_places : (rules : List Rule) (place : ℕ) → Has (all_of rules) place ↔ (place < length rules)
+all_places rules = ones_below (length rules)
 
 module _ (demands : Demands) (base : Disk) (s : Tracing) (rules : List Rule) (all : ℕ)
     (places : (place : ℕ) → Has all place ↔ (place < length rules)) where

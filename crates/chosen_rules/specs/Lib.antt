@@ -1,2 +1,3 @@
 pub mod Excluded
 pub mod Sublists
+pub mod ExcludedBy

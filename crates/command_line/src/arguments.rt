@@ -26,6 +26,8 @@ pub(crate) enum Takes {
     Nothing,
     /// Nothing, and the option goes with none of the others.
     NothingWithout(&'static [&'static str]),
+    /// Nothing, and the option goes only with the first options, and with none of the others.
+    NothingBeside(&'static [&'static str], &'static [&'static str]),
     /// The option is a word by itself, without a name before it.
     Itself,
     /// A rule. The option may be used several times.
@@ -44,7 +46,9 @@ impl Takes {
     /// What `clap` does with an option of this kind.
     fn action(&self) -> ArgAction {
         match self {
-            Takes::Nothing | Takes::NothingWithout(_) => ArgAction::SetTrue,
+            Takes::Nothing | Takes::NothingWithout(_) | Takes::NothingBeside(..) => {
+                ArgAction::SetTrue
+            }
             Takes::Rule => ArgAction::Append,
             Takes::Itself
             | Takes::Number(..)
@@ -62,14 +66,25 @@ impl Takes {
             | Takes::Number(symbol, _)
             | Takes::NumberWithout(symbol, ..)
             | Takes::OneOf(symbol, ..) => Some(symbol),
-            Takes::Nothing | Takes::NothingWithout(_) | Takes::Itself => None,
+            Takes::Nothing | Takes::NothingWithout(_) | Takes::NothingBeside(..) | Takes::Itself =>
+                None,
+        }
+    }
+
+    /// The options that an option of this kind goes with alone.
+    fn needs(&self) -> &'static [&'static str] {
+        match self {
+            Takes::NothingBeside(needs, _) => needs,
+            _ => &[],
         }
     }
 
     /// The options that an option of this kind does not go with.
     pub(crate) fn conflicts(&self) -> &'static [&'static str] {
         match self {
-            Takes::NothingWithout(others) | Takes::NumberWithout(_, _, _, others) => others,
+            Takes::NothingWithout(others)
+            | Takes::NothingBeside(_, others)
+            | Takes::NumberWithout(_, _, _, others) => others,
             Takes::Nothing
             | Takes::Itself
             | Takes::Rule
@@ -230,6 +245,15 @@ pub(crate) static HEADS: [Head; 5] = [
                        except those that fail already",
             },
             Entry {
+                name: "syncs",
+                takes: Takes::NothingBeside(
+                    &["enough"],
+                    &["decide", "limit", "explorer", "summary", "needs", "search"],
+                ),
+                help: "With --enough ask about the script's lines `sync` and `fsync` in place of the rules: which of \
+                       them have to wait, and which crash comes without them",
+            },
+            Entry {
                 name: "search",
                 takes: Takes::NumberWithout(
                     "N",
@@ -313,7 +337,10 @@ fn option<'a>(heap: Global, entry: &'static Entry) -> Result<Arg<'a>, AllocError
     let option = Arg::new(heap, entry.name)
         .help(entry.help)
         .action(entry.takes.action());
-    taking(named(option, entry), &entry.takes).conflicts_with_all(entry.takes.conflicts())
+    let option = taking(named(option, entry), &entry.takes);
+    option
+        .requires_all(entry.takes.needs())?
+        .conflicts_with_all(entry.takes.conflicts())
 }
 
 /// The option under its name, unless it is a word by itself.
@@ -327,7 +354,8 @@ fn named<'a>(option: Arg<'a>, entry: &'static Entry) -> Arg<'a> {
 /// The option with what follows it.
 fn taking<'a>(option: Arg<'a>, takes: &'static Takes) -> Arg<'a> {
     match takes {
-        Takes::Nothing | Takes::NothingWithout(_) | Takes::Itself => option,
+        Takes::Nothing | Takes::NothingWithout(_) | Takes::NothingBeside(..) | Takes::Itself =>
+            option,
         Takes::Rule => option.value_name("RULE"),
         Takes::Word(symbol) => option.value_name(symbol),
         Takes::Number(symbol, numbers) => {

@@ -129,8 +129,9 @@ fn visit_of<'a>(matches: &ArgMatches<'a>) -> Result<Visit, WordFault<'a>>
     Ok(visit)
 }
 
-/// What to find out: each failing set, each fault with `--decide`, which rules are enough with `--enough`, which
-/// workloads fail with `--search`, or which rules are enough for all of them with both.
+/// What to find out: each failing set, each fault with `--decide`, which rules are enough with `--enough`, or which
+/// lines that wait with `--syncs` beside it, which workloads fail with `--search`, or which rules are enough for all of
+/// them with `--enough` beside it.
 pub(crate) fn question_of<'a>(matches: &ArgMatches<'a>) -> Result<Question, WordFault<'a>>
     ensures { IfOk result CanBeAsked }
 {
@@ -140,6 +141,7 @@ pub(crate) fn question_of<'a>(matches: &ArgMatches<'a>) -> Result<Question, Word
     let question = match (longest_workload(matches), matches.get_flag("enough")) {
         (Some(longest), true) => Question::SearchRules(longest),
         (Some(longest), false) => Question::Search(longest),
+        (None, true) if matches.get_flag("syncs") => Question::EnoughLines,
         (None, true) => Question::Enough,
         (None, false) => Question::Visit(visit_of(matches)?),
     };

@@ -27,6 +27,7 @@ pub mod Promises
 pub mod FaultKinds
 pub mod Checker
 pub mod FaultRows
+pub mod ChosenWaits
 pub mod Script
 pub mod Texts
 pub mod ShownTexts

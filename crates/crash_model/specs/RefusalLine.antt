@@ -19,6 +19,7 @@ line_of (run.LinksFull line) = Some line
 line_of (run.JournalFull line) = Some line
 line_of (run.GroupFault line) = Some line
 line_of (run.OnlyAfterStart line) = Some line
+line_of (run.TooManySyncs line) = Some line
 line_of (run.BadUtf8 line) = Some line
 line_of (run.BadLine line) = Some line
 line_of (run.BadPath line) = Some line

@@ -127,6 +127,7 @@ pub enum RunFault {
     JournalFull { line: usize },
     GroupFault { line: usize },
     OnlyAfterStart { line: usize },
+    TooManySyncs { line: usize },
     TooMany,
     BadUtf8 { line: usize },
     BadLine { line: usize },
@@ -157,6 +158,7 @@ impl RunFault {
             RunFault::JournalFull { .. } => "20 journal full",
             RunFault::GroupFault { .. } => "21 group fault",
             RunFault::OnlyAfterStart { .. } => "22 only after start",
+            RunFault::TooManySyncs { .. } => "23 too many syncs",
             RunFault::TooMany => ExploreFault::TooMany.text(),
             RunFault::BadUtf8 { .. } => "40 not UTF-8",
             RunFault::BadLine { .. } => "41 bad line",
@@ -188,6 +190,7 @@ impl RunFault {
             | RunFault::JournalFull { line }
             | RunFault::GroupFault { line }
             | RunFault::OnlyAfterStart { line }
+            | RunFault::TooManySyncs { line }
             | RunFault::BadUtf8 { line }
             | RunFault::BadLine { line }
             | RunFault::BadPath { line }

@@ -1,12 +1,15 @@
 -- What the parts of a run find makes its answer.
-use Rattle.std.proofs.Common.{◌≡◌, ℕ, List, Ok, Err, ap, subst, sym, inl, inr, ◌∙◌}
+use Rattle.std.proofs.Common.{◌≡◌, ℕ, ◌≤◌, List, length, Ok, Err, Some, ap, subst, sym, inl, inr, ◌∙◌}
+use Rattle.std.specs.Prelude.{slice_get}
 use Rattle.report_model.specs.Answer.{Refused, Reported, HasBase, HasGraph, IsReport, IsReported, IsUntraced, untraced}
 use Rattle.report_model.specs.Answer.{asked_by, bad_script, bad_geometry, bad_base, bad_trace, too_many, reported}
 use Rattle.crash_model.specs.Checker.{Demands}
 use Rattle.crash_model.specs.Disk.{Disk, IsGeometry, new_disk}
 use Rattle.crash_model.specs.Refusals.{run_of_script, run_of_trace}
 use Rattle.crash_model.specs.Script.{IsScript, IsScriptRefusal}
-use Rattle.crash_model.specs.Trace.{Tracing, base_from}
+use Rattle.crash_model.specs.Trace.{Tracing, base_from, trace_start, trace_from}
+use Rattle.crash_model.specs.ChosenWaits.{up_to_wait}
+use Rattle.crash_model.specs.Waiting.{Wait}
 use Rattle.crash_model.specs.Patches.{ExceedsLimit}
 use Rattle.crash_model.specs.declared.patches.Patch.{Patch}
 use Rattle.crash_model.specs.declared.refusals.RunFault.{RunFault}
@@ -19,16 +22,22 @@ use Rattle.crash_model.specs.declared.visit.Visit.{Visit}
 use Rattle.question_model.specs.Answers.{IsAnswerTo}
 use Rattle.question_model.specs.declared.question.Question.{Question}
 use Rattle.question_model.specs.declared.question.Question.TheVariants as asks
-use Rattle.question_model.specs.declared.question.Question.TheVariants.{Decide, Enough, Search, SearchRules}
+use Rattle.question_model.specs.declared.question.Question.TheVariants.{Decide, Enough, EnoughLines, Search}
+use Rattle.question_model.specs.declared.question.Question.TheVariants.{SearchRules}
+use Rattle.question_model.specs.declared.question.TheConstants.{MAX_SYNCS}
+use Rattle.question_model.specs.LinesReport as lines
+use Rattle.question_model.specs.LinesReport.{IsLinesRefusal}
 use Rattle.question_model.specs.declared.length.WorkloadLength.{WorkloadLength}
 use Rattle.question_model.specs.SearchReport.{IsSearchRefusal, before_the_pool, no_operation}
 use Rattle.uniqueness_laws.proofs.Scripts.{read_or_refused, script_one}
 use Rattle.crash_text.specs.BaseRefusal.{IsBaseRefusal}
+use Rattle.crash_text.specs.Lines.{HasTooManyWaits}
 use Rattle.crash_text.specs.Searching.{IsPoolRefusal, IsSearchOf}
 use Rattle.crash_text.specs.SearchingRules.{IsRuleSearchOf}
 use Rattle.promise_laws.specs.Waited.{RiskNoPromise}
 use Rattle.crash_text.specs.Traced.{IsTraced, IsTraceRefusal, IsReportOn, RisksNothing}
 use Rattle.crash_text.specs.declared.traced_script.TracedScript.{TracedScript}
+use Rattle.crash_text.proofs.Limit.{all_steps}
 
 module _ (bytes : List ℕ) (settings : Settings) where
   abbrev formatted : Disk
@@ -61,6 +70,7 @@ module _ (bytes : List ℕ) (settings : Settings) where
   refused_to (asks.Visit visit) fault none is = untraced fault is
   refused_to Decide fault none is = is
   refused_to Enough fault none is = is
+  refused_to EnoughLines fault none is = lines.before_the_trace fault is none
   refused_to (Search longest) fault none is = before_the_pool fault is none
   refused_to (SearchRules longest) fault none is = before_the_pool fault is none
 
@@ -137,6 +147,36 @@ module _ (bytes : List ℕ) (settings : Settings) where
   refused_visit visit base steps s fault start are same more =
       subst (λ f. IsAnswerTo (asks.Visit visit) bytes settings (Refused f)) (sym same)
       (too_many s.base.now are.last s.traced.patches (has_graph base steps s start are) more)
+
+  -- a step up to the limit of lines that wait is refused
+  pub refused_lines : (base : Disk) (steps cut : List Step) (fault : RunFault) → HasBase bytes settings base steps
+      → cut ≡ up_to_wait MAX_SYNCS steps → IsTraceRefusal settings base cut fault → IsLinesRefusal bytes settings fault
+  refused_lines base steps cut fault start is (why, run, same) =
+      subst (IsLinesRefusal bytes settings) (sym same) (lines.bad_trace base steps why start
+      (subst (λ (seen : List Step). trace_from settings.module (trace_start settings.whole_blocks base) seen ≡ Err why)
+      is run))
+
+  -- or the line past it
+  pub refused_waits : {A : Type 0} (base : Disk) (steps cut : List Step) (s : TracedScript A) (fault : RunFault)
+      → HasBase bytes settings base steps → cut ≡ up_to_wait MAX_SYNCS steps → IsTraced settings base cut s
+      → HasTooManyWaits s.traced.waits fault → IsLinesRefusal bytes settings fault
+  refused_waits base steps cut s fault start is are (wait, at, same) =
+      let run = subst (λ (d : Disk). trace_from settings.module (trace_start settings.whole_blocks d) cut ≡ Ok are.last)
+      are.over are.run in
+      subst (IsLinesRefusal bytes settings) (sym same) (lines.too_many base steps are.last wait start
+      (subst (λ (seen : List Step). trace_from settings.module (trace_start settings.whole_blocks base) seen
+      ≡ Ok are.last) is run)
+      (subst (λ (waits : List Wait). slice_get waits MAX_SYNCS ≡ Some wait) are.trace.waits at))
+
+  -- and where none is past it, no step is left out
+  pub whole_steps : {A : Type 0} (base : Disk) (steps cut : List Step) (s : TracedScript A)
+      → cut ≡ up_to_wait MAX_SYNCS steps → IsTraced settings base cut s → length s.traced.waits ≤ MAX_SYNCS
+      → cut ≡ steps
+  whole_steps base steps cut s is are few =
+      let from = trace_start settings.whole_blocks s.base.now in
+      is ∙ all_steps settings.module MAX_SYNCS steps from are.last
+      (subst (λ (seen : List Step). trace_from settings.module from seen ≡ Ok are.last) is are.run)
+      (subst (λ (waits : List Wait). length waits ≤ MAX_SYNCS) are.trace.waits few)
 
   -- what refuses a search refuses one for rules too
   pub refused_pool : (base : Disk) (steps : List Step) (fault : RunFault) → HasBase bytes settings base steps

@@ -1,4 +1,5 @@
 pub mod Answering
+pub mod LineReports
 pub mod Needing
 pub mod Pools
 pub mod PoolReports
@@ -8,3 +9,4 @@ pub mod Sparing
 pub mod Bodies
 pub mod Decisions
 pub mod Safe
+pub mod Limit

@@ -18,9 +18,12 @@ use Rattle.crash_model.specs.declared.visit.ReportBy.{ReportBy}
 use Rattle.byte_io.specs.Counted.{IsReadFault}
 use Rattle.question_model.specs.Answers.{IsAnswerTo}
 use Rattle.question_model.specs.declared.question.Question.{Question}
-use Rattle.question_model.specs.declared.question.Question.TheVariants.{Visit, Decide, Enough, Search, SearchRules}
+use Rattle.question_model.specs.declared.question.Question.TheVariants.{Visit, Decide, Enough, EnoughLines, Search}
+use Rattle.question_model.specs.declared.question.Question.TheVariants.{SearchRules}
 use Rattle.question_model.specs.declared.question.Request.{Request}
 use Rattle.question_model.specs.SearchReport.{IsSearchRefusal, before_the_pool, no_operation}
+use Rattle.question_model.specs.LinesReport as lines
+use Rattle.question_model.specs.LinesReport.{IsLinesRefusal}
 use Rattle.crash_text.specs.Served.{IsWhole, IsRefusedBy}
 
 -- a source that was read to its end had these bytes
@@ -95,11 +98,18 @@ search_is_of_run : {bytes : List ℕ} {settings : Settings} {fault : RunFault} �
 search_is_of_run (before_the_pool fault is none) = untraced_is_of_run is
 search_is_of_run (no_operation base front rest step start operations first) = refl
 
+lines_is_of_run : {bytes : List ℕ} {settings : Settings} {fault : RunFault} → IsLinesRefusal bytes settings fault
+    → is_of_run fault ≡ true
+lines_is_of_run (lines.before_the_trace fault is none) = untraced_is_of_run is
+lines_is_of_run (lines.bad_trace base steps fault start is) = trace_is_of_run fault
+lines_is_of_run (lines.too_many base steps last wait start is past) = refl
+
 refusal_is_of_run : (question : Question) (bytes : List ℕ) (settings : Settings) (fault : RunFault)
     → IsAnswerTo question bytes settings (Refused fault) → is_of_run fault ≡ true
 refusal_is_of_run (Visit visit) bytes settings fault is = visit_is_of_run is
 refusal_is_of_run Decide bytes settings fault is = untraced_is_of_run is
 refusal_is_of_run Enough bytes settings fault is = untraced_is_of_run is
+refusal_is_of_run EnoughLines bytes settings fault is = lines_is_of_run is
 refusal_is_of_run (Search longest) bytes settings fault is = search_is_of_run is
 refusal_is_of_run (SearchRules longest) bytes settings fault is = search_is_of_run is
 

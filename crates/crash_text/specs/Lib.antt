@@ -1,4 +1,5 @@
 pub mod BaseRefusal
+pub mod Lines
 pub mod Searching
 pub mod SearchingRules
 pub mod Served

@@ -1,5 +1,5 @@
 -- What a search over a pool answers.
-use Rattle.std.specs.Prelude.{◌≡◌, ℕ, List, ◌∷◌, ◌++◌, map, length, Bool}
+use Rattle.std.specs.Prelude.{◌≡◌, ℕ, List, map, length, Bool}
 use Rattle.std.specs.List.{All}
 use Rattle.crash_model.specs.Disk.{Disk}
 use Rattle.crash_model.specs.declared.refusals.RunFault.{RunFault}

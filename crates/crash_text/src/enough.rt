@@ -12,7 +12,7 @@ use crash_model::settings::Settings;
 use enough_deciding::RuleOracle;
 use fault_deciding::closed_number;
 use first_crashes::{first_fault, needed_groups};
-use question_reports::{EnoughFindings, enough_report};
+use question_reports::{Choices, EnoughFindings, enough_report};
 use std::alloc::{AllocError, Allocator};
 
 /// Finds which rules of its ordering a traced script needs, and reports. It fails only when out of memory.
@@ -46,11 +46,13 @@ pub(crate) fn enough<R, A: Allocator + Copy>(
     if let Some(first) = &first {
         host.notes.shown.set(Some(first.decided));
     }
+    let ordering = settings.ordering();
     let findings = EnoughFindings {
         demands: &script.demands,
         base: script.base,
         traced: &script.traced,
         settings,
+        choices: Choices::Rules(&ordering),
         closed: closed_number(script.traced.graph()),
         enough: &found.enough,
         needs: &needs,

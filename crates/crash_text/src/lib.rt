@@ -5,6 +5,7 @@ pub mod answer;
 mod deciding;
 mod enough;
 pub mod host;
+mod lines;
 mod needs;
 pub mod notes;
 pub mod progress;

@@ -14,6 +14,7 @@ ghost use Rattle.crash_text.specs.Traced.{RisksNothing};
 use crate::deciding::decided;
 use crate::enough::enough;
 use crate::host::Host;
+use crate::lines::{check_waits, enough_lines, up_to_limit};
 use crate::searching::{Pool, searched};
 use crate::searching_rules::searched_for_rules;
 use crate::traced_script::trace_script;
@@ -32,8 +33,8 @@ use std::thread::Threads;
 
 /// A report's text, and the number of its failing sets, or of its faults if that is the question.
 ///
-/// If the question is which rules are enough, the number is 0 if all of them together are, and otherwise 1. For a
-/// search, also for one that asks for rules, it is 1 if a workload fails, and otherwise 0.
+/// If the question is which rules or lines are enough, the number is 0 if all of them together are, and otherwise 1.
+/// For a search, also for one that asks for rules, it is 1 if a workload fails, and otherwise 0.
 #[derive(Drop)]
 pub struct Outcome<A: Allocator> {
     pub text: String<A>,
@@ -41,8 +42,9 @@ pub struct Outcome<A: Allocator> {
 }
 
 /// Answers a question about a script: reads it, builds the base, traces the rest, visits what a crash can leave, or
-/// decides which faults it can leave or which rules are enough, and reports. A search takes the rest as a pool, and
-/// judges each workload of it. It can also find which rules are enough for all workloads that do not fail.
+/// decides which faults it can leave, which rules are enough or which lines have to wait, and reports. A search takes
+/// the rest as a pool, and judges each workload of it. It can also find which rules are enough for all workloads that do
+/// not fail.
 ///
 /// For every number of workers, 1 to 16, and every schedule, an answer other than out of memory is the one defined for
 /// the script's bytes and the settings, without threads. The gate gets each claim of a worker on a board, and progress
@@ -89,6 +91,12 @@ where
         Question::Enough => {
             let script = trace_script(host.alloc, base, steps, settings, &ordering)?;
             Ok(enough(host, settings, &script)?)
+        }
+        Question::EnoughLines => {
+            let steps = up_to_limit(steps);
+            let script = trace_script(host.alloc, base, steps, settings, &ordering)?;
+            check_waits(&script)?;
+            Ok(enough_lines(host, settings, &script)?)
         }
         Question::Search(longest) => {
             let pool = Pool {

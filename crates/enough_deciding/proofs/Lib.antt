@@ -1,1 +1,2 @@
 pub mod Tracings
+pub mod WaitingLines

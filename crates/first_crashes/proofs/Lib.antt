@@ -1,4 +1,5 @@
 pub mod Without
+pub mod WithoutLines
 pub mod KindCrashes
 pub mod FirstWorkload
 pub mod NeededWorkloads

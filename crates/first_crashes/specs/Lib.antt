@@ -1,2 +1,3 @@
 pub mod Sparing
+pub mod SparingLines
 pub mod Kinds

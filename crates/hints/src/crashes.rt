@@ -21,7 +21,7 @@ struct Excluding {
 }
 
 /// Writes what a report leaves out: the smallest crash of all faults, the rules that would exclude a crash which the
-/// whole ordering allows, or that workloads which fail were left out.
+/// whole ordering allows, a crash that comes whatever waits, or that workloads which fail were left out.
 pub(crate) fn write_findings<E: Write>(answer: Answer<'_>, err: &mut E) -> io::Result<()> {
     match (answer.request.question, answer.shown) {
         (Question::SearchRules(_), _) if answer.left_out > 0 => write!(
@@ -31,6 +31,7 @@ pub(crate) fn write_findings<E: Write>(answer: Answer<'_>, err: &mut E) -> io::R
         ),
         (Question::Decide, Some(shown)) => write_smallest(shown, err),
         (Question::Enough, Some(shown)) => write_excluding(answer.parts, shown, err),
+        (Question::EnoughLines, Some(shown)) => write_past_waiting(shown, err),
         _ => Ok(()),
     }
 }
@@ -41,6 +42,15 @@ fn write_smallest<E: Write>(shown: DecidedFault, err: &mut E) -> io::Result<()> 
     write!(
         err,
         "hint: the smallest crash of all is{set}, with fault {fault}\n"
+    )
+}
+
+/// Writes that this crash comes although all lines wait.
+fn write_past_waiting<E: Write>(shown: DecidedFault, err: &mut E) -> io::Result<()> {
+    let set = SetOf(shown.first);
+    write!(
+        err,
+        "hint: the crash{set} comes even if all lines wait; ask without --syncs for rules that exclude it\n"
     )
 }
 

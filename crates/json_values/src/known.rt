@@ -83,7 +83,7 @@ impl KnownTexts {
     }
 
     /// The number of patches.
-    pub(crate) fn patches(&self) -> usize
+    pub fn patches(&self) -> usize
         ensures { result ≡ self.now }
     {
         self.patches

@@ -9,3 +9,4 @@ pub mod ForcedIds
 pub mod Steps
 pub mod Turning
 pub mod WaitSteps
+mod Relabelling

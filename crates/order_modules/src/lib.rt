@@ -23,4 +23,4 @@ pub use crash_model::refusals::TraceFault;
 pub use crash_model::steps::{Act, Step};
 pub use traced_patches::{Label, Origin, Reason, Reasons, Traced};
 pub use tracer::{Tracer, trace};
-pub use without_rule::{graph_by, graph_without};
+pub use without_rule::{graph_by, graph_waiting, graph_without};

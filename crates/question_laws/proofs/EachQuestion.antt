@@ -9,9 +9,11 @@ use Rattle.question_model.specs.Lengths.{operations_of}
 use Rattle.question_model.specs.SearchReport.{IsSearchReport}
 use Rattle.question_model.specs.SearchRulesReport.{IsSearchRulesReport}
 use Rattle.question_model.specs.declared.question.Question.{Question}
-use Rattle.question_model.specs.declared.question.Question.TheVariants.{Visit, Decide, Enough, Search, SearchRules}
+use Rattle.question_model.specs.declared.question.Question.TheVariants.{Visit, Decide, Enough, EnoughLines}
+use Rattle.question_model.specs.declared.question.Question.TheVariants.{Search, SearchRules}
 use Rattle.worked_example_laws.proofs.OneAnswer.{answer_one}
 use Rattle.worked_example_laws.proofs.SomeAnswer.{some_answer}
+use Rattle.question_laws.proofs.LinesAnswer.{some_lines_answer, one_lines_answer}
 use Rattle.question_laws.proofs.OneDecision.{decision_one}
 use Rattle.question_laws.proofs.OneEnough.{enough_one}
 use Rattle.question_laws.proofs.OnePool.{pool_answered_one}
@@ -28,6 +30,7 @@ pub each_some : (question : Question) (bytes : List â„•) (settings : Settings) â
 each_some (Visit visit) bytes settings = some_answer settings visit.report visit.limit bytes
 each_some Decide bytes settings = some_answered bytes settings (IsDecision settings) (some_decision settings)
 each_some Enough bytes settings = some_answered bytes settings (IsEnoughReport settings) (some_enough settings)
+each_some EnoughLines bytes settings = some_lines_answer bytes settings
 each_some (Search longest) bytes settings =
     some_searched bytes settings (IsSearchReport settings (operations_of longest))
     (some_search settings (operations_of longest))
@@ -43,6 +46,7 @@ each_one Decide bytes settings answer other is also =
     answered_one bytes settings (IsDecision settings) (decision_one settings) answer other is also
 each_one Enough bytes settings answer other is also =
     answered_one bytes settings (IsEnoughReport settings) (enough_one settings) answer other is also
+each_one EnoughLines bytes settings answer other is also = one_lines_answer bytes settings answer other is also
 each_one (Search longest) bytes settings answer other is also =
     pool_answered_one bytes settings (IsSearchReport settings (operations_of longest))
     (search_one settings (operations_of longest)) answer other is also

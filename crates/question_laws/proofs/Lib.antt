@@ -2,6 +2,7 @@ pub mod OneStart
 pub mod OneDecision
 pub mod OneFirst
 pub mod OneEnough
+pub mod OneLines
 pub mod Sequences
 pub mod OneFound
 pub mod OneSearch
@@ -12,8 +13,12 @@ pub mod SomeSets
 pub mod SomeStart
 pub mod SomeFirst
 pub mod SomeDecision
+pub mod SomeChoices
 pub mod SomeRules
 pub mod SomeEnough
+pub mod SomeLines
+pub mod Cut
+pub mod LinesAnswer
 pub mod SomeSequences
 pub mod Numbered
 pub mod SomeWorkloads
@@ -23,9 +28,11 @@ pub mod SomePool
 pub mod EachQuestion
 pub mod Told
 pub mod Scripted
+pub mod ScriptedLines
 pub mod ScriptedSearch
 pub mod Testing
 pub mod DecidedIf
+pub mod ChoicesIf
 pub mod RulesIf
 pub mod SequencesIf
 pub mod WorkloadsIf

@@ -4,6 +4,7 @@ use Rattle.std.specs.Prelude.{◌⊎◌, Option, Some, None}
 use Rattle.report_model.specs.Report.{Detail, AreSections}
 use Rattle.crash_model.specs.Disk.{Disk}
 use Rattle.crash_model.specs.FaultRows.{HasFault}
+use Rattle.crash_model.specs.RuleUse.{HasGraphBy}
 use Rattle.crash_model.specs.Trace.{Tracing}
 use Rattle.crash_model.specs.declared.fault.Fault.{Fault}
 use Rattle.crash_model.specs.declared.patches.Patch.{Patch}
@@ -46,6 +47,17 @@ module _ (detail : Detail) (base : Disk) (patches : List Patch) where
   told_any_one (Some t) None is also = absurd (also t.decided.fault t.decided.first is.fault.first.among)
   told_any_one (Some t) (Some o) is also = ap Some (told_first_one t o is also)
 
+-- the first fault of the patches of a trace by some rules
+pub told_by_one : (detail : Detail) (rules : List Rule) (base : Disk) (s : Tracing) (told other : ToldDecided)
+    → HasGraphBy rules base s (λ patches. IsToldFirst detail base patches told)
+    → HasGraphBy rules base s (λ patches. IsToldFirst detail base patches other) → told ≡ other
+told_by_one detail rules base s told other is also =
+    let patches : is.0 ≡ also.0 = graph_one rules base s is.0 also.0 is.1 also.1 in
+    told_first_one detail base also.0 told other (subst (λ ps. IsToldFirst detail base ps told) patches is.2) also.2
+
+pub same_group : (told other : ToldGroup) → told.group ≡ other.group → told.fault ≡ other.fault → told ≡ other
+same_group told other group fault = λ i. record { group = group i; fault = fault i }
+
 pub told_group_one : (detail : Detail) (rules : List Rule) (base : Disk) (s : Tracing) (told other : ToldGroup)
     → IsToldGroup detail rules base s told → IsToldGroup detail rules base s other → told.group ≡ other.group
     → told ≡ other
@@ -53,7 +65,5 @@ told_group_one detail rules base s told other is also same =
     let here = subst (λ (group : ℕ). IsToldGroup detail rules base s (record { group = group; fault = told.fault }))
     same
     is in
-    let patches : here.0 ≡ also.0 = graph_one (rules_but rules other.group) base s here.0 also.0 here.1 also.1 in
-    let fault : told.fault ≡ other.fault = told_first_one detail base also.0 told.fault other.fault
-    (subst (λ ps. IsToldFirst detail base ps told.fault) patches here.2) also.2 in
-    λ i. record { group = same i; fault = fault i }
+    same_group told other same
+    (told_by_one detail (rules_but rules other.group) base s told.fault other.fault here also)

@@ -2,10 +2,11 @@
 use Rattle.std.proofs.Common.{◌≡◌, ℕ, List, [], ◌∷◌, length, map, All, Bool, true, false, refl, sym, subst, ap}
 use Rattle.std.specs.Prelude.{◌==◌, None, if◌then◌else◌}
 use Rattle.std.specs.List.{Contains, list_all}
+use Rattle.std.proofs.lemmas.Bool.{and_parts}
 use Rattle.std.proofs.lemmas.List.{length-map}
 use Rattle.std.proofs.lemmas.List.Elements.{All-nil, All-cons}
 use Rattle.patch_sets.specs.Sets.{AreAllInOrder}
-use Rattle.patch_sets.proofs.Lists.{in_front, in_rest, in_none}
+use Rattle.patch_sets.proofs.Lists.{in_front, in_none}
 use Rattle.report_model.specs.Answer.{Reported, ordering_rules}
 use Rattle.report_model.specs.Report.{Detail}
 use Rattle.crash_model.specs.Disk.{Disk}
@@ -13,6 +14,7 @@ use Rattle.crash_model.specs.Checker.{Demands, IsFailingUnder}
 use Rattle.crash_model.specs.Lists.{when}
 use Rattle.crash_model.specs.Patches.{deps_of}
 use Rattle.crash_model.specs.Reasons.{explanation}
+use Rattle.crash_model.specs.RuleUse.{HasGraphBy}
 use Rattle.crash_model.specs.Trace.{Tracing}
 use Rattle.crash_model.specs.declared.patches.Patch.{Patch}
 use Rattle.crash_model.specs.declared.rules.Rule.{Rule}
@@ -21,7 +23,7 @@ use Rattle.crash_model.specs.declared.steps.Act.{Act}
 use Rattle.question_model.specs.Answers.{IsAnswerTo}
 use Rattle.question_model.specs.Decision.{decision_bytes}
 use Rattle.question_model.specs.Enough.{rules_but, IsMinimalFor, IsNeededFor, AreEnough, IsMinimalEnough, IsNeeded}
-use Rattle.question_model.specs.EnoughReport.{ToldGroup, IsToldGroup, rules_report_bytes}
+use Rattle.question_model.specs.EnoughReport.{ToldGroup, IsToldFirst, IsToldGroup, rules_report_bytes}
 use Rattle.question_model.specs.declared.decided_fault.DecidedFault.{DecidedFault}
 use Rattle.question_model.specs.declared.question.Question.TheVariants.{Decide, Enough}
 use Rattle.uniqueness_laws.proofs.OneGraph.{graph_one}
@@ -34,7 +36,7 @@ use Rattle.question_laws.proofs.DecidedIf.{is_decided, told_one, told_all, faili
 use Rattle.question_laws.proofs.RulesIf.{are_minimal, are_needed, all_minimal, all_needed}
 use Rattle.question_laws.proofs.SomeFirst.{first_told}
 use Rattle.question_laws.proofs.SomeSets.{all_like}
-use Rattle.question_laws.proofs.Testing.{all_from, is_no_set}
+use Rattle.question_laws.proofs.Testing.{is_no_set}
 use Rattle.question_laws.proofs.Told.{last_of, demanded, is_traced, has_graph, are_demanded, counted}
 
 -- ---- which rules are enough, as a test
@@ -49,7 +51,7 @@ module _ (demands : Demands) (base : Disk) (s : Tracing) (rules : List Rule) whe
   some_or_none : are_enough demands base s rules ≡ is_no_set (failing_under demands base patches_by)
   some_or_none = ap is_no_set (failing_under_are demands base patches_by)
 
-  enough_if : are_enough demands base s rules ≡ true → AreEnough demands base s rules
+  pub enough_if : are_enough demands base s rules ≡ true → AreEnough demands base s rules
   enough_if e = (
     patches_by,
     graph_is rules base s,
@@ -62,7 +64,7 @@ module _ (demands : Demands) (base : Disk) (s : Tracing) (rules : List Rule) whe
       none [] e' set is = in_none set is
       none (x ∷ sets) e' set is = cc
 
-  not_enough_if : are_enough demands base s rules ≡ false → ¬ (AreEnough demands base s rules)
+  pub not_enough_if : are_enough demands base s rules ≡ false → ¬ (AreEnough demands base s rules)
   not_enough_if e enough =
       let some = first (failing_under demands base patches_by) (subst (λ (b : Bool). b ≡ false) some_or_none e) in
       enough.2 some.0 (subst (λ ps. IsFailingUnder demands base ps some.0)
@@ -91,32 +93,39 @@ told_group detail rules base s g =
     record { group = g.group; fault = told_one detail base (patches_but rules base s g) g.first }
 
 module _ (detail : Detail) (rules : List Rule) (base : Disk) (s : Tracing) where
-  group_if : (g : Group) → is_group detail rules base s g ≡ true → IsToldGroup detail rules base s
-      (told_group detail rules base s g)
-  group_if g e =
-      let patches = patches_but rules base s g in
-      let before = earlier (rules_but rules g.group) base s in
-      let told = told_if detail base patches before g.sets (g.first ∷ g.rest) e in
-      let led = led_if detail base patches before g.sets (g.first ∷ g.rest) e in (
+  -- the first of what is decided of the patches by some rules
+  pub first_if : (sets : List ℕ) (first : DecidedFault) (rest : List DecidedFault)
+      → is_decided detail base (graph_of rules base s) sets (first ∷ rest) ≡ true
+      → HasGraphBy rules base s (λ patches. IsToldFirst detail base patches (told_one detail base
+      (graph_of rules base s) first))
+  first_if sets first rest e =
+      let patches = graph_of rules base s in
+      let before = earlier rules base s in
+      let told = told_if detail base patches before sets (first ∷ rest) e in
+      let led = led_if detail base patches before sets (first ∷ rest) e in (
         patches,
-        graph_is (rules_but rules g.group) base s,
-        first_told detail base patches (told_one detail base patches g.first)
-            (told_all detail base patches g.rest) told led,
+        graph_is rules base s,
+        first_told detail base patches (told_one detail base patches first) (told_all detail base patches rest) told
+            led,
       )
 
-  groups_if : (groups : List Group)
-      → ((g : Group) → Contains groups g → is_group detail rules base s g ≡ true)
-      → All (IsToldGroup detail rules base s) (map (told_group detail rules base s) groups)
-  groups_if [] each = All-nil (IsToldGroup detail rules base s)
-  groups_if (g ∷ groups) each =
-      All-cons (IsToldGroup detail rules base s) (told_group detail rules base s g)
-      (map (told_group detail rules base s) groups) (group_if g (each g (in_front g groups)))
-      (groups_if groups (λ h is. each h (in_rest g groups h is)))
+group_if : (detail : Detail) (rules : List Rule) (base : Disk) (s : Tracing) (g : Group)
+    → is_group detail rules base s g ≡ true → IsToldGroup detail rules base s (told_group detail rules base s g)
+group_if detail rules base s g e = first_if detail (rules_but rules g.group) base s g.sets g.first g.rest e
 
-  same_groups : (groups : List Group)
-      → map (λ g. g.group) groups ≡ map (λ t. t.group) (map (told_group detail rules base s) groups)
-  same_groups [] = refl
-  same_groups (g ∷ groups) = ap (λ (ns : List ℕ). g.group ∷ ns) (same_groups groups)
+-- what is told of groups that pass a test
+module _ (IsTold : ToldGroup → Type 0) (passes : Group → Bool) (tell : Group → ToldGroup)
+    (told : (g : Group) → passes g ≡ true → IsTold (tell g)) where
+  pub groups_if : (groups : List Group) → list_all passes groups ≡ true → All IsTold (map tell groups)
+  groups_if [] e = All-nil IsTold
+  groups_if (g ∷ groups) e =
+      let parts = and_parts (passes g) (list_all passes groups) e in
+      All-cons IsTold (tell g) (map tell groups) (told g parts.0) (groups_if groups parts.1)
+
+pub same_groups : (tell : Group → ToldGroup) → ((g : Group) → g.group ≡ (tell g).group) → (groups : List Group)
+    → map (λ g. g.group) groups ≡ map (λ t. t.group) (map tell groups)
+same_groups tell same [] = refl
+same_groups tell same (g ∷ groups) = λ i. same g i ∷ same_groups tell same groups i
 
 -- ---- a script
 
@@ -216,14 +225,15 @@ module _ (settings : Settings) (before after : List Act) (closed : ℕ) (text : 
               (not_enough_if demands base last) rules sets minimal);
           needs = map (told_group detail rules base last) groups;
           needed = subst (λ (some : List ℕ). AreAllInOrder (IsNeeded demands base last rules) some)
-              (same_groups detail rules base last groups)
+              (same_groups (told_group detail rules base last) (λ g. refl) groups)
               (all_like (IsNeededFor (AreEnough demands base last) rules) (IsNeeded demands base last rules)
               (λ s is. record { places = is.places; some = is.some; needed = is.needed; minimal = is.minimal })
               (λ s is. record { places = is.places; some = is.some; needed = is.needed; minimal = is.minimal })
               (map (λ g. g.group) groups)
               (all_needed (AreEnough demands base last) (are_enough demands base last) (enough_if demands base last)
               (not_enough_if demands base last) rules (map (λ g. g.group) groups) need));
-          told = groups_if detail rules base last groups (all_from (is_group detail rules base last) groups each);
+          told = groups_if (IsToldGroup detail rules base last) (is_group detail rules base last)
+              (told_group detail rules base last) (group_if detail rules base last) groups each;
           first = None;
           any = λ f s has. in_none s ((failing.exactly s).1 has.failing);
           number_of = refl;

@@ -11,12 +11,15 @@ use Rattle.crash_model.specs.Checker.{Demands, IsFailingUnder}
 use Rattle.crash_model.specs.Lists.{when}
 use Rattle.crash_model.specs.Patches.{deps_of}
 use Rattle.crash_model.specs.Reasons.{explanation}
+use Rattle.crash_model.specs.RuleUse.{HasGraphBy}
 use Rattle.crash_model.specs.Trace.{Tracing, IsGraphOf}
 use Rattle.crash_model.specs.declared.patches.Patch.{Patch}
 use Rattle.crash_model.specs.declared.rules.Rule.{Rule}
 use Rattle.crash_model.specs.declared.settings.Settings.{Settings}
 use Rattle.question_model.specs.Enough.{rules_but, IsMinimalFor, IsNeededFor, AreEnough, IsMinimalEnough, IsNeeded}
-use Rattle.question_model.specs.EnoughReport.{ToldGroup, IsToldGroup, RulesReport, rules_report_bytes, IsEnoughReport}
+use Rattle.question_model.specs.Decision.{ToldDecided}
+use Rattle.question_model.specs.EnoughReport.{ToldGroup, IsToldFirst, IsToldGroup, EnoughFound, rules_report_bytes}
+use Rattle.question_model.specs.EnoughReport.{IsEnoughReport}
 use Rattle.uniqueness_laws.proofs.OneGraph.{graph_one}
 use Rattle.worked_example_laws.specs.Computed.{closed_sets, graph_of}
 use Rattle.worked_example_laws.proofs.FailingSets.{counts_closed}
@@ -25,13 +28,30 @@ use Rattle.question_laws.proofs.SomeFirst.{failing_or_not, told_any, told_first}
 use Rattle.question_laws.proofs.SomeRules.{some_minimal, some_needed}
 use Rattle.question_laws.proofs.SomeSets.{all_like}
 
+-- what a report shows of groups, if it can show each
+module _ (IsShown : ℕ → Type 0) (IsTold : ToldGroup → Type 0)
+    (tell : (group : ℕ) → IsShown group → (told : ToldGroup) × IsTold told × (told.group ≡ group)) where
+  pub told_groups : (groups : List ℕ) → ((group : ℕ) → Contains groups group → IsShown group)
+      → (told : List ToldGroup) × All IsTold told × (groups ≡ map (λ t. t.group) told)
+  told_groups [] each = ([], All-nil IsTold, refl)
+  told_groups (group ∷ groups) each =
+      let one = tell group (each group (in_front group groups)) in
+      let rest = told_groups groups (λ g is. each g (in_rest group groups g is)) in (
+        one.0 ∷ rest.0,
+        All-cons IsTold one.0 rest.0 one.1 rest.1,
+        front (sym one.2) rest.2,
+      )
+    where
+      front : {a b : ℕ} {cs ds : List ℕ} → a ≡ b → cs ≡ ds → a ∷ cs ≡ b ∷ ds
+      front e f = cc
+
 module _ (settings : Settings) (demands : Demands) (base : Disk) (s : Tracing) where
   -- a failing set by other rules, or none
   failing_by : (rules : List Rule) → ((set : ℕ) × IsFailingUnder demands base (graph_of rules base s) set)
       ⊎ ((set : ℕ) → ¬ (IsFailingUnder demands base (graph_of rules base s) set))
   failing_by rules = failing_or_not demands base (graph_of rules base s) (earlier rules base s)
 
-  are_enough : (rules : List Rule) → Dec (AreEnough demands base s rules)
+  pub are_enough : (rules : List Rule) → Dec (AreEnough demands base s rules)
   are_enough rules = by (failing_by rules)
     where
       by : ((set : ℕ) × IsFailingUnder demands base (graph_of rules base s) set)
@@ -40,6 +60,20 @@ module _ (settings : Settings) (demands : Demands) (base : Disk) (s : Tracing) w
       by (inl fails) = no (λ enough. enough.2 fails.0 (subst (λ ps. IsFailingUnder demands base ps fails.0)
           (graph_one rules base s (graph_of rules base s) enough.0 (graph_is rules base s) enough.1) fails.1))
       by (inr none) = yes (graph_of rules base s, graph_is rules base s, none)
+
+  -- the first fault by rules that are not enough
+  pub told_by : (rules : List Rule) → ¬ (AreEnough demands base s rules) → (fault : ToldDecided)
+      × HasGraphBy rules base s (λ patches. IsToldFirst (detail_of settings demands) base patches fault)
+  told_by rules lacking = by (failing_by rules)
+    where
+      by : ((set : ℕ) × IsFailingUnder demands base (graph_of rules base s) set)
+          ⊎ ((set : ℕ) → ¬ (IsFailingUnder demands base (graph_of rules base s) set))
+          → (fault : ToldDecided)
+          × HasGraphBy rules base s (λ patches. IsToldFirst (detail_of settings demands) base patches fault)
+      by (inr none) = absurd (lacking (graph_of rules base s, graph_is rules base s, none))
+      by (inl fails) =
+          let told = told_first settings demands base (graph_of rules base s) (earlier rules base s) fails.0 fails.1 in
+          (told.0, (graph_of rules base s, graph_is rules base s, told.1))
 
   module _ (rules : List Rule) where
     pub all_minimal : (sets : List ℕ) × AreAllInOrder (IsMinimalEnough demands base s rules) sets
@@ -64,38 +98,9 @@ module _ (settings : Settings) (demands : Demands) (base : Disk) (s : Tracing) w
     -- what a report shows of a group
     told_group : (group : ℕ) → IsNeeded demands base s rules group → (told : ToldGroup)
         × IsToldGroup (detail_of settings demands) rules base s told × (told.group ≡ group)
-    told_group group is = by (failing_by (rules_but rules group))
-      where
-        by : ((set : ℕ) × IsFailingUnder demands base (graph_of (rules_but rules group) base s) set)
-            ⊎ ((set : ℕ) → ¬ (IsFailingUnder demands base (graph_of (rules_but rules group) base s) set))
-            → (told : ToldGroup) × IsToldGroup (detail_of settings demands) rules base s told × (told.group ≡ group)
-        by (inr none) = absurd (is.needed (
-          graph_of (rules_but rules group) base s,
-          graph_is (rules_but rules group) base s,
-          none,
-        ))
-        by (inl fails) =
-            let told = told_first settings demands base (graph_of (rules_but rules group) base s)
-            (earlier (rules_but rules group) base s) fails.0 fails.1 in (
-              record { group = group; fault = told.0 },
-              (graph_of (rules_but rules group) base s, graph_is (rules_but rules group) base s, told.1),
-              refl,
-            )
-
-    told_groups : (groups : List ℕ) → ((group : ℕ) → Contains groups group → IsNeeded demands base s rules group)
-        → (told : List ToldGroup) × All (IsToldGroup (detail_of settings demands) rules base s) told
-        × (groups ≡ map (λ t. t.group) told)
-    told_groups [] each = ([], All-nil (IsToldGroup (detail_of settings demands) rules base s), refl)
-    told_groups (group ∷ groups) each =
-        let one = told_group group (each group (in_front group groups)) in
-        let rest = told_groups groups (λ g is. each g (in_rest group groups g is)) in (
-          one.0 ∷ rest.0,
-          All-cons (IsToldGroup (detail_of settings demands) rules base s) one.0 rest.0 one.1 rest.1,
-          front (sym one.2) rest.2,
-        )
-      where
-        front : {a b : ℕ} {cs ds : List ℕ} → a ≡ b → cs ≡ ds → a ∷ cs ≡ b ∷ ds
-        front e f = cc
+    told_group group is =
+        let told = told_by (rules_but rules group) is.needed in
+        (record { group = group; fault = told.0 }, told.1, refl)
 
 pub some_enough : (settings : Settings) (demands : Demands) (base : Disk) (last : Tracing) (patches : List Patch)
     → IsGraphOf (ordering_rules settings) base last patches → (text : List ℕ) × (number : ℕ)
@@ -104,9 +109,11 @@ some_enough settings demands base last patches graph =
     let rules = ordering_rules settings in
     let enough = all_minimal settings demands base last rules in
     let groups = all_needed settings demands base last rules in
-    let needs = told_groups settings demands base last rules groups.0 (λ group is. (groups.1.exactly group).0 is) in
+    let needs = told_groups (IsNeeded demands base last rules)
+    (IsToldGroup (detail_of settings demands) rules base last) (told_group settings demands base last rules) groups.0
+    (λ group is. (groups.1.exactly group).0 is) in
     let first = told_any settings demands base patches graph.earlier in
-    let report : RulesReport = record {
+    let report : EnoughFound = record {
       patches = length patches;
       closed = length (closed_sets (deps_of patches));
       explanation = when settings.explain (explanation rules base last patches);

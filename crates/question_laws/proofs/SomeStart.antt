@@ -1,7 +1,7 @@
 -- A script has a base and a graph, or is refused.
 use Rattle.std.proofs.Common.{◌≡◌, ℕ, List, Bool, true, false, refl, subst, inl, inr}
 use Rattle.std.specs.Prelude.{◌⊎◌, Result, Ok, Err}
-use Rattle.report_model.specs.Answer.{Answer, Refused, Reported, HasBase, IsUntraced}
+use Rattle.report_model.specs.Answer.{Answer, Refused, Reported, HasBase, IsReported, IsUntraced}
 use Rattle.report_model.specs.Answer.{bad_script, bad_geometry, bad_base, bad_trace, ordering_rules, asked_by}
 use Rattle.crash_model.specs.Disk.{Disk, new_disk, IsGeometry}
 use Rattle.crash_model.specs.Checker.{Demands}
@@ -73,6 +73,27 @@ module _ (bytes : List ℕ) (settings : Settings) where
         λ base steps has. read_or_refused bytes has.before steps refused.0 has.read refused.1,
       )
 
+  -- a report on the graph of the traced steps is one on the script
+  pub reported_on : (IsOn : Demands → Disk → Tracing → List Patch → List ℕ → ℕ → Type 0) (base : Disk)
+      (steps : List Step) (last : Tracing) (text : List ℕ) (number : ℕ) → HasBase bytes settings base steps
+      → trace_from settings.module (trace_start settings.whole_blocks base) steps ≡ Ok last
+      → IsOn (demands_by settings base steps) base last (graph_of (ordering_rules settings) base last) text number
+      → IsReported IsOn bytes settings text number
+  reported_on IsOn base steps last text number start run report = record {
+    demands = demands_by settings base steps;
+    base = base;
+    last = last;
+    patches = graph_of (ordering_rules settings) base last;
+    graph = record {
+      steps = steps;
+      start = start;
+      run = run;
+      graph = graph_is (ordering_rules settings) base last;
+    };
+    demanded = are_demands (asked_by settings steps) base steps;
+    report = report;
+  }
+
   module _ (IsOn : Demands → Disk → Tracing → List Patch → List ℕ → ℕ → Type 0)
       (some : (demands : Demands) (base : Disk) (last : Tracing) (patches : List Patch)
       → IsGraphOf (ordering_rules settings) base last patches → (text : List ℕ) × (number : ℕ)
@@ -88,24 +109,9 @@ module _ (bytes : List ℕ) (settings : Settings) where
         by_trace (Err fault) is = (Refused (run_of_trace fault), bad_trace base steps fault start is)
         by_trace (Ok last) is =
             let patches = graph_of (ordering_rules settings) base last in
-            let demands = demands_by settings base steps in
-            let report = some demands base last patches (graph_is (ordering_rules settings) base last) in (
-              Reported report.0 report.1,
-              record {
-                demands = demands;
-                base = base;
-                last = last;
-                patches = patches;
-                graph = record {
-                  steps = steps;
-                  start = start;
-                  run = is;
-                  graph = graph_is (ordering_rules settings) base last;
-                };
-                demanded = are_demands (asked_by settings steps) base steps;
-                report = report.2;
-              },
-            )
+            let report = some (demands_by settings base steps) base last patches
+            (graph_is (ordering_rules settings) base last) in
+            (Reported report.0 report.1, reported_on IsOn base steps last report.0 report.1 start is report.2)
 
     pub some_answered : (answer : Answer) × IsAnswered IsOn bytes settings answer
     some_answered = by some_base

@@ -1,7 +1,7 @@
 -- The settings of the worked examples.
 use Rattle.std.specs.Prelude.{[], ◌∷◌, false}
 use Rattle.crash_model.specs.Rules.{same_rule}
-use Rattle.crash_model.specs.declared.modules.Module.TheVariants.{Async}
+use Rattle.crash_model.specs.declared.modules.Module.TheVariants.{Async, Soft}
 use Rattle.crash_model.specs.declared.plans.Role.TheVariants.{InodeInit, EntrySet, MapSet, InitFile, Ptr, LinkUp}
 use Rattle.crash_model.specs.declared.rules.Rule.{Rule}
 use Rattle.crash_model.specs.declared.rules.RulePart.TheVariants.{Change}
@@ -11,6 +11,10 @@ use Rattle.worked_example_laws.specs.Spelled.{settings_of}
 -- nothing orders the writes, on the smallest disk
 abbrev pub unordered : Settings
 unordered = settings_of Async 16 0 false
+
+-- the same disk under soft updates
+abbrev pub ordered : Settings
+ordered = settings_of Soft 16 0 false
 
 -- an entry waits for its inode
 abbrev pub entry_rule : Rule

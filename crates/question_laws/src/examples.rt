@@ -3,9 +3,10 @@
 ghost use Rattle.std.specs.Prelude.{◌++◌, codes};
 ghost use Rattle.report_model.specs.Answer.{Reported};
 ghost use Rattle.question_model.specs.Answers.{IsAnswerTo};
-ghost use Rattle.question_model.specs.declared.question.Question.TheVariants.{Decide, Enough, Search, SearchRules};
+ghost use Rattle.question_model.specs.declared.question.Question.TheVariants.{Decide, Enough, EnoughLines};
+ghost use Rattle.question_model.specs.declared.question.Question.TheVariants.{Search, SearchRules};
 ghost use Rattle.question_model.specs.declared.length.WorkloadLength.TheVariants.{Two};
-ghost use Rattle.question_laws.specs.Asked.{unordered, with_one_rule, with_block_rules, with_entry_rules};
+ghost use Rattle.question_laws.specs.Asked.{unordered, ordered, with_one_rule, with_block_rules, with_entry_rules};
 
 /// A pointer can reach the disk before the block that it points to, and before the map: two faults, of one set first.
 pub fn a_first_block_is_decided()
@@ -24,6 +25,20 @@ pub fn two_sets_of_rules_are_enough_for_a_first_block()
         ++ codes "write block 1: 0\nwrite block 2: 2\nneeds InitFile:MapSet Ptr:MapSet\n"
         ++ codes "fault 5 used block marked free: inode 1 slot 0 block 5\nset 1 2\nwrite block 5: 1\n"
         ++ codes "write block 2: 2\n") 0) }
+{}
+
+/// With no line that waits nothing fails either, so the set of no lines is enough.
+pub fn a_sync_alone_is_not_needed()
+    ensures { IsAnswerTo EnoughLines (codes "start\nsync\n") unordered
+        (Reported (codes "module async\npatches 0\nclosed 1\nenough 1\nsyncs\n") 0) }
+{}
+
+/// The first sync makes the promise start where the file is on the disk. The second stands behind the promise, so it is
+/// not needed.
+pub fn the_sync_before_a_promise_is_needed()
+    ensures { IsAnswerTo EnoughLines (codes "start\ncreate /a\nsync\nkeep /a\nsync\n") ordered
+        (Reported (codes "module soft\npatches 2\nclosed 3\nenough 1\nsyncs 3\nneeds 3\n"
+        ++ codes "fault 10 broken promise: line 4\nset\n") 0) }
 {}
 
 /// A rule orders the entry of a new file, and nothing orders that of a link. There are two workloads of up to two

@@ -9,11 +9,13 @@ use Rattle.crash_model.specs.declared.steps.Step.{Step}
 use Rattle.question_model.specs.Decision.{IsDecision}
 use Rattle.question_model.specs.EnoughReport.{IsEnoughReport}
 use Rattle.question_model.specs.Lengths.{operations_of}
+use Rattle.question_model.specs.LinesReport.{IsLinesReport, IsLinesRefusal}
 use Rattle.question_model.specs.SearchReport.{IsSearchReport, IsSearchRefusal}
 use Rattle.question_model.specs.SearchRulesReport.{IsSearchRulesReport}
 use Rattle.question_model.specs.Workloads.{IsOfPool}
 use Rattle.question_model.specs.declared.question.Question.{Question}
-use Rattle.question_model.specs.declared.question.Question.TheVariants.{Visit, Decide, Enough, Search, SearchRules}
+use Rattle.question_model.specs.declared.question.Question.TheVariants.{Visit, Decide, Enough, EnoughLines, Search}
+use Rattle.question_model.specs.declared.question.Question.TheVariants.{SearchRules}
 
 -- the text and the number are those of such a report on the script's steps after the start line, which are a pool
 pub record IsReportedOfPool (IsOn : Disk → List Step → List ℕ → ℕ → Type 0) (bytes : List ℕ) (settings : Settings)
@@ -32,6 +34,9 @@ IsAnswerTo Decide bytes settings (Reported text number) =
 IsAnswerTo Enough bytes settings (Refused fault) = IsUntraced bytes settings fault
 IsAnswerTo Enough bytes settings (Reported text number) =
     IsReported (IsEnoughReport settings) bytes settings text number
+IsAnswerTo EnoughLines bytes settings (Refused fault) = IsLinesRefusal bytes settings fault
+IsAnswerTo EnoughLines bytes settings (Reported text number) =
+    IsReported (IsLinesReport settings) bytes settings text number
 IsAnswerTo (Search length) bytes settings (Refused fault) = IsSearchRefusal bytes settings fault
 IsAnswerTo (Search length) bytes settings (Reported text number) =
     IsReportedOfPool (IsSearchReport settings (operations_of length)) bytes settings text number

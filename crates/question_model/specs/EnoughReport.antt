@@ -1,4 +1,4 @@
--- What is reported of the rules that a script needs.
+-- What is reported of the rules that a script needs, or of its lines that have to wait.
 use Rattle.std.specs.Prelude.{◌≡◌, ◌≢◌, ℕ, List, [], ◌∷◌, ◌++◌, length, map, flat_map, if◌then◌else◌, Option, Some}
 use Rattle.std.specs.Prelude.{None, codes, decimal, option_to_list}
 use Rattle.std.specs.List.{All}
@@ -57,8 +57,9 @@ IsToldGroup detail rules base s told =
     HasGraphBy (rules_but rules told.group) base s (λ patches. IsToldFirst detail base patches told.fault)
 
 -- how many patches and closed sets there are, what the patches are and what is promised if that is asked for; the minimal
--- sets of rules that are enough, the minimal groups of which one is needed, and the first fault of all rules
-pub record RulesReport : Type 0 where
+-- sets of choices that are enough, the minimal groups of which one is needed, and the first fault of all choices. The
+-- choices are the rules of the ordering, or the lines that wait.
+pub record EnoughFound : Type 0 where
   pub patches : ℕ
   pub closed : ℕ
   pub explanation : Option Explanation
@@ -67,41 +68,61 @@ pub record RulesReport : Type 0 where
   pub needs : List ToldGroup
   pub first : Option ToldDecided
 
--- ---- text; patches are n in all
+-- ---- choices
+
+-- How a report writes a set of choices: in the line of a set that is enough, or behind another word; as JSON; and as a
+-- key before or behind the other keys of a group, by the alphabet.
+pub record Choices : Type 0 where
+  pub word : List ℕ
+  pub text : List ℕ → ℕ → List ℕ
+  pub json : ℕ → List ℕ
+  pub first_key : ℕ → List ℕ
+  pub last_key : ℕ → List ℕ
 
 -- the word, then a space and a rule for each rule of the set
 abbrev pub rules_text : List Rule → List ℕ → ℕ → List ℕ
 rules_text rules word set =
     line (word ++ flat_map (λ rule. codes " " ++ rule_text rule) (rules_in rules set))
 
-abbrev pub group_text : List Rule → ℕ → ToldGroup → List ℕ
-group_text rules n told = rules_text rules (codes "needs") told.group ++ decided_text n told.fault
+abbrev pub set_json : List Rule → ℕ → List ℕ
+set_json rules set = json_array (map (λ rule. json_string (rule_text rule)) (rules_in rules set))
 
-unfoldable pub text_rules_report : Settings → RulesReport → List ℕ
-text_rules_report settings r =
-    let rules = ordering_rules settings in
+abbrev pub rule_choices : List Rule → Choices
+rule_choices rules = record {
+  word = codes "rules";
+  text = rules_text rules;
+  json = set_json rules;
+  first_key = λ set. codes "\"rules\":" ++ set_json rules set ++ codes ",";
+  last_key = λ set. [];
+}
+
+-- ---- text; patches are n in all
+
+abbrev pub group_text : Choices → ℕ → ToldGroup → List ℕ
+group_text choices n told = choices.text (codes "needs") told.group ++ decided_text n told.fault
+
+unfoldable pub text_enough : Choices → Settings → EnoughFound → List ℕ
+text_enough choices settings r =
     ordering_text settings
     ++ line (codes "patches " ++ decimal r.patches)
     ++ line (codes "closed " ++ decimal r.closed)
     ++ explanation_text r.patches r.explanation
     ++ promises_text r.patches r.promises
     ++ line (codes "enough " ++ decimal (length r.enough))
-    ++ flat_map (rules_text rules (codes "rules")) r.enough
-    ++ flat_map (group_text rules r.patches) r.needs
+    ++ flat_map (choices.text choices.word) r.enough
+    ++ flat_map (group_text choices r.patches) r.needs
     ++ flat_map (decided_text r.patches) (option_to_list r.first)
 
 -- ---- JSON: one compact object, its keys in ascending order, and a line feed
 
-abbrev pub set_json : List Rule → ℕ → List ℕ
-set_json rules set = json_array (map (λ rule. json_string (rule_text rule)) (rules_in rules set))
-
-abbrev pub group_json : List Rule → ℕ → ToldGroup → List ℕ
-group_json rules n told =
+abbrev pub group_json : Choices → ℕ → ToldGroup → List ℕ
+group_json choices n told =
     codes "{\"fault\":" ++ json_string (fault_text told.fault.decided.fault) ++ codes ","
     ++ replay_json told.fault.first.replay
-    ++ codes "\"rules\":" ++ set_json rules told.group
-    ++ codes ",\"set\":" ++ ids_json n told.fault.first.set
+    ++ choices.first_key told.group
+    ++ codes "\"set\":" ++ ids_json n told.fault.first.set
     ++ shows_json (decided_shows told.fault)
+    ++ choices.last_key told.group
     ++ codes ",\"writes\":" ++ writes_json n told.fault.first.writes ++ codes "}"
 
 -- a key with the fault, if there is one
@@ -110,17 +131,16 @@ first_fault_json n None = []
 first_fault_json n (Some told) = codes ",\"first\":" ++ decided_json n told
 
 -- `closed` is a text, since it can be more than a JSON number holds
-unfoldable pub json_rules_report : Settings → RulesReport → List ℕ
-json_rules_report settings r =
-    let rules = ordering_rules settings in
+unfoldable pub json_enough : Choices → Settings → EnoughFound → List ℕ
+json_enough choices settings r =
     codes "{" ++ first_json settings r.explanation
     ++ codes "\"closed\":" ++ json_string (decimal r.closed)
     ++ counted_json settings.counted
     ++ durable_json settings.durable
-    ++ codes ",\"enough\":" ++ json_array (map (set_json rules) r.enough)
+    ++ codes ",\"enough\":" ++ json_array (map choices.json r.enough)
     ++ first_fault_json r.patches r.first
     ++ before_module settings.generations ++ json_string (module_text settings.module)
-    ++ codes ",\"needs\":" ++ json_array (map (group_json rules r.patches) r.needs)
+    ++ codes ",\"needs\":" ++ json_array (map (group_json choices r.patches) r.needs)
     ++ codes ",\"patches\":" ++ decimal r.patches
     ++ promises_json r.patches r.promises
     ++ (if settings.strict then codes ",\"strict\":true" else [])
@@ -132,8 +152,13 @@ json_rules_report settings r =
     ++ codes "}\n"
 
 -- the report's bytes
-abbrev pub rules_report_bytes : Settings → RulesReport → List ℕ
-rules_report_bytes settings r = if settings.json then json_rules_report settings r else text_rules_report settings r
+abbrev pub enough_bytes : Choices → Settings → EnoughFound → List ℕ
+enough_bytes choices settings r =
+    if settings.json then json_enough choices settings r else text_enough choices settings r
+
+-- where the choices are rules
+abbrev pub rules_report_bytes : Settings → EnoughFound → List ℕ
+rules_report_bytes settings r = enough_bytes (rule_choices (ordering_rules settings)) settings r
 
 -- ---- the answer
 

@@ -1,7 +1,9 @@
 pub mod Decided
 pub mod Decision
 pub mod Enough
+pub mod EnoughLines
 pub mod EnoughReport
+pub mod LinesReport
 pub mod Kinds
 pub mod Lengths
 pub mod Refused

@@ -20,6 +20,6 @@ pub use decided_fault::DecidedFault;
 pub use fault_kind::{FaultKind, KINDS};
 pub use found::{Found, Places, RefusedCount, ShownKind};
 pub use length::{MAX_OPERATIONS, WorkloadLength};
-pub use question::{Question, Request};
+pub use question::{MAX_SYNCS, Question, Request};
 pub use refusal::{REFUSALS, Refusal};
 pub use verdict::Verdict;

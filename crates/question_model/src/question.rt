@@ -4,6 +4,9 @@ use crate::length::WorkloadLength;
 use crash_model::settings::Settings;
 use crash_model::visit::Visit;
 
+/// The most lines that wait of which a run finds out which are enough.
+pub const MAX_SYNCS: usize = 64;
+
 /// What a run finds out about a script.
 ///
 /// Only a visit goes from closed set to closed set, so only a visit has a limit. The other questions are answered
@@ -16,6 +19,8 @@ pub enum Question {
     Decide,
     /// Which sets of rules are enough, and of which rules one is needed.
     Enough,
+    /// Which sets of the lines that wait are enough, and of which of them one is needed.
+    EnoughLines,
     /// Which workloads fail, out of all that have at most this number of operations of the pool that the script's lines
     /// after `start` are.
     Search(WorkloadLength),

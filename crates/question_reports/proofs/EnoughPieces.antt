@@ -5,19 +5,18 @@ use Rattle.std.specs.Prelude.{if◌then◌else◌, option_map, option_to_list}
 use Rattle.std.specs.List.{flat_map}
 use Rattle.std.proofs.lemmas.List.Folds.{flat_map-map}
 use Rattle.std.proofs.lemmas.Simd.{map-map}
-use Rattle.report_model.specs.Answer.{ordering_rules}
 use Rattle.report_model.specs.Explain.{trace_json, told_waits_json}
 use Rattle.crash_model.specs.Lists.{join_of, when}
 use Rattle.crash_model.specs.Texts.{fault_text, module_text}
-use Rattle.report_model.specs.Report.{ids_json, json_string, line, replay_json, writes_json}
+use Rattle.report_model.specs.Report.{ids_json, json_string, line, replay_json, write_json}
 use Rattle.report_model.specs.Shows.{counted_json, durable_json, promises_json}
 use Rattle.report_model.specs.Whole.{first_json, rules_json, told_with, told_without, before_module}
-use Rattle.crash_model.specs.declared.rules.Rule.{Rule}
 use Rattle.question_model.specs.Decision.{ToldDecided, decided_text}
+use Rattle.question_reports.specs.Chosen.{choices_of}
 use Rattle.question_reports.specs.DecisionParts.{head_lines}
-use Rattle.question_model.specs.EnoughReport.{ToldGroup, first_fault_json, group_json, group_text, json_rules_report}
-use Rattle.question_model.specs.EnoughReport.{rules_report_bytes, rules_text, set_json, text_rules_report}
-use Rattle.json_values.specs.Items.{fault_shows_json, leading_json}
+use Rattle.question_model.specs.EnoughReport.{Choices, ToldGroup, first_fault_json, group_json, group_text}
+use Rattle.question_model.specs.EnoughReport.{enough_bytes, json_enough, text_enough}
+use Rattle.json_values.specs.Items.{fault_shows_json}
 use Rattle.report_json.specs.JsonReport.{promise_keys, strict_key, told_promises, whole_key, from_strict}
 use Rattle.report_sections.specs.Bodies.{explanation_by}
 use Rattle.question_reports.specs.EnoughFindings.{group_head, group_items, group_lines, report_of, set_items}
@@ -28,87 +27,98 @@ use Rattle.question_reports.specs.declared.enough.findings.EnoughFindings.{Enoug
 -- the bytes of a report in JSON or in text
 abbrev in_form : {A : Type 0} → EnoughFindings A → Bool → List ℕ
 in_form found json =
-    if json then json_rules_report found.settings.now (report_of found)
-    else text_rules_report found.settings.now (report_of found)
+    if json then json_enough (choices_of found.choices) found.settings.now (report_of found)
+    else text_enough (choices_of found.choices) found.settings.now (report_of found)
 
 -- a report in one form, if the settings ask for that
 pub as_json : {A : Type 0} (found : EnoughFindings A) → found.settings.now.json ≡ true
-    → json_rules_report found.settings.now (report_of found) ≡ rules_report_bytes found.settings.now (report_of found)
+    → json_enough (choices_of found.choices) found.settings.now (report_of found)
+    ≡ enough_bytes (choices_of found.choices) found.settings.now (report_of found)
 as_json found is = ap (in_form found) (sym is)
 
 pub as_text : {A : Type 0} (found : EnoughFindings A) → found.settings.now.json ≡ false
-    → text_rules_report found.settings.now (report_of found) ≡ rules_report_bytes found.settings.now (report_of found)
+    → text_enough (choices_of found.choices) found.settings.now (report_of found)
+    ≡ enough_bytes (choices_of found.choices) found.settings.now (report_of found)
 as_text found is = ap (in_form found) (sym is)
 
 -- the lines of the head, of the sets, of the groups and of the first fault
-pub text_pieces : {A : Type 0} (found : EnoughFindings A) (rules : List Rule) (n : ℕ)
-    (empty head sets groups last : List ℕ) → rules ≡ ordering_rules found.settings.now
+pub text_pieces : {A : Type 0} (found : EnoughFindings A) (choices : Choices) (n : ℕ)
+    (empty head sets groups last : List ℕ)
     → n ≡ length found.traced.now.patches → empty ≡ []
     → head ≡ empty ++ head_lines found.settings.now found.base.now found.traced.now
     (told_promises found.settings.now found.demands.now) found.closed
     → sets ≡ head ++ line (codes "enough " ++ decimal (length found.enough.now))
-    ++ flat_map (rules_text rules (codes "rules")) found.enough.now
-    → groups ≡ sets ++ group_lines rules n found.needs.now
+    ++ flat_map (choices.text choices.word) found.enough.now
+    → groups ≡ sets ++ group_lines choices n found.needs.now
     → last ≡ groups ++ flat_map (decided_text n) (option_to_list (option_map told_first found.first.now))
-    → last ≡ text_rules_report found.settings.now (report_of found)
-unfolding text_rules_report
-text_pieces {A = A} found rules n empty head sets groups last same number none first second third fourth =
+    → last ≡ text_enough choices found.settings.now (report_of found)
+unfolding text_enough
+text_pieces {A = A} found choices n empty head sets groups last number none first second third fourth =
     let start = head_lines found.settings.now found.base.now found.traced.now
     (told_promises found.settings.now found.demands.now) found.closed in
     let count = line (codes "enough " ++ decimal (length found.enough.now)) in
-    let all = ordering_rules found.settings.now in
     let patches = length found.traced.now.patches in
     let told = option_to_list (option_map told_first found.first.now) in
     fourth ∙ (ap (λ (k : ℕ). groups ++ flat_map (decided_text k) told) number
     ∙ ap (λ (t : List ℕ). t ++ flat_map (decided_text patches) told) (third
-    ∙ (ap (λ (rs : List Rule). sets ++ group_lines rs n found.needs.now) same
-    ∙ (ap (λ (k : ℕ). sets ++ group_lines all k found.needs.now) number
-    ∙ (ap (λ (t : List ℕ). sets ++ t) (sym (flat_map-map (group_text all patches) (told_group {A = A}) found.needs.now))
-    ∙ ap (λ (t : List ℕ). t ++ flat_map (group_text all patches) (map told_group found.needs.now)) (second
-    ∙ (ap (λ (rs : List Rule). head ++ count ++ flat_map (rules_text rs (codes "rules")) found.enough.now) same
-    ∙ ap (λ (t : List ℕ). t ++ count ++ flat_map (rules_text all (codes "rules")) found.enough.now)
-    (first ∙ ap (λ (t : List ℕ). t ++ start) none))))))))
+    ∙ (ap (λ (k : ℕ). sets ++ group_lines choices k found.needs.now) number
+    ∙ (ap (λ (t : List ℕ). sets ++ t)
+    (sym (flat_map-map (group_text choices patches) (told_group {A = A}) found.needs.now))
+    ∙ ap (λ (t : List ℕ). t ++ flat_map (group_text choices patches) (map told_group found.needs.now)) (second
+    ∙ ap (λ (t : List ℕ). t ++ count ++ flat_map (choices.text choices.word) found.enough.now)
+    (first ∙ ap (λ (t : List ℕ). t ++ start) none))))))
 
 -- the keys of a group's object before the set
-pub group_head_pieces : (rules : List Rule) (group : ℕ) (fault : ToldDecided)
-    (before one two three four five after : List ℕ)
+pub group_head_pieces : (choices : Choices) (group : ℕ) (fault : ToldDecided)
+    (before one two three four after : List ℕ)
     → one ≡ before ++ codes "{\"fault\":"
     → two ≡ one ++ json_string (fault_text fault.decided.fault)
     → three ≡ two ++ codes ","
     → four ≡ three ++ replay_json fault.first.replay
-    → five ≡ four ++ codes "\"rules\":"
-    → after ≡ five ++ set_json rules group
-    → after ≡ before ++ group_head rules group fault
-group_head_pieces rules group fault before one two three four five after first second third fourth fifth sixth =
+    → after ≡ four ++ choices.first_key group
+    → after ≡ before ++ group_head choices group fault
+group_head_pieces choices group fault before one two three four after first second third fourth fifth =
     let text = json_string (fault_text fault.decided.fault) in
     let replay = replay_json fault.first.replay in
-    let set = set_json rules group in
-    sixth ∙ (ap (λ (t : List ℕ). t ++ set) (fifth ∙ ap (λ (t : List ℕ). t ++ codes "\"rules\":")
+    let key = choices.first_key group in
+    fifth ∙ (ap (λ (t : List ℕ). t ++ key)
     (fourth ∙ ap (λ (t : List ℕ). t ++ replay) (third ∙ ap (λ (t : List ℕ). t ++ codes ",")
-    (second ∙ ap (λ (t : List ℕ). t ++ text) first))))
-    ∙ regroup before (codes "{\"fault\":") text (codes ",") replay (codes "\"rules\":") set)
+    (second ∙ ap (λ (t : List ℕ). t ++ text) first)))
+    ∙ regroup before (codes "{\"fault\":") text (codes ",") replay key)
   where
-    regroup : (before a b c d e f : List ℕ)
-        → before ++ a ++ b ++ c ++ d ++ e ++ f ≡ before ++ (a ++ b ++ c ++ d ++ e ++ f)
-    regroup before a b c d e f = simp append_assoc
+    regroup : (before a b c d e : List ℕ) → before ++ a ++ b ++ c ++ d ++ e ≡ before ++ (a ++ b ++ c ++ d ++ e)
+    regroup before a b c d e = simp append_assoc
 
 -- the object of a group
-pub group_pieces : (rules : List Rule) (n : ℕ) (told : ToldGroup) (before one two after : List ℕ)
-    → one ≡ before ++ group_head rules told.group told.fault
-    → two ≡ one ++ codes ","
-    → after ≡ two ++ leading_json n told.fault.decided.fault told.fault.first
-    → after ≡ before ++ group_json rules n told
-group_pieces rules n told before one two after first second third =
-    let head = group_head rules told.group told.fault in
-    third ∙ (ap (λ (t : List ℕ). t ++ leading_json n told.fault.decided.fault told.fault.first)
-    (second ∙ ap (λ (t : List ℕ). t ++ codes ",") first)
-    ∙ regroup before head (codes ",") (codes "\"set\":") (ids_json n told.fault.first.set)
-    (fault_shows_json told.fault.decided.fault told.fault.first) (codes ",\"writes\":")
-    (writes_json n told.fault.first.writes) (codes "}"))
+pub group_pieces : (choices : Choices) (n : ℕ) (told : ToldGroup)
+    (before one two three four five six seven after : List ℕ)
+    → one ≡ before ++ group_head choices told.group told.fault
+    → two ≡ one ++ codes "\"set\":"
+    → three ≡ two ++ ids_json n told.fault.first.set
+    → four ≡ three ++ fault_shows_json told.fault.decided.fault told.fault.first
+    → five ≡ four ++ choices.last_key told.group
+    → six ≡ five ++ codes ",\"writes\":["
+    → seven ≡ six ++ join_of 44 (map (write_json n) told.fault.first.writes)
+    → after ≡ seven ++ codes "]}"
+    → after ≡ before ++ group_json choices n told
+group_pieces choices n told before one two three four five six seven after first second third fourth fifth sixth
+    seventh eighth =
+    let head = group_head choices told.group told.fault in
+    let ids = ids_json n told.fault.first.set in
+    let shows = fault_shows_json told.fault.decided.fault told.fault.first in
+    let key = choices.last_key told.group in
+    let writes = join_of 44 (map (write_json n) told.fault.first.writes) in
+    eighth ∙ (ap (λ (t : List ℕ). t ++ codes "]}") (seventh ∙ ap (λ (t : List ℕ). t ++ writes)
+    (sixth ∙ ap (λ (t : List ℕ). t ++ codes ",\"writes\":[") (fifth ∙ ap (λ (t : List ℕ). t ++ key)
+    (fourth ∙ ap (λ (t : List ℕ). t ++ shows) (third ∙ ap (λ (t : List ℕ). t ++ ids)
+    (second ∙ ap (λ (t : List ℕ). t ++ codes "\"set\":") first))))))
+    ∙ regroup before head (codes "\"set\":") ids shows key (codes ",\"writes\":") (codes "[") writes (codes "]")
+    (codes "}"))
   where
-    regroup : (before f c g h i j k l : List ℕ)
-        → before ++ f ++ c ++ (g ++ h ++ i ++ j ++ k ++ l) ≡ before ++ (f ++ (c ++ g) ++ h ++ i ++ j ++ k ++ l)
-    regroup before f c g h i j k l = simp append_assoc
+    regroup : (before h s i j k q o x p z : List ℕ)
+        → before ++ h ++ s ++ i ++ j ++ k ++ (q ++ o) ++ x ++ (p ++ z)
+        ≡ before ++ (h ++ s ++ i ++ j ++ k ++ q ++ (o ++ x ++ p) ++ z)
+    regroup before h s i j k q o x p z = simp append_assoc
 
 -- the keys up to the sets that are enough
 json_start : (base closed keys items empty one two three four five six after : List ℕ) → empty ≡ []
@@ -127,9 +137,8 @@ json_start base closed keys items empty one two three four five six after none f
     (first ∙ ap (λ (t : List ℕ). t ++ codes "{") none))))))
 
 -- the keys of the whole
-pub json_pieces : {A : Type 0} (found : EnoughFindings A) (rules : List Rule) (n k m : ℕ)
+pub json_pieces : {A : Type 0} (found : EnoughFindings A) (choices : Choices) (n k m : ℕ)
     (empty one two three four five six seven eight nine ten eleven twelve thirteen fourteen last : List ℕ)
-    → rules ≡ ordering_rules found.settings.now
     → n ≡ length found.traced.now.patches → k ≡ length found.traced.now.patches → m ≡ length found.traced.now.patches
     → empty ≡ [] → one ≡ empty ++ codes "{"
     → two ≡ one ++ first_json found.settings.now
@@ -137,48 +146,46 @@ pub json_pieces : {A : Type 0} (found : EnoughFindings A) (rules : List Rule) (n
     → three ≡ two ++ (codes "\"closed\":\"" ++ decimal found.closed ++ codes "\"")
     → four ≡ three ++ promise_keys found.settings.now
     → five ≡ four ++ codes ",\"enough\":["
-    → six ≡ five ++ set_items rules found.enough.now
+    → six ≡ five ++ set_items choices found.enough.now
     → seven ≡ six ++ codes "]"
     → eight ≡ seven ++ first_fault_json k (option_map told_first found.first.now)
     → nine ≡ eight ++ (before_module found.settings.now.generations
     ++ json_string (module_text found.settings.now.module))
     → ten ≡ nine ++ codes ",\"needs\":["
-    → eleven ≡ ten ++ group_items rules m found.needs.now
+    → eleven ≡ ten ++ group_items choices m found.needs.now
     → twelve ≡ eleven ++ (codes "],\"patches\":" ++ decimal n)
     → thirteen ≡ twelve ++ promises_json n (told_promises found.settings.now found.demands.now)
     → fourteen ≡ thirteen ++ from_strict found.settings.now (length found.traced.now.patches)
     (explanation_by found.base.now found.traced.now) (told_promises found.settings.now found.demands.now)
     → last ≡ fourteen ++ codes "}\n"
-    → last ≡ json_rules_report found.settings.now (report_of found)
-unfolding json_rules_report
-json_pieces {A = A} found rules n k m empty one two three four five six seven eight nine ten eleven twelve thirteen
-    fourteen last same n_is k_is m_is none first second third fourth fifth sixth seventh eighth ninth tenth eleventh
+    → last ≡ json_enough choices found.settings.now (report_of found)
+unfolding json_enough
+json_pieces {A = A} found choices n k m empty one two three four five six seven eight nine ten eleven twelve thirteen
+    fourteen last n_is k_is m_is none first second third fourth fifth sixth seventh eighth ninth tenth eleventh
     twelfth thirteenth fourteenth fifteenth =
     let settings = found.settings.now in
     let patches = length found.traced.now.patches in
-    let all = ordering_rules settings in
     let explained = explanation_by found.base.now found.traced.now in
     let promises = told_promises settings found.demands.now in
     let base = first_json settings (when settings.explain explained) in
     let closed = codes "\"closed\":\"" ++ decimal found.closed ++ codes "\"" in
     let keys = promise_keys settings in
-    let sets = set_items all found.enough.now in
+    let sets = set_items choices found.enough.now in
     let fault = first_fault_json patches (option_map told_first found.first.now) in
     let name = before_module settings.generations ++ json_string (module_text settings.module) in
-    let groups = join_of 44 (map (group_json all patches) (map told_group found.needs.now)) in
+    let groups = join_of 44 (map (group_json choices patches) (map told_group found.needs.now)) in
     let number = codes "],\"patches\":" ++ decimal patches in
     let promised = promises_json patches promises in
     let rest = from_strict settings patches explained promises in
     let start : seven ≡ codes "{" ++ base ++ closed ++ keys ++ codes ",\"enough\":[" ++ sets ++ codes "]" =
     json_start base (decimal found.closed) keys sets empty one two three four five six seven none first second third
-    fourth fifth (sixth ∙ ap (λ (rs : List Rule). five ++ set_items rs found.enough.now) same) seventh in
+    fourth fifth sixth seventh in
     let faults : eight ≡ seven ++ fault =
     eighth ∙ ap (λ (j : ℕ). seven ++ first_fault_json j (option_map told_first found.first.now)) k_is in
     let needs : eleven ≡ ten ++ groups =
-    eleventh ∙ (ap (λ (rs : List Rule). ten ++ group_items rs m found.needs.now) same
-    ∙ (ap (λ (j : ℕ). ten ++ group_items all j found.needs.now) m_is
+    eleventh ∙ (ap (λ (j : ℕ). ten ++ group_items choices j found.needs.now) m_is
     ∙ ap (λ (items : List (List ℕ)). ten ++ join_of 44 items)
-    (sym (map-map (group_json all patches) (told_group {A = A}) found.needs.now)))) in
+    (sym (map-map (group_json choices patches) (told_group {A = A}) found.needs.now))) in
     let end : thirteen ≡ eleven ++ number ++ promised =
     thirteenth ∙ (ap (λ (j : ℕ). twelve ++ promises_json j promises) n_is ∙ ap (λ (t : List ℕ). t ++ promised)
     (twelfth ∙ ap (λ (j : ℕ). eleven ++ (codes "],\"patches\":" ++ decimal j)) n_is)) in

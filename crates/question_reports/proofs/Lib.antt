@@ -1,6 +1,7 @@
 pub mod DecisionFaults
 pub mod DecisionPieces
 pub mod EnoughPieces
+pub mod WaitLines
 pub mod Acts
 pub mod SearchForms
 pub mod SearchJsonPieces

@@ -3,8 +3,8 @@ use Rattle.std.proofs.Common.{◌≡◌, ℕ, List, [], ◌++◌, length, map, c
 use Rattle.std.proofs.lemmas.Simd.{map-map}
 use Rattle.report_model.specs.Answer.{ordering_rules}
 use Rattle.crash_model.specs.Lists.{join_of}
-use Rattle.report_model.specs.Report.{ids_json, json_array, json_string, write_json}
-use Rattle.crash_model.specs.Texts.{module_text}
+use Rattle.report_model.specs.Report.{ids_json, json_array, json_string, replay_json, write_json}
+use Rattle.crash_model.specs.Texts.{fault_text, module_text}
 use Rattle.report_model.specs.Whole.{atomic_json, rules_json, told_with, told_without, before_module}
 use Rattle.crash_model.specs.declared.rules.Rule.{Rule}
 use Rattle.crash_model.specs.declared.steps.Step.{Step}
@@ -12,6 +12,7 @@ use Rattle.question_reports.specs.EnoughFindings.{group_head, set_items, told_fi
 use Rattle.json_values.specs.Items.{fault_shows_json}
 use Rattle.report_json.specs.JsonReport.{strict_key, whole_key}
 use Rattle.report_sections.specs.Sections.{section_of}
+use Rattle.question_model.specs.EnoughReport.{rule_choices, set_json}
 use Rattle.question_model.specs.SearchReport.{first_promise_keys, refused_json, step_text}
 use Rattle.question_model.specs.Workloads.{steps_at}
 use Rattle.question_reports.specs.SearchFindings.{last_keys}
@@ -23,8 +24,8 @@ use Rattle.question_reports.specs.declared.search_rules.findings.SearchRulesFind
 -- the object of a group
 pub need_pieces : {A : Type 0} (rules : List Rule) (pool : List Step) (needed : NeededWorkload A) (n : ℕ)
     (before one two three shown four five six seven after : List ℕ) → n ≡ needed.patches
-    → one ≡ before ++ group_head rules needed.group (told_first needed.fault)
-    → two ≡ one ++ codes ",\"set\":"
+    → one ≡ before ++ group_head (rule_choices rules) needed.group (told_first needed.fault)
+    → two ≡ one ++ codes "\"set\":"
     → three ≡ two ++ ids_json needed.patches needed.fault.section.set
     → shown ≡ three ++ fault_shows_json needed.fault.decided.fault (section_of needed.fault.section)
     → four ≡ shown ++ codes ",\"steps\":["
@@ -35,25 +36,28 @@ pub need_pieces : {A : Type 0} (rules : List Rule) (pool : List Step) (needed : 
     → after ≡ before ++ need_json rules (told_need pool needed)
 need_pieces rules pool needed n before one two three shown four five six seven after n_is first second third shows
     fourth fifth sixth seventh eighth =
-    let head = group_head rules needed.group (told_first needed.fault) in
+    let head = group_head (rule_choices rules) needed.group (told_first needed.fault) in
+    let fault = json_string (fault_text needed.fault.decided.fault) in
+    let replay = replay_json (section_of needed.fault.section).replay in
     let ids = ids_json needed.patches needed.fault.section.set in
     let steps = join_of 44 (map (λ step. json_string (step_text step)) (steps_at pool needed.places.items)) in
     let writes = join_of 44 (map (write_json needed.patches) needed.fault.section.writes.items) in
     let showing = fault_shows_json needed.fault.decided.fault (section_of needed.fault.section) in
-    let told : five ≡ before ++ head ++ codes ",\"set\":" ++ ids ++ showing ++ codes ",\"steps\":[" ++ steps =
+    let told : five ≡ before ++ head ++ codes "\"set\":" ++ ids ++ showing ++ codes ",\"steps\":[" ++ steps =
     fifth ∙ ap (λ (t : List ℕ). t ++ steps) (fourth ∙ ap (λ (t : List ℕ). t ++ codes ",\"steps\":[")
     (shows ∙ ap (λ (t : List ℕ). t ++ showing)
-    (third ∙ ap (λ (t : List ℕ). t ++ ids) (second ∙ ap (λ (t : List ℕ). t ++ codes ",\"set\":") first)))) in
+    (third ∙ ap (λ (t : List ℕ). t ++ ids) (second ∙ ap (λ (t : List ℕ). t ++ codes "\"set\":") first)))) in
     eighth ∙ (ap (λ (t : List ℕ). t ++ codes "]}") (seventh
     ∙ (ap (λ (j : ℕ). six ++ join_of 44 (map (write_json j) needed.fault.section.writes.items)) n_is
     ∙ ap (λ (t : List ℕ). t ++ writes) (sixth ∙ ap (λ (t : List ℕ). t ++ codes "],\"writes\":[") told)))
-    ∙ regroup before head (codes ",\"set\":") ids showing (codes ",\"steps\":") (codes "[") steps (codes "]")
-    (codes ",\"writes\":") writes (codes "}"))
+    ∙ regroup before (codes "{\"fault\":" ++ fault ++ codes "," ++ replay) (codes "\"rules\":")
+    (set_json rules needed.group) (codes ",") (codes "\"set\":") ids showing (codes ",\"steps\":") (codes "[") steps
+    (codes "]") (codes ",\"writes\":") writes (codes "}"))
   where
-    regroup : (before h s i j t o p q x y z : List ℕ)
-        → before ++ h ++ s ++ i ++ j ++ (t ++ o) ++ p ++ (q ++ x ++ o) ++ y ++ (q ++ z)
-        ≡ before ++ (h ++ s ++ i ++ j ++ t ++ (o ++ p ++ q) ++ x ++ (o ++ y ++ q) ++ z)
-    regroup before h s i j t o p q x y z = simp append_assoc
+    regroup : (before h r m c s i j t o p q x y z : List ℕ)
+        → before ++ (h ++ (r ++ m ++ c)) ++ s ++ i ++ j ++ (t ++ o) ++ p ++ (q ++ x ++ o) ++ y ++ (q ++ z)
+        ≡ before ++ (h ++ r ++ m ++ (c ++ s) ++ i ++ j ++ t ++ (o ++ p ++ q) ++ x ++ (o ++ y ++ q) ++ z)
+    regroup before h r m c s i j t o p q x y z = simp append_assoc
 
 -- the whole object
 pub json_pieces : {A : Type 0} (f : SearchRulesFindings A) (rules : List Rule)
@@ -63,7 +67,7 @@ pub json_pieces : {A : Type 0} (f : SearchRulesFindings A) (rules : List Rule)
     → half ≡ zero ++ atomic_json f.settings.now.atomic
     → keyed ≡ half ++ first_promise_keys f.settings.now
     → one ≡ keyed ++ codes "\"enough\":["
-    → two ≡ one ++ set_items rules f.enough.now
+    → two ≡ one ++ set_items (rule_choices rules) f.enough.now
     → three ≡ two ++ (codes "],\"failing\":" ++ decimal f.found.now.failing)
     → four ≡ three ++ (before_module f.settings.now.generations ++ json_string (module_text f.settings.now.module))
     → five ≡ four ++ codes ",\"needs\":["
@@ -80,14 +84,14 @@ json_pieces {A = A} f rules empty zero half keyed one two three four five six se
     let all = ordering_rules settings in
     let atomic = atomic_json settings.atomic in
     let keys = first_promise_keys settings in
-    let sets = set_items all f.enough.now in
+    let sets = set_items (rule_choices all) f.enough.now in
     let failing = codes "],\"failing\":" ++ decimal found.failing in
     let name = before_module settings.generations ++ json_string (module_text settings.module) in
     let needs = join_of 44 (map (need_json all) (told_needs f)) in
     let end = last_keys settings f.most pool found in
     let start : four ≡ codes "{" ++ atomic ++ keys ++ codes "\"enough\":[" ++ sets ++ failing ++ name =
     fourth ∙ ap (λ (t : List ℕ). t ++ name) (third ∙ ap (λ (t : List ℕ). t ++ failing) (second
-    ∙ (ap (λ (rs : List Rule). one ++ set_items rs f.enough.now) same
+    ∙ (ap (λ (rs : List Rule). one ++ set_items (rule_choices rs) f.enough.now) same
     ∙ ap (λ (t : List ℕ). t ++ sets) (first ∙ ap (λ (t : List ℕ). t ++ codes "\"enough\":[")
     (keys_are ∙ ap (λ (t : List ℕ). t ++ keys)
     (atomic_is ∙ ap (λ (t : List ℕ). t ++ atomic) (opened ∙ ap (λ (t : List ℕ). t ++ codes "{") none))))))) in

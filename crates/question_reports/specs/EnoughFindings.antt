@@ -4,9 +4,8 @@ use Rattle.crash_model.specs.declared.separators.TheConstants.{COMMA}
 use Rattle.crash_model.specs.Lists.{join_of, when}
 use Rattle.crash_model.specs.Texts.{fault_text}
 use Rattle.report_model.specs.Report.{json_string, replay_json}
-use Rattle.crash_model.specs.declared.rules.Rule.{Rule}
 use Rattle.question_model.specs.Decision.{ToldDecided}
-use Rattle.question_model.specs.EnoughReport.{RulesReport, ToldGroup, set_json, group_json, group_text}
+use Rattle.question_model.specs.EnoughReport.{Choices, EnoughFound, ToldGroup, group_json, group_text}
 use Rattle.report_json.specs.JsonReport.{told_promises}
 use Rattle.report_sections.specs.Bodies.{explanation_by}
 use Rattle.report_sections.specs.Sections.{section_of}
@@ -20,7 +19,7 @@ told_first f = record { decided = f.decided; first = section_of f.section }
 abbrev pub told_group : {A : Type 0} → NeededGroup A → ToldGroup
 told_group needed = record { group = needed.group; fault = told_first needed.fault }
 
-abbrev pub report_of : {A : Type 0} → EnoughFindings A → RulesReport
+abbrev pub report_of : {A : Type 0} → EnoughFindings A → EnoughFound
 report_of f = record {
   patches = length f.traced.now.patches;
   closed = f.closed;
@@ -32,19 +31,19 @@ report_of f = record {
 }
 
 -- the lines of groups, where patches are n in all
-abbrev pub group_lines : {A : Type 0} → List Rule → ℕ → List (NeededGroup A) → List ℕ
-group_lines rules n groups = flat_map (λ needed. group_text rules n (told_group needed)) groups
+abbrev pub group_lines : {A : Type 0} → Choices → ℕ → List (NeededGroup A) → List ℕ
+group_lines choices n groups = flat_map (λ needed. group_text choices n (told_group needed)) groups
 
 -- the arrays of sets and the objects of groups, with a comma between two
-abbrev pub set_items : List Rule → List ℕ → List ℕ
-set_items rules sets = join_of COMMA (map (set_json rules) sets)
+abbrev pub set_items : Choices → List ℕ → List ℕ
+set_items choices sets = join_of COMMA (map choices.json sets)
 
-abbrev pub group_items : {A : Type 0} → List Rule → ℕ → List (NeededGroup A) → List ℕ
-group_items rules n groups = join_of COMMA (map (λ needed. group_json rules n (told_group needed)) groups)
+abbrev pub group_items : {A : Type 0} → Choices → ℕ → List (NeededGroup A) → List ℕ
+group_items choices n groups = join_of COMMA (map (λ needed. group_json choices n (told_group needed)) groups)
 
--- the keys of a group's object before the set
-abbrev pub group_head : List Rule → ℕ → ToldDecided → List ℕ
-group_head rules group fault =
+-- the keys of a group's object before its set
+abbrev pub group_head : Choices → ℕ → ToldDecided → List ℕ
+group_head choices group fault =
     codes "{\"fault\":" ++ json_string (fault_text fault.decided.fault) ++ codes ","
     ++ replay_json fault.first.replay
-    ++ codes "\"rules\":" ++ set_json rules group
+    ++ choices.first_key group

@@ -1,3 +1,4 @@
+pub mod Chosen
 pub mod DecisionParts
 pub mod EnoughFindings
 pub mod SearchFindings

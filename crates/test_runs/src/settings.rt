@@ -13,7 +13,7 @@ const PLAIN: Visit = Visit {
 };
 
 /// Words, and the question that they ask.
-const ASKED: [(&[&str], Question); 8] = [
+const ASKED: [(&[&str], Question); 9] = [
     (&[], Question::Visit(PLAIN)),
     (
         &["--summary", "--limit=1"],
@@ -25,6 +25,7 @@ const ASKED: [(&[&str], Question); 8] = [
     ),
     (&["--decide", "--workers=2", "--strict"], Question::Decide),
     (&["--enough", "--workers=2", "--strict"], Question::Enough),
+    (&["--syncs", "--strict", "--enough"], Question::EnoughLines),
     (&["--search=1"], Question::Search(WorkloadLength::One)),
     (
         &["--strict", "--search", "8"],

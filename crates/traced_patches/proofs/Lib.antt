@@ -2,3 +2,4 @@ pub mod Labelled
 pub mod ReasonTexts
 pub mod RulePairs
 pub mod Told
+pub mod ForcedBefore

@@ -1,9 +1,10 @@
 //! What a patch is of its operation, and which patches wait for which.
 
-ghost use Rattle.std.specs.Prelude.{◌≡◌, ◌<◌, ◌||◌};
+ghost use Rattle.std.specs.Prelude.{◌≡◌, ◌<◌, ◌≤◌, ◌||◌, length};
 ghost use Rattle.std.specs.List.{list_any};
 ghost use Rattle.crash_model.specs.Trace.{is_same_group, groups_depend, waits_for, applies};
-ghost use Rattle.traced_patches.specs.Labels.{group_by, links_by, emitted_of};
+ghost use Rattle.crash_model.specs.ChosenWaits.{forced_before};
+ghost use Rattle.traced_patches.specs.Labels.{group_by, links_by, emitted_of, waits_by};
 
 use crash_model::names::GroupName;
 use crash_model::operations::Op;
@@ -111,4 +112,19 @@ pub fn is_in_group(group: Option<&GroupName>, name: &GroupName) -> bool
         Some(group) => group.same(name),
         None => false,
     }
+}
+
+/// What lines of a set force that stand before a line, as a set. A line that waits is in the set if its place among all
+/// of them is.
+pub fn forced_before(waits: &[Wait<'_>], chosen: u128, line: usize) -> u128
+    requires { length waits.now ≤ 128 }
+    ensures { result ≡ forced_before (waits_by waits.now) chosen line }
+{
+    let mut forced = 0;
+    for (place, wait) in waits.iter().enumerate() {
+        if has(chosen, place) && wait.step.line < line {
+            forced |= wait.ids;
+        }
+    }
+    forced
 }

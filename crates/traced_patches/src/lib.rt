@@ -9,6 +9,8 @@ mod pairs;
 mod reasons;
 mod traced;
 
-pub use labels::{Label, Link, Origin, Wait, applies, is_forced, is_in_group, waits};
+pub use labels::{
+    Label, Link, Origin, Wait, applies, forced_before, is_forced, is_in_group, waits,
+};
 pub use reasons::{Reason, Reasons};
 pub use traced::Traced;

@@ -5,6 +5,7 @@ ghost use Rattle.report_model.specs.Answer.{ordering_rules};
 ghost use Rattle.question_model.specs.SearchRulesReport.{json_search_rules, need_json};
 ghost use Rattle.question_reports.specs.SearchRulesFindings.{need_items, told_need, told_needs};
 
+use crate::enough::choices::Choices;
 use crate::enough::json::{write_group_head, write_sets};
 use crate::search::json::{write_first_promise_keys, write_last_keys, write_steps};
 use crate::search_rules::findings::{NeededWorkload, SearchRulesFindings};
@@ -50,7 +51,7 @@ fn write_findings<A: Allocator + Copy>(
     write_atomic_key(out, findings.settings.atomic)?;
     write_first_promise_keys(out, findings.settings)?;
     out.push_str("\"enough\":[")?;
-    write_sets(out, ordering, findings.enough)?;
+    write_sets(out, Choices::Rules(ordering), findings.enough)?;
     write!(out, "],\"failing\":{failing}")?;
     write_disk_and_module(out, findings.settings)?;
     out.push_str(",\"needs\":[")?;
@@ -92,8 +93,9 @@ fn write_need<A: Allocator + Copy>(
 {
     let section = &needed.fault.section;
     let mut known = KnownTexts::new(heap, needed.patches)?;
-    write_group_head(out, &mut known, ordering, needed.group, &needed.fault)?;
-    out.push_str(",\"set\":")?;
+    let choices = Choices::Rules(ordering);
+    write_group_head(out, &mut known, choices, needed.group, &needed.fault)?;
+    out.push_str("\"set\":")?;
     push_set(out, needed.patches, section.set)?;
     push_shows(out, needed.fault.decided.fault, section)?;
     out.push_str(",\"steps\":[")?;

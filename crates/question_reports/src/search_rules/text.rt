@@ -5,7 +5,8 @@ ghost use Rattle.question_model.specs.SearchRulesReport.{need_text, text_search_
 ghost use Rattle.question_reports.specs.SearchRulesFindings.{need_lines, told_need, told_needs};
 
 use crate::decision::write_decided;
-use crate::enough::text::{write_set, write_sets};
+use crate::enough::choices::Choices;
+use crate::enough::text::write_sets;
 use crate::search::text::{write_head, write_steps};
 use crate::search_rules::findings::{NeededWorkload, SearchRulesFindings};
 use crash_model::orderings::Ordering;
@@ -34,7 +35,7 @@ pub fn search_rules_text<A: Allocator + Copy>(
         pool,
         findings.found,
     )?;
-    write_sets(&mut out, &ordering, findings.enough)?;
+    write_sets(&mut out, Choices::Rules(&ordering), findings.enough)?;
     write_needs(&mut out, &ordering, findings.pool, findings.needs)?;
     Ok(out)
 }
@@ -66,7 +67,7 @@ fn write_need<A: Allocator + Copy>(
     ensures { OnOk result (string_bytes out.new
         ≡ string_bytes out.old ++ need_text ordering.now.rules.items (told_need pool.now needed.now)) }
 {
-    write_set(out, "needs", ordering, needed.group)?;
+    Choices::Rules(ordering).write_line(out, "needs", needed.group)?;
     write_steps(out, pool, needed.places.as_slice())?;
     write_decided(
         out,

@@ -2,12 +2,13 @@ use Rattle.std.proofs.Common.{List, ℕ, All, length, map, string_bytes, sym, su
 use Rattle.std.specs.Int.{from_bool}
 use Rattle.std.specs.Prelude.{None, option_map, if◌then◌else◌}
 use Rattle.patch_sets.specs.Closed.{AreEarlier}
-use Rattle.report_model.specs.Answer.{detail_of}
+use Rattle.report_model.specs.Answer.{detail_of, ordering_rules}
 use Rattle.crash_model.specs.Lists.{when}
 use Rattle.crash_model.specs.Patches.{CountsClosed, deps_of}
 use Rattle.crash_model.specs.Checker.{IsFailingUnder}
+use Rattle.crash_model.specs.declared.rules.Rule.{Rule}
 use Rattle.question_model.specs.Enough.{AreEnough, rules_but}
-use Rattle.question_model.specs.EnoughReport.{IsToldAny, rules_report_bytes}
+use Rattle.question_model.specs.EnoughReport.{IsToldAny, enough_bytes, rule_choices}
 use Rattle.enough_deciding.specs.Rules.{IsTracingOf, tracing_of}
 use Rattle.enough_deciding.proofs.Tracings.{one_tracing}
 use Rattle.question_reports.specs.EnoughFindings.{told_first, told_group}
@@ -45,8 +46,8 @@ returns-clause-reported g c = λ last is.
     let any = subst (λ ps. IsToldAny (detail_of settings script.demands) script.base.now ps
     (option_map told_first first))
     c.graph.ensures (c.in_ok-first.ensures.told earlier) in
-    let form : List ℕ → List (NeededGroup g.row.A.Denot) → List ℕ = λ enough groups.
-    rules_report_bytes settings (record {
+    let form : List Rule → List ℕ → List (NeededGroup g.row.A.Denot) → List ℕ = λ rules enough groups.
+    enough_bytes (rule_choices rules) settings (record {
       patches = length t.patches;
       closed = c.closed_number.result;
       explanation = when settings.explain (explanation_by script.base.now t);
@@ -55,12 +56,15 @@ returns-clause-reported g c = λ last is.
       needs = map told_group groups;
       first = option_map told_first first;
     }) in
+    let enough : List ℕ = c.deref-2.result.now in
+    let groups : List (NeededGroup g.row.A.Denot) = c.deref-3.result.now in
     is_enough_report settings script.demands script.base.now t last c.closed_number.result
     c.in_ok-found.found.enough.items c.in_ok-found.found.needed.items c.in_ok-needs.needs.items first
     (string_bytes c.in_ok-enough_report.field-0) _ is counted (found.enough last of_trace) (found.needed last of_trace)
     (needs.groups ∙ c.deref.ensures.value) (needs.told last of_trace) any
     (c.from.ensures ∙ (ap from_bool c.is_some.ensures ∙ number_of first))
-    (c.in_ok-enough_report.ensures ∙ ap₂ form c.deref-2.ensures.value c.deref-3.ensures.value)
+    (c.in_ok-enough_report.ensures ∙ (ap (λ (rules : List Rule). form rules enough groups)
+    c.ordering-ordering.ensures.rules ∙ ap₂ (form (ordering_rules settings)) c.deref-2.ensures.value c.deref-3.ensures.value))
 
 pub returns-clause-safe : goal.returns-clause-safe
 returns-clause-safe g c = λ none.

@@ -1,8 +1,9 @@
-use Rattle.std.proofs.Common.{rules, ◌≡◌, ◌≢◌, List, Err, IfOk, IfErr, ap, subst, sym}
+use Rattle.std.proofs.Common.{rules, ◌≡◌, ◌≢◌, List, Err, IfOk, IfErr, ap, subst, sym, ◌∙◌}
 use Rattle.std.specs.Prelude.{All, string_bytes}
 use Rattle.std.proofs.lemmas.Result.{IfErr-weaker, IfOk-weaker}
 use Rattle.report_model.specs.Answer.{Refused, Reported, untraced}
 use Rattle.crash_model.specs.Refusals.{run_of_script}
+use Rattle.crash_model.specs.ChosenWaits.{up_to_wait}
 use Rattle.crash_model.specs.Script.{IsAct}
 use Rattle.crash_model.specs.declared.refusals.RunFault.TheVariants.{OutOfMemory}
 use Rattle.crash_model.specs.declared.steps.Step.{Step}
@@ -10,12 +11,15 @@ use Rattle.question_model.specs.Answers.{IsAnswerTo}
 use Rattle.question_model.specs.Asked.{CanBeAsked}
 use Rattle.question_model.specs.Decision.{IsDecision}
 use Rattle.question_model.specs.EnoughReport.{IsEnoughReport}
+use Rattle.question_model.specs.LinesReport.{IsLinesReport}
+use Rattle.question_model.specs.declared.question.TheConstants.{MAX_SYNCS}
 use Rattle.crash_text.specs.BaseRefusal.{IsBaseRefusal}
 use Rattle.crash_text.specs.Searching.{IsPoolRefusal, IsSearchOf}
 use Rattle.crash_text.specs.SearchingRules.{IsRuleSearchOf}
 use Rattle.crash_text.specs.Traced.{IsTraced, IsTraceRefusal, RisksNothing}
-use Rattle.crash_text.proofs.Answering.{has_base, nothing_at_risk, refused_script, refused_base, refused_steps, reported_on}
-use Rattle.crash_text.proofs.Answering.{reported_visit, refused_visit, refused_pool, reported_pool, reported_rules}
+use Rattle.crash_text.proofs.Answering.{has_base, nothing_at_risk, refused_script, refused_base, refused_steps}
+use Rattle.crash_text.proofs.Answering.{reported_on, reported_visit, refused_visit, refused_pool, reported_pool}
+use Rattle.crash_text.proofs.Answering.{reported_rules, refused_lines, refused_waits, whole_steps}
 use Rattle.crash_text.proofs.Pools.{are_acts}
 use Rattle.crash_text.proofs.run.run.Goals as goal
 
@@ -198,6 +202,80 @@ returns-in-Enough-clause-full g c = λ full none nothing.
     c.in_ok-enough-in-Enough.ensures.safe (c.in_ok-script-in-Enough.ensures.full full none
     (nothing_at_risk c.args.script.now asked.settings base read.traced.items _ start c.deref-in-Enough.ensures.value
     (subst (λ q. RisksNothing q c.args.script.now asked.settings) c.in-Enough.is nothing)))
+
+-- ---- the lines that are enough
+
+pub returns-in_err-script-in-EnoughLines-clause-refused : goal.returns-in_err-script-in-EnoughLines-clause-refused
+returns-in_err-script-in-EnoughLines-clause-refused g c =
+    let asked = c.args.request.now in
+    let read = c.in_ok-read.read in
+    let base = c.in_ok-built.built in
+    let fault = c.in_err-script-in-EnoughLines.field-0.0 in
+    let start = has_base c.args.script.now asked.settings read.base.items _ read.traced.items base
+    c.in_ok-read.ensures.ok c.in_ok-built.ensures.lawful c.deref.ensures.value c.in_ok-built.ensures.built in
+    let cut = c.up_to_limit-steps in
+    let first = cut.ensures ∙ ap (up_to_wait MAX_SYNCS) c.deref-in-EnoughLines.ensures.value in
+    let same : c.from_residual-in_err-script-in-EnoughLines.result ≡ Err fault = search rules in
+    subst (λ r. IfErr r (λ f. f ≢ OutOfMemory
+    → IsAnswerTo asked.question c.args.script.now asked.settings (Refused f))) (sym same)
+    (λ memory. subst (λ q. IsAnswerTo q c.args.script.now asked.settings (Refused fault)) (sym c.in-EnoughLines.is)
+    (refused_lines c.args.script.now asked.settings base read.traced.items cut.result.now fault start first
+    (c.in_err-script-in-EnoughLines.ensures.refused memory)))
+
+pub returns-in_err-check_waits-in-EnoughLines-clause-refused :
+    goal.returns-in_err-check_waits-in-EnoughLines-clause-refused
+returns-in_err-check_waits-in-EnoughLines-clause-refused g c =
+    let asked = c.args.request.now in
+    let read = c.in_ok-read.read in
+    let base = c.in_ok-built.built in
+    let fault = c.in_err-check_waits-in-EnoughLines.field-0.0 in
+    let start = has_base c.args.script.now asked.settings read.base.items _ read.traced.items base
+    c.in_ok-read.ensures.ok c.in_ok-built.ensures.lawful c.deref.ensures.value c.in_ok-built.ensures.built in
+    let cut = c.up_to_limit-steps in
+    let first = cut.ensures ∙ ap (up_to_wait MAX_SYNCS) c.deref-in-EnoughLines.ensures.value in
+    let same : c.from_residual-in_err-check_waits-in-EnoughLines.result ≡ Err fault = search rules in
+    subst (λ r. IfErr r (λ f. f ≢ OutOfMemory
+    → IsAnswerTo asked.question c.args.script.now asked.settings (Refused f))) (sym same)
+    (λ memory. subst (λ q. IsAnswerTo q c.args.script.now asked.settings (Refused fault)) (sym c.in-EnoughLines.is)
+    (refused_waits c.args.script.now asked.settings base read.traced.items cut.result.now
+    c.in_ok-script-in-EnoughLines.script fault start first c.in_ok-script-in-EnoughLines.ensures.traced
+    c.in_err-check_waits-in-EnoughLines.ensures.refused))
+
+pub returns-in-EnoughLines-clause-reported : goal.returns-in-EnoughLines-clause-reported
+returns-in-EnoughLines-clause-reported g c =
+    let asked = c.args.request.now in
+    let read = c.in_ok-read.read in
+    let base = c.in_ok-built.built in
+    let start = has_base c.args.script.now asked.settings read.base.items _ read.traced.items base
+    c.in_ok-read.ensures.ok c.in_ok-built.ensures.lawful c.deref.ensures.value c.in_ok-built.ensures.built in
+    let script = c.in_ok-script-in-EnoughLines.script in
+    let outcome = c.in_ok-enough_lines-in-EnoughLines.field-0 in
+    let cut = c.up_to_limit-steps in
+    let first = cut.ensures ∙ ap (up_to_wait MAX_SYNCS) c.deref-in-EnoughLines.ensures.value in
+    let traced = c.in_ok-script-in-EnoughLines.ensures.traced in
+    let whole = whole_steps c.args.script.now asked.settings base read.traced.items cut.result.now script first traced
+    c.in_ok-check_waits-in-EnoughLines.ensures.few in
+    subst (λ q. IsAnswerTo q c.args.script.now asked.settings (Reported (string_bytes outcome.text) outcome.number))
+    (sym c.in-EnoughLines.is)
+    (reported_on c.args.script.now asked.settings (IsLinesReport asked.settings) base read.traced.items script
+    (string_bytes outcome.text) outcome.number start (subst (λ s. IsTraced asked.settings base s script) whole traced)
+    c.in_ok-enough_lines-in-EnoughLines.ensures.reported)
+
+pub returns-in-EnoughLines-clause-full : goal.returns-in-EnoughLines-clause-full
+returns-in-EnoughLines-clause-full g c = λ full none nothing.
+    let asked = c.args.request.now in
+    let read = c.in_ok-read.read in
+    let base = c.in_ok-built.built in
+    let start = has_base c.args.script.now asked.settings read.base.items _ read.traced.items base
+    c.in_ok-read.ensures.ok c.in_ok-built.ensures.lawful c.deref.ensures.value c.in_ok-built.ensures.built in
+    let script = c.in_ok-script-in-EnoughLines.script in
+    let cut = c.up_to_limit-steps in
+    let first = cut.ensures ∙ ap (up_to_wait MAX_SYNCS) c.deref-in-EnoughLines.ensures.value in
+    let whole = whole_steps c.args.script.now asked.settings base read.traced.items cut.result.now script first
+    c.in_ok-script-in-EnoughLines.ensures.traced c.in_ok-check_waits-in-EnoughLines.ensures.few in
+    c.in_ok-enough_lines-in-EnoughLines.ensures.safe (c.in_ok-script-in-EnoughLines.ensures.full full none
+    (nothing_at_risk c.args.script.now asked.settings base read.traced.items _ start whole
+    (subst (λ q. RisksNothing q c.args.script.now asked.settings) c.in-EnoughLines.is nothing)))
 
 -- ---- a search, and one for rules
 

@@ -5,7 +5,7 @@ use Rattle.crash_model.specs.Texts.{fault_text}
 use Rattle.crash_model.specs.declared.fault.Fault.TheVariants.{Unwritten, MarkedFree}
 use Rattle.crash_model.specs.declared.operations.Op.TheVariants.{Create, Write}
 use Rattle.crash_model.specs.declared.steps.Act.TheVariants.{Do}
-use Rattle.question_model.specs.EnoughReport.{text_rules_report, json_rules_report}
+use Rattle.question_model.specs.EnoughReport.{text_enough, json_enough}
 use Rattle.worked_example_laws.specs.Examples.{root}
 use Rattle.worked_example_laws.specs.Opened.{planner, checker}
 use Rattle.question_laws.specs.Asked.{with_block_rules}
@@ -13,7 +13,7 @@ use Rattle.question_laws.proofs.Scripted.{needed}
 use Rattle.question_laws.proofs.examples.two_sets_of_rules_are_enough_for_a_first_block.Goals as goal
 
 pub returns : goal.returns
-unfolding planner checker fault_text text_rules_report json_rules_report digits
+unfolding planner checker fault_text text_enough json_enough digits
 returns c = needed with_block_rules (Do (Create (root (codes "a"))) ∷ [])
     (Do (Write (root (codes "a"))) ∷ []) 4 _ refl refl
     (3 ∷ 5 ∷ [])

@@ -1,4 +1,5 @@
 use Rattle.std.proofs.Common.{◌≡◌, length, ◌∙◌}
+use Rattle.question_reports.specs.Chosen.{choices_of}
 use Rattle.question_reports.proofs.EnoughPieces.{json_pieces}
 use Rattle.question_reports.proofs.enough.json.write_findings.Goals as goal
 
@@ -7,8 +8,8 @@ returns g c =
     let found = c.args.found.now in
     let number : c.len-patches.result ≡ length found.traced.now.patches = cc in
     let known = c.requires.known in
-    json_pieces found c.args.ordering.now.rules.items c.len-patches.result _ _ _ _ _ _ _ _ _ _ _ _ _ _ _ _ _ _
-    c.requires.ordering number known (c.in_ok-write_first.ensures.known ∙ known) c.requires.empty
+    json_pieces found (choices_of found.choices) c.len-patches.result _ _ _ _ _ _ _ _ _ _ _ _ _ _ _ _ _ _
+    number known (c.in_ok-write_first.ensures.known ∙ known) c.requires.empty
     c.in_ok-push_str.ensures.bytes (c.in_ok-write_first_keys.ensures found.traced.now)
     c.in_ok-write.ensures.bytes c.in_ok-write_promise_keys.ensures c.in_ok-push_str-2.ensures.bytes
     c.in_ok-write_sets.ensures c.in_ok-push_str-3.ensures.bytes

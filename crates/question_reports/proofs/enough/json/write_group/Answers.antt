@@ -1,7 +1,8 @@
-use Rattle.std.proofs.Common.{◌≡◌, ◌++◌, ℕ, string_bytes, ap, ◌∙◌}
-use Rattle.std.proofs.lemmas.Result.{on_ok_weaker}
-use Rattle.question_model.specs.EnoughReport.{group_json}
-use Rattle.json_values.specs.Items.{leading_json}
+use Rattle.std.proofs.Common.{◌≡◌, ◌++◌, List, ℕ, map, string_bytes, ap, ◌∙◌}
+use Rattle.crash_model.specs.Lists.{join_of}
+use Rattle.report_model.specs.Report.{ids_json, write_json}
+use Rattle.patch_sets.specs.declared.write.BlockWrite.{BlockWrite}
+use Rattle.question_reports.specs.Chosen.{choices_of}
 use Rattle.question_reports.specs.EnoughFindings.{told_group}
 use Rattle.question_reports.proofs.EnoughPieces.{group_pieces}
 use Rattle.question_reports.proofs.enough.json.write_group.Goals as goal
@@ -9,14 +10,14 @@ use Rattle.question_reports.proofs.enough.json.write_group.Goals as goal
 pub returns-clause-text : goal.returns-clause-text
 returns-clause-text g c =
     let n = c.args.known.now in
-    let rules = c.args.ordering.now.rules.items in
-    let told = told_group c.args.needed.now in
-    let before = string_bytes c.push_str.new.self in
+    let section = c.args.needed.now.fault.section in
     let same : c.write_group_head.new.known ≡ n = c.in_ok-write_group_head.ensures.known in
-    on_ok_weaker {P = string_bytes c.push_leading.new.out ≡ before
-    ++ leading_json c.write_group_head.new.known told.fault.decided.fault told.fault.first}
-    {Q = string_bytes c.push_leading.new.out ≡ string_bytes c.args.out.now ++ group_json rules n told}
-    c.push_leading.result
-    (λ wrote. group_pieces rules n told _ _ _ _ c.in_ok-write_group_head.ensures.text c.in_ok-push_str.ensures.bytes
-    (wrote ∙ ap (λ (k : ℕ). before
-    ++ leading_json k told.fault.decided.fault told.fault.first) same)) c.push_leading.ensures.text
+    let set = ap (λ (k : ℕ). string_bytes c.push_str.new.self ++ ids_json k section.set) (c.patches.ensures ∙ same) in
+    let slice = ap (λ (ws : List BlockWrite). string_bytes c.push_str-2.new.self
+    ++ join_of 44 (map (write_json c.write_group_head.new.known) ws)) c.deref.ensures.value in
+    let writes = ap (λ (k : ℕ). string_bytes c.push_str-2.new.self
+    ++ join_of 44 (map (write_json k) section.writes.items)) same in
+    group_pieces (choices_of c.args.choices) n (told_group c.args.needed.now) _ _ _ _ _ _ _ _ _
+    c.in_ok-write_group_head.ensures.text c.in_ok-push_str.ensures.bytes (c.in_ok-push_set.ensures ∙ set)
+    c.in_ok-push_shows.ensures c.in_ok-write_last_key.ensures c.in_ok-push_str-2.ensures.bytes
+    (c.in_ok-push_writes.ensures.text ∙ (slice ∙ writes)) c.in_ok-push_str-3.ensures.bytes

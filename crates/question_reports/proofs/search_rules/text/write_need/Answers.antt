@@ -10,7 +10,7 @@ use Rattle.question_reports.proofs.search_rules.text.write_need.Goals as goal
 pub returns : goal.returns
 returns g c =
     let pool = c.args.pool.now in
-    let steps = ap (λ (places : List ℕ). string_bytes c.write_set.new.out
+    let steps = ap (λ (places : List ℕ). string_bytes c.write_line.new.out
     ++ flat_map (λ step. line (codes "step " ++ step_text step)) (steps_at pool places)) c.as_slice.ensures.value in
     need_pieces c.args.ordering.now.rules.items (told_need pool c.args.needed.now) (string_bytes c.args.out.now) _ _ _
-    c.in_ok-write_set.ensures (c.in_ok-write_steps.ensures ∙ steps) c.in_ok-write_decided.ensures
+    c.in_ok-write_line.ensures (c.in_ok-write_steps.ensures ∙ steps) c.in_ok-write_decided.ensures

@@ -1,0 +1,107 @@
+//! A traced script, answered by which of its lines that wait are enough.
+
+ghost use Rattle.std.specs.Prelude.{◌≡◌, ◌≤◌, length, string_bytes, IfOk, IfErr};
+ghost use Rattle.crash_model.specs.ChosenWaits.{up_to_wait, waits};
+ghost use Rattle.question_model.specs.LinesReport.{IsLinesReport};
+ghost use Rattle.question_model.specs.declared.question.TheConstants.{MAX_SYNCS};
+ghost use Rattle.report_sections.specs.Bodies.{AreOnBase};
+ghost use Rattle.crash_text.specs.Lines.{HasTooManyWaits};
+ghost use Rattle.crash_text.specs.Traced.{IsReportOn, NoneFails};
+
+use crate::host::Host;
+use crate::run::Outcome;
+use crate::traced_script::TracedScript;
+use crash_model::refusals::RunFault;
+use crash_model::settings::Settings;
+use crash_model::steps::{Act, Step};
+use enough_deciding::LineOracle;
+use fault_deciding::closed_number;
+use first_crashes::{first_fault, needed_lines};
+use question_model::MAX_SYNCS;
+use question_reports::{Choices, EnoughFindings, enough_report};
+use std::alloc::{AllocError, Allocator};
+
+/// Finds which lines of a traced script have to wait, and reports. It fails only when out of memory.
+pub(crate) fn enough_lines<R, A: Allocator + Copy>(
+    host: &Host<'_, R, A>,
+    settings: &Settings,
+    script: &TracedScript<'_, A>,
+) -> Result<Outcome<A>, AllocError>
+    requires on_base { AreOnBase script.now.base.now script.now.traced.patches }
+    requires few { length script.now.traced.waits ≤ MAX_SYNCS }
+    ensures reported { IfOk result (λ outcome.
+        IsReportOn (IsLinesReport settings.now) settings.now script.now (string_bytes outcome.text)
+        outcome.number) }
+    ensures safe { NoneFails script.now → IfOk result (λ outcome. outcome.number ≡ 0) }
+{
+    host.notes.note_script(&script.traced, &script.demands);
+    let oracle = LineOracle {
+        alloc: host.alloc,
+        base: script.base,
+        traced: &script.traced,
+        demands: &script.demands,
+    };
+    let found = oracle.enough_sets()?;
+    let needs = needed_lines(&oracle, settings.explain, &found.needed)?;
+    let first = first_fault(
+        host.alloc,
+        script.base,
+        script.traced.graph(),
+        settings.explain,
+        &script.demands,
+    )?;
+    if let Some(first) = &first {
+        host.notes.shown.set(Some(first.decided));
+    }
+    let findings = EnoughFindings {
+        demands: &script.demands,
+        base: script.base,
+        traced: &script.traced,
+        settings,
+        choices: Choices::Lines(script.traced.waits()),
+        closed: closed_number(script.traced.graph()),
+        enough: &found.enough,
+        needs: &needs,
+        first: &first,
+    };
+    Ok(Outcome {
+        text: enough_report(host.heap, host.alloc, &findings)?,
+        number: usize::from(first.is_some()),
+    })
+}
+
+/// The steps up to and with the first line that waits past the limit, or all steps.
+pub(crate) fn up_to_limit(steps: &[Step]) -> &[Step]
+    ensures { result.now ≡ up_to_wait MAX_SYNCS steps.now }
+{
+    let mut waiting = 0;
+    for (at, step) in steps.iter().enumerate() {
+        if waits(&step.act) {
+            if waiting == MAX_SYNCS {
+                return &steps[..=at];
+            }
+            waiting += 1;
+        }
+    }
+    steps
+}
+
+/// Whether an act waits.
+fn waits(act: &Act) -> bool
+    ensures { result ≡ waits act.now }
+{
+    matches!(act, Act::Sync | Act::Fsync(_))
+}
+
+/// Refuses a trace with more lines that wait than can be asked about, at the first that is too many.
+pub(crate) fn check_waits<A: Allocator + Copy>(script: &TracedScript<'_, A>) -> Result<(), RunFault>
+    ensures few { IfOk result (λ _. length script.now.traced.waits ≤ MAX_SYNCS) }
+    ensures refused { IfErr result (λ fault. HasTooManyWaits script.now.traced.waits fault) }
+{
+    match script.traced.waits().get(MAX_SYNCS) {
+        Some(wait) => Err(RunFault::TooManySyncs {
+            line: wait.step.line,
+        }),
+        None => Ok(()),
+    }
+}

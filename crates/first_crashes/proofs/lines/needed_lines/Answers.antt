@@ -1,0 +1,17 @@
+use Rattle.std.proofs.Common.{refl}
+use Rattle.first_crashes.specs.SparingLines.{IsToldWithout}
+use Rattle.first_crashes.proofs.Without.{group_more, told_more}
+use Rattle.first_crashes.proofs.lines.needed_lines.Goals as goal
+
+pub fault_without-requires : goal.fault_without-requires
+fault_without-requires g c = c.requires c.loop-group.group-index 0 c.loop-group-test.true
+
+pub loop-group-preserved : goal.loop-group-preserved
+loop-group-preserved g c =
+    let before = c.loop-group.invariant in
+    record {
+      groups = group_more c.args.groups.now c.loop-group.group-index c.loop-group.needs.items _ _
+          c.loop-group-test.true before.groups refl c.in_ok-push.ensures.items;
+      told = λ s of_trace. told_more (IsToldWithout c.args.explain c.args.oracle.now s) c.loop-group.needs.items _ _
+          (before.told s of_trace) (c.in_ok-fault.ensures s of_trace) c.in_ok-push.ensures.items;
+    }

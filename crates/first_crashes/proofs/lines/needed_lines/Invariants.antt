@@ -1,0 +1,13 @@
+use Rattle.std.proofs.Common.{◌≡◌, All, map, take}
+use Rattle.crash_model.specs.Trace.{Tracing}
+use Rattle.enough_deciding.specs.Lines.{HasWaits}
+use Rattle.question_reports.specs.EnoughFindings.{told_group}
+use Rattle.first_crashes.specs.SparingLines.{IsToldWithout}
+use Rattle.first_crashes.proofs.lines.needed_lines.Given as goal
+
+abbrev pub invariant-loop-group : goal.invariant-loop-group
+invariant-loop-group g l = record {
+  groups : map (λ needed. needed.group) l.needs.items ≡ take l.group-index l.groups;
+  told : (s : Tracing) → HasWaits l.oracle.traced.now s
+      → All (IsToldWithout l.explain l.oracle s) (map told_group l.needs.items);
+}

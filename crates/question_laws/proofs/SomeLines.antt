@@ -1,0 +1,174 @@
+-- There is a report of a script's lines that have to wait.
+use Rattle.std.proofs.Common.{◌≡◌, ℕ, zero, suc, ◌-◌, ◌^◌, ◌<◌, ◌≤◌, List, length, arith, refl, subst}
+use Rattle.std.specs.Prelude.{None, option_to_list, if◌then◌else◌}
+use Rattle.patch_sets.specs.Ends.{IsDifference}
+use Rattle.patch_sets.specs.Sets.{IsSubset, AreAllInOrder}
+use Rattle.patch_sets.proofs.Bits.{below_from_small, small_from_below, same_set}
+use Rattle.enough_rules.proofs.Groups.{difference_of}
+use Rattle.report_model.specs.Answer.{detail_of, ordering_rules}
+use Rattle.crash_model.specs.ChosenWaits.{tracing_waiting, demands_waiting}
+use Rattle.crash_model.specs.Disk.{Disk}
+use Rattle.crash_model.specs.Checker.{Demands}
+use Rattle.crash_model.specs.Lists.{when}
+use Rattle.crash_model.specs.Patches.{deps_of}
+use Rattle.crash_model.specs.Reasons.{explanation}
+use Rattle.crash_model.specs.RuleUse.{HasGraphBy}
+use Rattle.crash_model.specs.Trace.{Tracing, IsGraphOf}
+use Rattle.crash_model.specs.declared.patches.Patch.{Patch}
+use Rattle.crash_model.specs.declared.rules.Rule.{Rule}
+use Rattle.crash_model.specs.declared.settings.Settings.{Settings}
+use Rattle.question_model.specs.EnoughLines.{all_waits, AreEnoughLines, IsMinimalLines, IsNeededLines}
+use Rattle.question_model.specs.EnoughReport.{ToldGroup, IsToldFirst, EnoughFound, enough_bytes}
+use Rattle.question_model.specs.LinesReport.{IsToldLines, line_choices, IsLinesReport}
+use Rattle.question_model.specs.declared.question.TheConstants.{MAX_SYNCS}
+use Rattle.worked_example_laws.specs.Computed.{closed_sets}
+use Rattle.worked_example_laws.proofs.FailingSets.{counts_closed}
+use Rattle.question_laws.proofs.SomeChoices.{IsMinimalSet, IsNeededGroup, minimal_sets, needed_groups}
+use Rattle.question_laws.proofs.SomeEnough.{are_enough, told_by, told_groups}
+use Rattle.question_laws.proofs.SomeFirst.{told_any}
+use Rattle.question_laws.proofs.SomeSets.{all_like, is_subset}
+
+-- ---- sets of lines
+
+pub difference_one : (set other rest more : ℕ) → IsDifference set other rest → IsDifference set other more → rest ≡ more
+difference_one set other rest more is also =
+    same_set rest more (λ id has. (also.exactly id).1 ((is.exactly id).0 has))
+    (λ id has. (is.exactly id).1 ((also.exactly id).0 has))
+
+pub one_less : (n : ℕ) → 2 ^ n - 1 < 2 ^ n
+one_less n = let some = positive n in omega (arith, some)
+  where
+    positive : (n : ℕ) → 0 < 2 ^ n
+    positive zero = omega arith
+    positive (suc n) = let some = positive n in omega (arith, some)
+
+pub small_part : (n set part : ℕ) → IsSubset set (2 ^ n - 1) → IsSubset part set → part < 2 ^ n
+small_part n set part places inside =
+    small_from_below part n (λ id has. below_from_small (2 ^ n - 1) n id (one_less n) (places id (inside id has)))
+
+-- ---- which are enough
+
+module _ (demands : Demands) (base : Disk) (rules : List Rule) (s : Tracing) where
+  abbrev all : ℕ
+  all = all_waits s.waits
+
+  abbrev IsEnough : ℕ → Type 0
+  IsEnough = AreEnoughLines demands base rules s
+
+  -- all lines but those of a group are enough
+  abbrev pub IsEnoughBut : ℕ → Type 0
+  IsEnoughBut group = AreEnoughLines demands base rules s (difference_of (all_waits s.waits) group).0
+
+  abbrev pub AreLines : ℕ → Type 0
+  AreLines set = IsSubset set (all_waits s.waits)
+
+  pub minimal_lines : (sets : List ℕ) → AreAllInOrder (IsMinimalSet AreLines (AreEnoughLines demands base rules s)) sets
+      → AreAllInOrder (IsMinimalLines demands base rules s) sets
+  minimal_lines sets found =
+      all_like (IsMinimalSet AreLines IsEnough) (IsMinimalLines demands base rules s)
+      (λ set is. record { places = is.places; enough = is.enough; minimal = is.minimal })
+      (λ set is. record { places = is.places; enough = is.enough; minimal = is.minimal }) sets found
+
+  needed_from : (group : ℕ) → IsNeededGroup AreLines IsEnoughBut group → IsNeededLines demands base rules s group
+  needed_from group is = record {
+    places = is.places;
+    some = is.some;
+    needed = λ rest apart enough.
+        let others = difference_of all group in
+        is.needed (subst IsEnough (difference_one all group rest others.0 apart others.1) enough);
+    minimal = λ part rest inside smaller apart.
+        let others = difference_of all part in
+        subst IsEnough (difference_one all part others.0 rest others.1 apart) (is.minimal part inside smaller);
+  }
+
+  needed_to : (group : ℕ) → IsNeededLines demands base rules s group → IsNeededGroup AreLines IsEnoughBut group
+  needed_to group is = record {
+    places = is.places;
+    some = is.some;
+    needed = is.needed (difference_of all group).0 (difference_of all group).1;
+    minimal = λ part inside smaller.
+        is.minimal part (difference_of all part).0 inside smaller (difference_of all part).1;
+  }
+
+  pub needed_lines : (groups : List ℕ) → AreAllInOrder (IsNeededGroup AreLines IsEnoughBut) groups
+      → AreAllInOrder (IsNeededLines demands base rules s) groups
+  needed_lines groups found =
+      all_like (IsNeededGroup AreLines IsEnoughBut) (IsNeededLines demands base rules s) needed_from needed_to groups
+      found
+
+module _ (settings : Settings) (demands : Demands) (base : Disk) (s : Tracing) where
+  abbrev rules : List Rule
+  rules = ordering_rules settings
+
+  decide : (lines : ℕ) → Dec (AreEnoughLines demands base (ordering_rules settings) s lines)
+  decide lines =
+      are_enough settings (demands_waiting s.waits lines demands) base (tracing_waiting lines s)
+      (ordering_rules settings)
+
+  are_lines : (set : ℕ) → Dec (IsSubset set (all_waits s.waits))
+  are_lines set = is_subset set (all_waits s.waits)
+
+  all_minimal : (sets : List ℕ) × AreAllInOrder (IsMinimalLines demands base (ordering_rules settings) s) sets
+  all_minimal =
+      let found = minimal_sets (2 ^ length s.waits) (AreLines demands base rules s) are_lines
+      (small_part (length s.waits)) (AreEnoughLines demands base rules s) decide in
+      (found.0, minimal_lines demands base rules s found.0 found.1)
+
+  all_needed : (groups : List ℕ) × AreAllInOrder (IsNeededLines demands base (ordering_rules settings) s) groups
+  all_needed =
+      let found = needed_groups (2 ^ length s.waits) (AreLines demands base rules s) are_lines
+      (small_part (length s.waits)) (IsEnoughBut demands base rules s)
+      (λ group. decide (difference_of (all_waits s.waits) group).0) in
+      (found.0, needed_lines demands base rules s found.0 found.1)
+
+  -- what a report shows of a group
+  told_lines : (group : ℕ) → IsNeededLines demands base (ordering_rules settings) s group → (told : ToldGroup)
+      × IsToldLines settings demands base s told × (told.group ≡ group)
+  told_lines group is =
+      let others = difference_of (all_waits s.waits) group in
+      let told = told_by settings (demands_waiting s.waits others.0 demands) base (tracing_waiting others.0 s) rules
+      (is.needed others.0 others.1) in (
+        record { group = group; fault = told.0 },
+        (λ rest apart. subst (λ (lines : ℕ). HasGraphBy rules base (tracing_waiting lines s)
+            (λ patches. IsToldFirst (detail_of settings (demands_waiting s.waits lines demands)) base patches told.0))
+            (difference_one (all_waits s.waits) group others.0 rest others.1 apart) told.1),
+        refl,
+      )
+
+pub some_lines : (settings : Settings) (demands : Demands) (base : Disk) (last : Tracing) (patches : List Patch)
+    → IsGraphOf (ordering_rules settings) base last patches → length last.waits ≤ MAX_SYNCS → (text : List ℕ)
+    × (number : ℕ) × IsLinesReport settings demands base last patches text number
+some_lines settings demands base last patches graph few =
+    let rules = ordering_rules settings in
+    let enough = all_minimal settings demands base last in
+    let groups = all_needed settings demands base last in
+    let needs = told_groups (IsNeededLines demands base rules last) (IsToldLines settings demands base last)
+    (told_lines settings demands base last) groups.0 (λ group is. (groups.1.exactly group).0 is) in
+    let first = told_any settings demands base patches graph.earlier in
+    let report : EnoughFound = record {
+      patches = length patches;
+      closed = length (closed_sets (deps_of patches));
+      explanation = when settings.explain (explanation rules base last patches);
+      promises = if settings.explain then demands.promises else None;
+      enough = enough.0;
+      needs = needs.0;
+      first = first.0;
+    } in (
+      enough_bytes (line_choices last.waits) settings report,
+      length (option_to_list first.0),
+      record {
+        few = few;
+        total = length (closed_sets (deps_of patches));
+        counted = counts_closed patches (length (closed_sets (deps_of patches))) graph.earlier refl;
+        enough = enough.0;
+        exactly = enough.1;
+        needs = needs.0;
+        needed = subst (λ (some : List ℕ). AreAllInOrder (IsNeededLines demands base rules last) some) needs.2
+            groups.1;
+        told = needs.1;
+        first = first.0;
+        any = first.1;
+        number_of = refl;
+        whole = refl;
+      },
+    )
