@@ -23,10 +23,11 @@ GROUPS = {
     6: ["report_model/Answer"],
     7: ["question_model/Decided", "question_model/Decision"],
     8: ["question_model/Enough", "question_model/EnoughReport"],
-    9: ["question_model/" + name for name in
-        ("Kinds", "Lengths", "Refused", "Sequences", "Workloads", "Found", "SearchReport")],
-    10: ["question_model/EnoughFor", "question_model/SearchRulesReport"],
-    11: ["question_model/Answers"],
+    9: ["patch_sets/Ends", "crash_model/ChosenWaits", "question_model/EnoughLines", "question_model/LinesReport"],
+    10: ["question_model/" + name for name in
+         ("Kinds", "Lengths", "Refused", "Sequences", "Workloads", "Found", "SearchReport")],
+    11: ["question_model/EnoughFor", "question_model/SearchRulesReport"],
+    12: ["question_model/Answers"],
 }
 
 # What each question needs besides a plain run, as places: a file, a file and the names of its definitions, or a file
@@ -81,12 +82,13 @@ ROWS = {
     "--needs": ["crash_model/RuleUse", "report_model/Needs", "crash_model/Rules is_same_rule has_rule rules_in_first",
                 "report_model/Whole /Rules/",
                 "report_model/Answer /\\(Rules|ByRule|AreToldRules|\\(ordering_rules settings\\) told/"],
-    "--decide": ["group 7", "group 11", "crash_model/FaultRows numbers_of IsFaultBefore IsFirst"],
-    "--enough": ["group 7", "group 8", "group 11", "crash_model/FaultRows numbers_of IsFaultBefore IsFirst",
+    "--decide": ["group 7", "group 12", "crash_model/FaultRows numbers_of IsFaultBefore IsFirst"],
+    "--enough": ["group 7", "group 8", "group 12", "crash_model/FaultRows numbers_of IsFaultBefore IsFirst",
                  "crash_model/RuleUse HasGraphBy", "patch_sets/Sets IsSubset"],
-    "--search": ["group 9", "group 11", "question_model/Decision ordering_text",
+    "--enough --syncs": ["group 9"],
+    "--search": ["group 10", "group 12", "question_model/Decision ordering_text",
                  "crash_model/FaultRows HasFault IsFirst"],
-    "--search --enough": ["group 10"],
+    "--search --enough": ["group 11"],
 }
 
 # What these files hold for other contracts alone; no answer needs it.

@@ -3,7 +3,8 @@
 A command is in a block of its own, after `$ ./crashmap`, and its whole output follows. A block marked `slow` runs
 with --all alone. A table has comments before it, each with the words of searches that all give this table, and a row
 for each rule: the shortest search that finds more failing workloads without the rule than with it, the first failing
-workload and its fault. It says how long each command and each table took. The last line is `N passed, M failed`.
+workload and its fault. Another table has a row for each script and a column for each module: which lines of the script
+have to wait. It says how long each command and each table took. The last line is `N passed, M failed`.
 """
 
 import pathlib
@@ -23,6 +24,7 @@ FINDINGS = ROOT / "docs" / "FINDINGS.md"
 BLOCK = re.compile(r"^```console( slow)?\n\$ \./crashmap ([^\n]*)\n(.*?)^```$", re.MULTILINE | re.DOTALL)
 TABLE = re.compile(r"^((?:<!-- searches: .* -->\n)+)\|.*\n\|.*\n((?:\|.*\n)+)", re.MULTILINE)
 SEARCHES = re.compile(r"<!-- searches: (.*) -->")
+SYNCS = re.compile(r"^<!-- syncs: (.*) -->\n\|[^|\n]*\|(.*)\|\n\|.*\n((?:\|.*\n)+)", re.MULTILINE)
 
 Finding = namedtuple("Finding", "words wanted make is_slow")
 """The words of a command or of a table's searches, what the document has, what makes it again, and whether that
@@ -60,6 +62,45 @@ def table_made(words, rows):
     return "".join(row + ("\n" if row.endswith("|") else " |\n") for row in made)
 
 
+def ids_words(line):
+    """A set of ids in braces, with three or more in a row as the first and the last."""
+    ids, runs = [int(word) for word in line.split()[1:]], []
+    for one in ids:
+        if runs and runs[-1][-1] == one - 1:
+            runs[-1].append(one)
+        else:
+            runs.append([one])
+    parts = [f"{run[0]} to {run[-1]}" if len(run) > 2 else ",".join(map(str, run)) for run in runs]
+    return "{%s}" % ",".join(parts)
+
+
+def lines_words(line, word):
+    """The numbers of lines behind the first word, with a word between."""
+    return f" {word} ".join(line.split()[1:])
+
+
+def waiting_lines(words):
+    """Which lines have to wait: none, or each set that is enough with the crashes that come without its lines, or that
+    the script fails whatever waits, and its first crash."""
+    report = printed_by([*words, "--enough", "--syncs"])
+    sets = [ids_words(line) for line in re.findall(r"^set.*$", report, re.MULTILINE)]
+    enough = [lines_words(line, "and") for line in re.findall(r"^syncs.*$", report, re.MULTILINE)]
+    if not enough:
+        return f"lost: {sets[0]}"
+    needs = [lines_words(line, "or") for line in re.findall(r"^needs.*$", report, re.MULTILINE)]
+    without = "; ".join(f"without {lines} {ids}" for lines, ids in zip(needs, sets))
+    return f"{' or '.join(enough)}; {without}" if needs else "none"
+
+
+def syncs_made(words, modules, rows):
+    """The table of lines that have to wait with its rows made again."""
+    made = ""
+    for first, script in re.findall(r"^(\| \[[^]]*\]\(\.\./([^)]*)\) \|)", rows, re.MULTILINE):
+        cells = [waiting_lines([script, *words, "--module", module]) for module in modules]
+        made += f"{first} {' | '.join(cells)} |\n"
+    return made
+
+
 def findings():
     """The commands and tables of the document."""
     text = FINDINGS.read_text()
@@ -67,7 +108,12 @@ def findings():
                 for slow, words, output in BLOCK.findall(text)]
     tables = [Finding(shlex.split(words), rows, lambda given, kept=rows: table_made(given, kept), False)
               for comments, rows in TABLE.findall(text) for words in SEARCHES.findall(comments)]
-    return commands + tables
+    syncs = []
+    for words, modules, rows in SYNCS.findall(text):
+        names = re.findall(r"`([a-z]+)`", modules)
+        syncs.append(Finding(shlex.split(words), rows,
+                             lambda given, names=names, kept=rows: syncs_made(given, names, kept), False))
+    return commands + tables + syncs
 
 
 def main(words):

@@ -67,13 +67,13 @@ class Options(unittest.TestCase):
 
     def test_options_that_do_not_go_together_are_refused(self):
         values = {"N": "3", "L": "9", "E": "sweep"}
+        symbols = {"--limit": "L", "--explorer": "E", "--search": "N"}
         for line in self.listed():
             front, _, others = line.partition(" not with ")
             name, *value = front.split()
             for other in others.split():
                 given = [name, *(values[it] for it in value), other]
-                if other in ("--limit", "--explorer"):
-                    given.append(values["L" if other == "--limit" else "E"])
+                given += [values[symbols[other]]] if other in symbols else []
                 status, _, err = answer(*given, script=CREATE)
                 self.assertEqual((status, b"cannot be used with" in err), (2, True), given)
 

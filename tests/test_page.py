@@ -73,6 +73,9 @@ class InABrowser(unittest.TestCase):
     def test_what_is_enough_is_shown(self):
         self.passes("test_enough.mjs")
 
+    def test_lines_that_have_to_wait_are_shown(self):
+        self.passes("test_syncs.mjs")
+
     def test_searches_are_shown(self):
         self.passes("test_search.mjs")
 
@@ -84,8 +87,11 @@ class InABrowser(unittest.TestCase):
         self.assertTrue(scripts)
         with tempfile.TemporaryDirectory() as folder:
             for script in scripts:
-                words = re.search(r"^# \./crashmap gallery/\S+ (.*)$", script.read_text(), re.MULTILINE)[1].split()
-                for question in ([], ["--needs"], ["--decide"], ["--enough"]):
+                text, questions = script.read_text(), [[], ["--needs"], ["--decide"], ["--enough"]]
+                words = re.search(r"^# \./crashmap gallery/\S+ (.*)$", text, re.MULTILINE)[1].split()
+                if re.search(r"^f?sync\b", text, re.MULTILINE):
+                    questions.append(["--enough", "--syncs"])
+                for question in questions:
                     command = [ROOT / "crashmap-page", script, *words, *question]
                     status, page, err = run(command, CRASHMAP_PROGRAM=str(program()))
                     self.assertIn(status, (0, 1), (script, err))
