@@ -1,10 +1,11 @@
 // What a report must look like for the page to show it.
+import { isOfLines } from "./about.js";
 import {
   ReportError, checkCount, checkHex, checkList, checkObject, checkText, checkTexts, isCount, isObject, kindOf, must,
 } from "./form.js";
 import { checkPromises } from "./promises.js";
 
-/** Longer lists of faults, rules, sets of rules or failing sets are shown up to here. */
+/** Longer lists of faults, rules, sets of rules or lines, or failing sets are shown up to here. */
 export const MOST_CHOICES = 500;
 const MOST_PATCHES = 1000;
 const BLOCK_BYTES = 128, FEWEST_BLOCKS = 16, MOST_BLOCKS = 128, OUTSIDE_JOURNAL = 6;
@@ -91,7 +92,7 @@ function checkChange(place, change, report) {
 export const isDecision = ({ faults, closed, sets }) =>
   faults !== undefined && typeof closed === "string" && sets === undefined;
 
-/** The rules that are enough; there too the number of closed sets is a text. */
+/** What is enough; there too the number of closed sets is a text. */
 export const isOfEnough = ({ enough }) => enough !== undefined;
 
 function checkFault(place, one, report) {
@@ -101,11 +102,21 @@ function checkFault(place, one, report) {
   checkSet(place, one, report);
 }
 
-/** Rules of which one is needed, with a fault that comes without them. */
-export function checkGroup(place, one, report) {
+/** Rules, or lines that wait, of which one is needed, with a fault that comes without them. */
+export function checkGroup(place, one, report, isOfLine = false) {
   checkFault(place, one, report);
-  checkTexts(`${place}.rules`, one.rules);
-  must(one.rules.length > 0, `${place}.rules`, "a list of at least one rule", one.rules);
+  const [name, other, noun] = isOfLine ? ["syncs", "rules", "line"] : ["rules", "syncs", "rule"];
+  must(one[other] === undefined, `${place}.${other}`, `missing in a report on ${noun}s`, one[other]);
+  checkSome(`${place}.${name}`, one[name], report, isOfLine);
+  must(one[name].length > 0, `${place}.${name}`, `a list of at least one ${noun}`, one[name]);
+}
+
+/** Rules by their names, or lines that wait by their numbers. */
+function checkSome(place, some, { waits = [] }, isOfLine) {
+  if (!isOfLine) return checkTexts(place, some);
+  checkList(place, some);
+  some.forEach((line, k) =>
+    must(waits.some(wait => wait.line === line), `${place}[${k}]`, "the line of one of waits", line));
 }
 
 function checkRule(place, one, report) {
@@ -161,14 +172,14 @@ function checkCounted(counted) {
 const checkLength = ({ failing, closed }) =>
   must(failing.length <= closed, "failing", `a list of at most ${closed} sets`, failing);
 
-/** A report names either sets of rules that are enough, or a fault that comes under all rules. */
+/** A report names either sets of rules or lines that are enough, or a fault that comes under all of them. */
 function checkEnough(json) {
-  checkList("enough", json.enough);
-  json.enough.slice(0, MOST_CHOICES).forEach((rules, k) => checkTexts(`enough[${k}]`, rules));
-  checkList("needs", json.needs);
-  json.needs.slice(0, MOST_CHOICES).forEach((one, k) => checkGroup(`needs[${k}]`, one, json));
+  for (const list of ["enough", "needs"]) checkList(list, json[list]);
+  const isOfLine = isOfLines(json);
+  json.enough.slice(0, MOST_CHOICES).forEach((some, k) => checkSome(`enough[${k}]`, some, json, isOfLine));
+  json.needs.slice(0, MOST_CHOICES).forEach((one, k) => checkGroup(`needs[${k}]`, one, json, isOfLine));
   if (json.enough.length === 0) checkFault("first", json.first, json);
-  else must(json.first === undefined, "first", "missing where rules are enough", json.first);
+  else must(json.first === undefined, "first", "missing where a set is enough", json.first);
 }
 
 function checkLists(json) {

@@ -53,13 +53,12 @@ function nothingFails(report) {
 }
 
 /** A list that is too long to look through. */
-function drawCut({ listed, choices, title, asks, enough }) {
+function drawCut({ listed, choices, title, asks, enough, about }) {
   const shown = choices.length - 1;
   if (listed <= shown) return "";
   const advice = asks === "sets" ? " A report made with --summary has each fault once." : "";
-  const isOfRules = asks === "enough" || enough !== undefined;
-  const names = isOfRules ? "sets and groups of rules" : title.toLowerCase();
-  const part = isOfRules ? `${shown.toLocaleString("en")} of them` : `the first ${shown}`;
+  const names = enough ? `sets and groups of ${about.many}` : title.toLowerCase();
+  const part = enough ? `${shown.toLocaleString("en")} of them` : `the first ${shown}`;
   return element("p", { class: "verdict cut" }, `This report lists ${listed.toLocaleString("en")} `
     + `${names}, and the page shows ${part}.${advice}`);
 }

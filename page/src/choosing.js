@@ -1,5 +1,5 @@
 // What a person can choose to look at in a report: faults, rules or failing sets, and the run without a crash. A choice
-// has words, its patches with their block writes, and the rules that its ordering is without.
+// has words, its patches with their block writes, and the rules and lines that its ordering is without.
 import { MOST_CHOICES } from "./check.js";
 import { shownOf } from "./promises.js";
 import { bytesOf, countOf } from "./words.js";

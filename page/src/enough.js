@@ -1,76 +1,72 @@
-// Which rules are enough (`--enough`): what can be looked at, and the words for it.
+// What is enough (`--enough`) of the rules, or of the lines that wait: what can be looked at, and the words for it.
+import { nameOf } from "./about.js";
 import { MOST_CHOICES } from "./check.js";
 import { crashOf, faultChoice, wholeRun } from "./choosing.js";
 import { cleanDisk } from "./clean.js";
 import { listOf } from "./words.js";
 
-/** The sets that are enough, the groups of which one rule is needed, and the whole ordering. Where that is not enough,
-    there are no sets and no groups, and a fault that it leaves. */
+/** The sets that are enough, the groups of which one is needed, and the whole ordering. Where that is not enough, there
+    are no sets and no groups, and a fault that it leaves. */
 export function enoughChoices({ enough, needs, first }, report) {
-  const sets = enough.slice(0, MOST_CHOICES).map(rules => enoughChoice(rules, report));
-  const shown = needs.slice(0, MOST_CHOICES), isAlone = one => one.rules.length === 1;
-  const alone = groupChoices(shown.filter(isAlone), "This rule is needed", "Each of these rules is needed");
-  const groups = groupChoices(shown.filter(one => !isAlone(one)), "One of these rules is needed",
-    "One rule of each line is needed");
-  const part = `All rules together are ${first ? "not " : ""}enough`, fault = first ? [faultChoice(first)] : [];
-  const whole = [...fault, wholeRun(report)].map(choice => ({ ...choice, part }));
-  return { title: "Rules that are enough", asks: "enough", listed: enough.length + needs.length + fault.length,
-    choices: [...sets, ...alone, ...groups, ...whole] };
+  const { one, many, isNeeded, title, whole } = report.about;
+  const sets = enough.slice(0, MOST_CHOICES).map(some => enoughChoice(some, report));
+  const groups = needs.slice(0, MOST_CHOICES).map(group => groupChoice(group, report));
+  const isAlone = choice => choice.names.length === 1;
+  const alone = inPart(groups.filter(isAlone), `This ${one} ${isNeeded}`, `Each of these ${many} ${isNeeded}`);
+  const others = inPart(groups.filter(choice => !isAlone(choice)), `One of these ${many} ${isNeeded}`,
+    `One ${one} of each group ${isNeeded}`);
+  const part = `${whole} ${first ? "not " : ""}enough`, fault = first ? [faultChoice(first)] : [];
+  const rest = [...fault, wholeRun(report)].map(choice => ({ ...choice, part }));
+  return { title, asks: "enough", listed: enough.length + needs.length + fault.length,
+    choices: [...sets, ...alone, ...others, ...rest] };
 }
 
-/** The run without a crash, under these rules and no other. */
-function enoughChoice(rules, report) {
-  const reasons = report.trace.flatMap(patch => patch.after.flatMap(one => one.why));
-  const others = [...new Set(reasons)].filter(why => why.includes(":") && !rules.includes(why));
-  return { ...wholeRun(report), label: listOf(rules) || "no rule at all", more: "", rules, isEnough: true,
-    part: enoughHead(rules, report.enough.length), without: others };
+/** The run without a crash, under these rules and no other, or where only these lines wait. */
+function enoughChoice(some, report) {
+  const { about } = report, names = some.map(one => nameOf(report, one));
+  return { ...wholeRun(report), label: listOf(names) || about.noneAtAll, more: "", names, isEnough: true,
+    part: enoughHead(some, report.enough.length, about),
+    without: about.allIn(report).filter(one => !some.includes(one)) };
 }
 
-export function enoughHead(rules, count) {
-  if (count > 1) return `Each of these ${count} sets of rules is enough`;
-  if (rules.length === 0) return "No rule is needed";
-  return rules.length === 1 ? "This rule is enough" : "These rules are enough";
+export function enoughHead(some, count, { one, many, none }) {
+  if (count > 1) return `Each of these ${count} sets of ${many} is enough`;
+  if (some.length === 0) return none;
+  return some.length === 1 ? `This ${one} is enough` : `These ${many} are enough`;
 }
 
-/** The crash that comes without each group of rules. */
-function groupChoices(groups, one, many) {
-  const part = groups.length === 1 ? one : many;
-  return groups.map(group => {
-    const { rules, fault } = group, them = rules.length === 1 ? "it" : "them";
-    return { label: listOf(rules, "or"), more: `without ${them}: ${fault}`, part, rules, without: rules,
-      faults: [fault], ...crashOf(group) };
-  });
+/** The crash that comes without a group. */
+function groupChoice(group, report) {
+  const without = group.rules ?? group.syncs, names = without.map(one => nameOf(report, one));
+  return { label: listOf(names, "or"), more: `without ${names.length === 1 ? "it" : "them"}: ${group.fault}`, names,
+    without, faults: [group.fault], ...crashOf(group) };
 }
+
+const inPart = (choices, one, many) => choices.map(choice => ({ ...choice, part: choices.length === 1 ? one : many }));
 
 /* --- words --- */
 
 /** What is found, for the title of the window. */
-export function foundWords({ enough }) {
-  if (!enough.length) return "the rules are not enough";
-  if (!enough[0].length) return "no rule is needed";
-  return enough.length === 1 ? "1 set of rules is enough" : `${enough.length} sets of rules are enough`;
+export function foundWords({ enough, about: { many, none, notEnough } }) {
+  if (!enough.length) return notEnough;
+  if (!enough[0].length) return none.toLowerCase();
+  return enough.length === 1 ? `1 set of ${many} is enough` : `${enough.length} sets of ${many} are enough`;
 }
 
-/** What a set of rules is enough for, or what a group of rules prevents. */
-export const rulesWords = ({ rules, isEnough }, report) =>
-  isEnough ? enoughWords(rules, cleanDisk(report)) : neededWords(rules, cleanDisk(report));
+/** What a set is enough for, or what a group prevents. */
+export const enoughWords = ({ names, isEnough }, report) =>
+  isEnough ? setWords(names, report.about, cleanDisk(report)) : groupWords(names, report.about, cleanDisk(report));
 
-function enoughWords(rules, clean) {
-  if (!rules.length) {
-    return `No rule is needed: without any rule, replay leaves ${clean} after every crash. `
-      + "The graph has no arrow of a rule.";
-  }
-  const [these, them] = rules.length === 1 ? ["This rule is", "it"] : ["These rules are", "them"];
-  const smaller = rules.length === 1 ? "" : "No smaller part of them is enough. ";
-  return `${these} enough: ${listOf(rules)}. With ${them} and no other rule, replay leaves ${clean} after every `
-    + `crash. ${smaller}The graph has no arrow of another rule.`;
+function setWords(names, { one, many, alone, withNone }, clean) {
+  const isOne = names.length === 1;
+  if (!names.length) return withNone(clean);
+  const smaller = isOne ? "" : "No smaller part of them is enough. ";
+  return `${isOne ? `This ${one} is` : `These ${many} are`} enough: ${listOf(names)}. ${alone(isOne)}, replay leaves `
+    + `${clean} after every crash. ${smaller}The graph has no arrow of another ${one}.`;
 }
 
-function neededWords(rules, clean) {
-  if (rules.length === 1) {
-    return `This rule is needed: ${rules[0]}. Without it this crash is possible, even with all other rules of the `
-      + "ordering.";
-  }
-  return `One of these rules is needed: ${listOf(rules, "or")}. Without all of them this crash is possible. `
-    + `With any one of them and the rest of the ordering, replay leaves ${clean} after every crash.`;
+function groupWords(names, { one, many, isNeeded, withoutIt, withoutThem }, clean) {
+  if (names.length === 1) return `This ${one} ${isNeeded}: ${names[0]}. ${withoutIt}`;
+  return `One of these ${many} ${isNeeded}: ${listOf(names, "or")}. ${withoutThem}, replay leaves ${clean} after every `
+    + "crash.";
 }

@@ -1,6 +1,6 @@
 // What is said of the disk that is looked at: its faults, which set this is, and what is known of it.
 import { cleanWords } from "./clean.js";
-import { rulesWords } from "./enough.js";
+import { enoughWords } from "./enough.js";
 import { isHalfDone, meaningsOf } from "./faults.js";
 import { halvesWords } from "./halves.js";
 import { pickedWords } from "./pick.js";
@@ -13,7 +13,7 @@ import { listOf } from "./words.js";
 /** The faults with what they mean, and which set this is. A search's workload may come without states. */
 export function drawFacts(choice, states) {
   const said = (kind, words) => element("p", { class: kind }, words);
-  return [choice.rules ? said("needed", neededWords(choice)) : null,
+  return [choice.names ? said("needed", neededWords(choice)) : null,
     choice.steps ? said("workload", `Workload: ${choice.steps.join("; ")}`) : null,
     ...choice.faults.map(text => said("fault", `Fault ${text}`)),
     ...meaningsOf(choice.faults).map(words => said("meaning", words)),
@@ -24,8 +24,8 @@ export function drawFacts(choice, states) {
     choice.isWhole && view.report.trace?.length ? said("walk", walkWords(states)) : null];
 }
 
-/** Which rules are enough, or what a group of rules prevents. */
-const neededWords = choice => view.report.search ? searchNeedsWords(choice) : rulesWords(choice, view.report);
+/** What is enough, or what a group prevents. */
+const neededWords = choice => view.report.search ? searchNeedsWords(choice) : enoughWords(choice, view.report);
 
 /** Where an operation is half done: which one. */
 function halvesOf(choice) {
@@ -49,10 +49,10 @@ function setWords(choice) {
 }
 
 /** Which one of several sets this is. */
-function whichWords({ isPicked, rules, without, count }) {
+function whichWords({ isPicked, names, without, count }) {
   if (isPicked) return "";
-  if (view.report.search) return searchSetWords({ rules, count });
-  if (rules) return "; the first set with this fault";
+  if (view.report.search) return searchSetWords({ names, count });
+  if (names) return "; the first set with this fault";
   if (without) return `; the first crash that ${listOf(without)} prevents`;
   return count > 1 ? `; the first of ${count}` : "";
 }

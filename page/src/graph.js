@@ -1,21 +1,29 @@
 // The patch graph: who waits for whom and why, and where each patch is in the picture. Columns are operations;
 // inside a column patches are in layers, so that arrows run to the right.
+import { isLine } from "./about.js";
 import { realLine } from "./real.js";
 import { below } from "./words.js";
 
-/** The graph under the ordering without these rules: edges {from, to, why, implied}; for each patch the edges that it
-    waits by, and all patches that it waits for, near and far. */
+/** The graph under the ordering without these rules and lines: edges {from, to, why, implied}; for each patch the edges
+    that it waits by, and all patches that it waits for, near and far. */
 export function graphOf(report, without = []) {
-  const waits = [], before = [];
-  for (const { id, after } of report.trace) {
-    const left = why => why.filter(word => !without.includes(word));
-    const mine = after.map(({ patch, why }) => ({ from: patch, to: id, why: left(why) }))
-      .filter(edge => edge.why.length);
+  const waits = [], before = [], isForced = forcedWithout(report, without.filter(isLine));
+  for (const { id, line, after } of report.trace) {
+    const left = ({ patch, why }) => why.filter(word => !without.includes(word)
+      && (word !== "wait" || isForced(patch, line)));
+    const mine = after.map(one => ({ from: one.patch, to: id, why: left(one) })).filter(edge => edge.why.length);
     before.push(new Set(mine.flatMap(edge => [edge.from, ...before[edge.from]])));
     for (const edge of mine) edge.implied = mine.some(other => before[other.from].has(edge.from));
     waits.push(mine);
   }
   return { edges: waits.flat(), waits, before };
+}
+
+/** Whether a patch is forced before a line, where these lines do not wait. */
+function forcedWithout({ waits }, without) {
+  if (!without.length) return () => true;
+  const left = waits.filter(wait => !without.includes(wait.line));
+  return (patch, before) => left.some(({ line, ids }) => line < before && ids.includes(patch));
 }
 
 /** What an arrow is drawn as: the first of these that is among its reasons. */

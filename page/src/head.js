@@ -67,16 +67,17 @@ const neededIn = ({ choices }) => choices.filter(choice => choice.without && cho
 const neededWords = report => report.asks === "rules" ? `${countOf(neededIn(report), ...NEEDED_NAMES)}, ` : "";
 
 /** The number that the report is about, and its words for one and for more. */
-function resultOf({ enough, failing, isDecision, search }) {
+function resultOf({ enough, about, failing, isDecision, search }) {
   if (search && !enough) {
     return { count: search.failing, names: ["failing workload", "failing workloads"], isBad: search.failing > 0 };
   }
-  if (enough?.[0]?.length === 0) return { count: 0, names: ["rule is needed", "rules are needed"] };
-  const names = ["set of rules is enough", "sets of rules are enough"];
-  if (enough) return { count: enough.length, names, isBad: enough.length === 0 };
+  if (enough?.[0]?.length === 0) return { count: 0, names: about.needed };
+  if (enough) return { count: enough.length, names: setsEnough(about), isBad: enough.length === 0 };
   return { count: failing, names: isDecision ? ["fault", "faults"] : ["failing set", "failing sets"],
     isBad: failing > 0 };
 }
+
+const setsEnough = ({ many }) => [`set of ${many} is enough`, `sets of ${many} are enough`];
 
 /** How large a part fails, where the report is about that. */
 function drawShare({ failing, closed, isDecision, enough, search }) {

@@ -1,4 +1,5 @@
 // The frame of the page, and what a person can do: look at a choice, go to a step, pick patches.
+import { isLine } from "./about.js";
 import { drawChoices } from "./choices.js";
 import { imageOf, replayedImage } from "./disk.js";
 import { patchesNamed, placesNamed } from "./faults.js";
@@ -67,7 +68,7 @@ function pick(id) {
   pickAll(before.includes(id) ? before.filter(one => one !== id) : [...before, id], without);
 }
 
-/** Looks at these patches, under the ordering without these rules. */
+/** Looks at these patches, under the ordering without these rules and lines. */
 function pickAll(ids, without) {
   const { report } = view;
   view.picked = { ...pickedChoice(report, ids, without), report };
@@ -77,7 +78,7 @@ function pickAll(ids, without) {
 function addressNow() {
   const { isPicked, set, without } = choiceNow() ?? {}, words = new URLSearchParams(), { report } = view;
   if (isPicked) words.set("set", set.join(" ")); else words.set("choice", view.choice);
-  if (isPicked) for (const rule of without) words.append("rule", rule);
+  if (isPicked) for (const one of without) words.append(isLine(one) ? "line" : "rule", one);
   if (isPicked && report.search) words.set("of", report.choices.findIndex(choice => choice.report === report));
   words.set("step", view.step);
   return `#${words}`;

@@ -1,5 +1,6 @@
 // Patches that a person picks: are they closed, and which disk do they leave? The page finds both by itself, from the
 // dependencies and the bytes that the report has.
+import { isLine, nameOf } from "./about.js";
 import { cleanWords } from "./clean.js";
 import { runsOf } from "./choosing.js";
 import { imageOf, replayChanges } from "./disk.js";
@@ -9,7 +10,7 @@ import { listOf } from "./words.js";
 /** So many missing patches are named. */
 const MOST_MISSING = 5;
 
-/** The choice for picked patches, under the ordering without these rules. */
+/** The choice for picked patches, under the ordering without these rules and lines. */
 export function pickedChoice(report, ids, without = []) {
   const set = [...new Set(ids)].sort((a, b) => a - b), graph = graphOf(report, without);
   const missing = graph.edges.filter(edge => set.includes(edge.to) && !set.includes(edge.from));
@@ -29,9 +30,14 @@ export function closureOf(report, { set, without }) {
 const choicesOn = report =>
   report.choices.filter(choice => choice.set && (!choice.report || choice.report === report));
 
-/** Whether the disk of a closed set has faults, as far as the report says; no ordering changes what a set leaves. */
+/** No rule changes what a set leaves. A line that waits does: what is promised behind it speaks of fewer sets. */
+const isKnownWithout = (choice, without) =>
+  !choice.without?.some(one => isLine(one) && !without.includes(one));
+
+/** Whether the disk of a closed set has faults, as far as the report says. */
 function knownFaults(report, set, without) {
-  const same = choicesOn(report).filter(choice => choice.set?.join() === set.join());
+  const same = choicesOn(report)
+    .filter(choice => choice.set?.join() === set.join() && isKnownWithout(choice, without));
   const faults = [...new Set(same.flatMap(choice => choice.faults))];
   const shown = Object.assign({}, ...same.map(choice => choice.shown));
   if (faults.length && ["faults", "enough", "search"].includes(report.asks)) {
@@ -43,16 +49,24 @@ function knownFaults(report, set, without) {
   if (!without.length && (report.failing === 0 || areAllListed)) {
     return { faults, verdict: `${clean}, since the report does not list it as failing.` };
   }
-  if (choicesOn(report).some(choice => choice.isEnough && without.every(rule => choice.without.includes(rule)))) {
-    return { faults, verdict: `${clean}, since the report says that these rules are enough.` };
+  if (choicesOn(report).some(choice => choice.isEnough && without.every(one => choice.without.includes(one)))) {
+    return { faults, verdict: `${clean}, since the report says that these ${report.about.many} are enough.` };
   }
   return { faults,
     verdict: "The page does not check disks, and the report does not say whether this one has faults." };
 }
 
+/** What the ordering is without, for a sentence. */
+function underWords(report, without) {
+  const rules = without.filter(one => !isLine(one)), lines = without.filter(isLine);
+  const names = lines.map(line => nameOf(report, line)), wait = names.length === 1 ? "does not wait" : "do not wait";
+  return (rules.length ? ` under the ordering without ${listOf(rules)}` : "")
+    + (names.length ? ` if ${listOf(names)} ${wait}` : "");
+}
+
 /** What the page says of picked patches. */
 export function pickedWords(report, { missing, without, verdict }) {
-  const under = without.length ? ` under the ordering without ${listOf(without)}` : "";
+  const under = underWords(report, without);
   if (!missing.length) {
     return `Closed${under}: every patch that a picked one waits for is picked too, so a crash can leave this disk. `
       + `The page worked this out from the dependencies in the report, and replay from the journal. ${verdict}`;

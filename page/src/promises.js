@@ -7,17 +7,19 @@ const BROKEN = /^10 broken promise: line (\d+)$/;
 const MOST_PATHS = 4;
 
 /** The promises of a report, and the lines that wait; a script without any has neither. */
-export function checkPromises({ promises = [], waits = [] }) {
+export function checkPromises({ promises = [], waits = [], trace }) {
   checkList("promises", promises);
   promises.forEach((one, k) => checkPromise(`promises[${k}]`, one));
   checkList("waits", waits);
-  waits.forEach((one, k) => checkWait(`waits[${k}]`, one));
+  waits.forEach((one, k) => checkWait(`waits[${k}]`, one, trace.length));
 }
 
-function checkWait(place, one) {
+function checkWait(place, one, patches) {
   checkObject(place, one);
   checkCount(`${place}.line`, one.line, 1);
   checkText(`${place}.step`, one.step);
+  checkList(`${place}.ids`, one.ids);
+  one.ids.forEach((id, k) => checkCount(`${place}.ids[${k}]`, id, 0, patches - 1));
 }
 
 function checkPromise(place, one) {

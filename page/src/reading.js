@@ -16,5 +16,5 @@ function parsed(text) {
     Throws a `ReportError` where the text is no report, or one that the page cannot show. */
 export function readReport(text, run) {
   const json = parsed(text), isSearch = isObject(json) && json.search !== undefined;
-  return isSearch ? searchReport(json, run?.workloads ?? []) : scriptReport(json);
+  return isSearch ? searchReport(json, run?.workloads ?? []) : scriptReport(json, run?.words);
 }

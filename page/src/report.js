@@ -1,22 +1,24 @@
 // The report of a script as `crashmap --json --explain --summary` prints it (or with `--needs`, `--decide` or
 // `--enough`), brought into the one form that the page works on: the patches with their bytes, the script's operations,
 // and what a person can choose to look at.
+import { aboutOf } from "./about.js";
 import { checkReport, isDecision, isOfEnough } from "./check.js";
 import { choicesOf } from "./choosing.js";
 import { JOURNAL_START, explainPatches } from "./disk.js";
 import { enoughChoices } from "./enough.js";
 import { bytesOf } from "./words.js";
 
-/** Throws a `ReportError` where this is no report, or one that does not say what its patches are. */
-export function scriptReport(json) {
+/** Throws a `ReportError` where this is no report, or one that does not say what its patches are. `words` are those
+    that the program was run with, where they are known. */
+export function scriptReport(json, words) {
   checkReport(json);
   const base = json.base.map(bytesOf), [, blocks, journal] = base[0];
   const trace = json.trace.map((patch, id) =>
     ({ ...patch, id, bytes: bytesOf(patch.new), undo: bytesOf(patch.undo) }));
   const report = {
     ...orderingOf(json), closed: numberOf(json.closed), isDecision: isDecision(json), failing: failingOf(json),
-    enough: json.enough, promises: json.promises ?? [], waits: json.waits ?? [], base, blocks, journal,
-    root: JOURNAL_START + journal, trace,
+    enough: json.enough, about: isOfEnough(json) ? aboutOf(json, words) : null, promises: json.promises ?? [],
+    waits: json.waits ?? [], base, blocks, journal, root: JOURNAL_START + journal, trace,
   };
   Object.assign(report, operationsOf(trace));
   explainPatches(report);

@@ -1,6 +1,7 @@
 // The report of a search (`--search`, alone or with `--enough`): what it finds of a pool's workloads, and the crash of
 // the first workload for each kind of fault, or for each group of rules of which one is needed. The report has no
 // patches. `crashmap-page` adds the reports on these workloads, so that the page can show the crash.
+import { RULES } from "./about.js";
 import { MOST_CHOICES, checkFailing, checkGroup, checkOrdering, checkSet, isOfEnough } from "./check.js";
 import { crashOf, wholeRun } from "./choosing.js";
 import { cleanDisk } from "./clean.js";
@@ -95,8 +96,8 @@ function sharedOf(json, base) {
   const { search: most, pool, workloads, failing, refused, enough } = json;
   const found = json.kinds ?? json.needs, title = json.kinds ? "Kinds of fault" : "Rules that all workloads need";
   const disk = base && { base: base.base, blocks: base.blocks, journal: base.journal, root: base.root };
-  return { ...orderingOf(json), ...disk, asks: "search", title, enough, listed: found.length + (enough?.length ?? 0),
-    search: { most, pool, workloads, failing, refused } };
+  return { ...orderingOf(json), ...disk, asks: "search", about: RULES, title, enough,
+    listed: found.length + (enough?.length ?? 0), search: { most, pool, workloads, failing, refused } };
 }
 
 const kindChoice = ({ kind, name, steps, workloads, faults }) => ({ number: String(kind), label: name,
@@ -105,13 +106,13 @@ const kindChoice = ({ kind, name, steps, workloads, faults }) => ({ number: Stri
 /** The sets of rules that are enough; they come without a crash. */
 function ruleChoices({ enough = [] }) {
   return enough.slice(0, MOST_CHOICES).map(rules => ({ label: listOf(rules) || "no rule at all",
-    part: enoughHead(rules, enough.length), faults: [], isEnough: true, off: true }));
+    part: enoughHead(rules, enough.length, RULES), faults: [], isEnough: true, off: true }));
 }
 
 function groupChoice({ rules, fault, steps }) {
   const without = rules.length === 1 ? "without it" : "without them";
-  return { label: listOf(rules, "or"), more: `${wordsOf(steps)}, ${without}: ${fault}`, rules, without: rules,
-    part: "One rule of each line is needed", faults: [fault] };
+  return { label: listOf(rules, "or"), more: `${wordsOf(steps)}, ${without}: ${fault}`, names: rules,
+    without: rules, part: "One rule of each group is needed", faults: [fault] };
 }
 
 /** The disk before each workload. */
@@ -134,7 +135,7 @@ function failWords(search) {
 export function searchTitle({ search, enough }) {
   if (!enough) return failWords(search);
   const passing = search.failing ? `${(search.workloads - search.failing).toLocaleString("en")} of ` : "";
-  return `${foundWords({ enough })} for ${passing}${workloadsOf(search)}`;
+  return `${foundWords({ enough, about: RULES })} for ${passing}${workloadsOf(search)}`;
 }
 
 /** How often operations were refused, and why. */
@@ -155,16 +156,16 @@ export function searchVerdict(report) {
 }
 
 /** Which crash of which workload a choice shows. */
-export function searchSetWords({ rules, count }) {
-  if (rules) return "; the first set with this fault";
+export function searchSetWords({ names, count }) {
+  if (names) return "; the first set with this fault";
   const which = "; the first failing set with such a fault";
   return count > 1 ? `${which}, of the first of ${count.toLocaleString("en")} workloads` : which;
 }
 
 /** What a group of rules prevents. */
-export function searchNeedsWords({ rules }) {
-  const [these, them] = rules.length === 1 ? [`This rule is needed: ${rules[0]}.`, "it"]
-    : [`One of these rules is needed: ${listOf(rules, "or")}.`, "them"];
+export function searchNeedsWords({ names }) {
+  const [these, them] = names.length === 1 ? [`This rule is needed: ${names[0]}.`, "it"]
+    : [`One of these rules is needed: ${listOf(names, "or")}.`, "them"];
   return `${these} Without ${them} this crash is possible. The workload is the first that fails without ${them} and `
     + "does not fail under all rules.";
 }

@@ -65,15 +65,16 @@ function readAddress() {
   view.step = number("step");
 }
 
-/** `#set=0+2` names picked patches, each `&rule=..` a rule that the ordering is looked at without, and `&of=1` the
-    choice of a search whose workload they are of. */
+/** `#set=0+2` names picked patches, each `&rule=..` or `&line=..` a rule or a line that waits that the ordering is
+    looked at without, and `&of=1` the choice of a search whose workload they are of. */
 function readPicked() {
   const words = addressWords(), { choices } = view.report;
   if (!words.has("set")) return;
   const ids = words.get("set").split(" ").filter(Boolean).map(Number);
   const report = choices[Number(words.get("of"))]?.report ?? view.report;
-  if (!ids.every(id => report.trace?.[id])) return;
-  view.picked = { ...pickedChoice(report, ids, words.getAll("rule")), report };
+  if (!report.trace || !ids.every(id => report.trace[id])) return;
+  const lines = report.waits.map(wait => wait.line).filter(line => words.getAll("line").includes(String(line)));
+  view.picked = { ...pickedChoice(report, ids, [...words.getAll("rule"), ...lines]), report };
   view.choice = choices.length;
 }
 

@@ -149,7 +149,27 @@ const odd = [
     "needs[1].set[2] must be a whole number from 0 to 4, but it is the number 5."],
   ["enough", r => { r.needs[1].writes.pop(); },
     "needs[1].writes must be writes of exactly the patches in set, but it is a list of 2."],
-  ["enough", r => { r.first = r.needs[0]; }, "first must be missing where rules are enough, but it is an object."],
+  ["enough", r => { r.first = r.needs[0]; }, "first must be missing where a set is enough, but it is an object."],
+  ["enough", r => { r.needs[1].syncs = [7]; },
+    "needs[1].syncs must be missing in a report on rules, but it is a list of 1."],
+  ["syncs", r => { r.enough[0][1] = "Ptr:InitFile"; },
+    "enough[0][1] must be the line of one of waits, but it is the text \"Ptr:InitFile\"."],
+  ["syncs", r => { r.enough[0][0] = "Ptr:InitFile"; },
+    "enough[0][0] must be the line of one of waits, but it is the text \"Ptr:InitFile\"."],
+  ["syncs", r => { r.enough[0][0] = 8; }, "enough[0][0] must be the line of one of waits, but it is the number 8."],
+  ["syncs", r => { delete r.waits; }, "enough[0][0] must be the line of one of waits, but it is the number 7."],
+  ["syncs", r => { r.needs[1].syncs = []; },
+    "needs[1].syncs must be a list of at least one line, but it is a list of 0."],
+  ["syncs", r => { r.needs[1].syncs[0] = "9"; },
+    "needs[1].syncs[0] must be the line of one of waits, but it is the text \"9\"."],
+  ["syncs", r => { delete r.needs[0].syncs; }, "needs[0].syncs must be a list, but it is missing."],
+  ["syncs", r => { r.needs[1].rules = ["Ptr:InitFile"]; },
+    "needs[1].rules must be missing in a report on lines, but it is a list of 1."],
+  ["syncs", r => { r.needs = [{ ...r.needs[0], rules: ["Ptr:InitFile"], syncs: undefined }]; },
+    "needs[0].rules must be missing in a report on lines, but it is a list of 1."],
+  ["syncs", r => { delete r.waits[1].ids; }, "waits[1].ids must be a list, but it is missing."],
+  ["syncs", r => { r.waits[0].ids[4] = 11; },
+    "waits[0].ids[4] must be a whole number from 0 to 10, but it is the number 11."],
   ["not_enough", r => { delete r.first; }, "first must be an object, but it is missing."],
   ["not_enough", r => { r.first.replay = [1]; }, "first.replay[0] must be an object, but it is the number 1."],
   ["search", r => { r.search = 9; }, "search must be a whole number from 1 to 8, but it is the number 9."],
@@ -166,6 +186,8 @@ const odd = [
   ["search_enough", r => { r.enough = 2; }, "enough must be a list, but it is the number 2."],
   ["search_enough", r => { r.needs[2].rules = []; },
     "needs[2].rules must be a list of at least one rule, but it is a list of 0."],
+  ["search_enough", r => { r.needs[2].syncs = [7]; },
+    "needs[2].syncs must be missing in a report on rules, but it is a list of 1."],
   ["search_enough", r => { r.needs[3].steps = [1]; }, "needs[3].steps[0] must be a text, but it is the number 1."],
   ["sets", r => { r.failing = 36; }, "failing must be a list, but it is the number 36."],
   ["sets", r => { r.failing[35].set = {}; }, "failing[35].set must be a list, but it is an object."],
@@ -271,7 +293,7 @@ async function testReplacedValues() {
   const draw = numbersFrom(57), answers = [];
   await open("create");
   for (const name of ["create", "pointer", "reuse", "lost", "needs", "sets", "groups", "enough", "not_enough",
-    "search_kinds", "search_some"]) {
+    "syncs", "search_kinds", "search_some"]) {
     for (let k = 0; k < 60; k++) {
       const report = reportOf(name), places = placesIn(report), [holder, key] = places[draw(places.length)];
       holder[key] = strange[draw(strange.length)];

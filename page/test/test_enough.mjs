@@ -37,10 +37,10 @@ const HEADINGS = [
   ["enough", ["Each of these 2 sets of rules is enough", "Each of these rules is needed",
     "One of these rules is needed", "All rules together are enough"]],
   ["enough_mkdir", ["Each of these 4 sets of rules is enough", "This rule is needed",
-    "One rule of each line is needed", "All rules together are enough"]],
+    "One rule of each group is needed", "All rules together are enough"]],
   ["enough_journal", ["These rules are enough", "Each of these rules is needed", "All rules together are enough"]],
-  ["not_enough", ["All rules together are not enough"]],
-  ["none_needed", ["No rule is needed", "All rules together are enough"]],
+  ["not_enough", ["The whole ordering is not enough"]],
+  ["none_needed", ["Nothing is needed", "The whole ordering is enough"]],
 ];
 
 async function testHeadings() {
@@ -64,8 +64,8 @@ async function testHead() {
     facts.push(all[3]);
     titles.push(/: (.*) under/.exec(title)[1]);
   }
-  check("other heads", facts, ["set of rules is enough1", "sets of rules are enough0", "rules are needed0"]);
-  check("other titles", titles, ["1 set of rules is enough", "the rules are not enough", "no rule is needed"]);
+  check("other heads", facts, ["set of rules is enough1", "sets of rules or lines are enough0", "needed0"]);
+  check("other titles", titles, ["1 set of rules is enough", "the whole ordering is not enough", "nothing is needed"]);
   check("an immense number of closed sets", await drop(JSON.stringify({ ...reportOf("not_enough"),
     closed: "134930772508700371486596739530489856" })), "shown");
   check("has all its digits", (await shown()).facts[2], "closed sets134930772508700371486596739530489856");
@@ -185,9 +185,25 @@ async function testNotEnough() {
 async function testNoneNeeded() {
   await open("none_needed");
   const page = await shown();
+  check("nothing: the list", page.choices, ["nothing at all", "No crashevery patch on disk"]);
+  check("nothing: its words", page.words, ["Nothing is needed: replay leaves a clean disk after every crash. The "
+    + "report does not say whether it is about rules or about lines that wait, so the graph has every arrow."]);
+}
+
+/** With the words that the program was run with, a page says that no rule is needed, or that all are not enough. */
+async function testRunOnRules() {
+  await openMade("none_needed", "start\n", ["--module", "async", "--enough"]);
+  const page = await shown();
   check("no rule: the list", page.choices, ["no rule at all", "No crashevery patch on disk"]);
-  check("no rule: its words", page.words, ["No rule is needed: without any rule, replay leaves a clean disk after "
-    + "every crash. The graph has no arrow of a rule."]);
+  check("no rule: its headings and words", [page.parts, page.words], [["No rule is needed",
+    "All rules together are enough"], ["No rule is needed: without any rule, replay leaves a clean disk after every "
+    + "crash. The graph has no arrow of a rule."]]);
+  check("no rule: the head", page.facts[3], "rules are needed0");
+  await openMade("not_enough", "create /a\nstart\nlink /a /b\nunlink /a\n", ["--strict", "--enough"]);
+  const { parts, facts, title } = await shown();
+  const isTitled = title.startsWith("a script: the rules are not enough under soft");
+  check("all rules are not enough", [parts, facts[3], isTitled],
+    [["All rules together are not enough"], "sets of rules are enough0", true]);
 }
 
 async function testOneRule() {
@@ -236,4 +252,5 @@ async function testLongLists() {
 }
 
 await run([testList, testHeadings, testHead, testSets, testGroups, testPickedGroups, testPickedUnderEnough,
-  testPickedUnderOthers, testNotEnough, testNoneNeeded, testOneRule, testKeyboard, testWidths, testLongLists]);
+  testPickedUnderOthers, testNotEnough, testNoneNeeded, testRunOnRules, testOneRule, testKeyboard, testWidths,
+  testLongLists]);

@@ -38,7 +38,7 @@ async function testList() {
 
 /** Each: the case, and the headings of its list. */
 const HEADINGS = [
-  ["search_enough", ["Each of these 4 sets of rules is enough", "One rule of each line is needed"]],
+  ["search_enough", ["Each of these 4 sets of rules is enough", "One rule of each group is needed"]],
   ["search_none", ["No rule is needed"]],
   ["search", []],
 ];
