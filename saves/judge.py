@@ -1,7 +1,6 @@
 """Whether a recorded script keeps its promise: the smallest crash that breaks it, and the waits that it needs."""
 
 import dataclasses
-import itertools
 import re
 import subprocess
 
@@ -36,13 +35,14 @@ class Crash:
         return sum(len(roles) for _, roles, _ in self.lines)
 
 
-def report(text, module):
-    """The program's report of `--decide --explain` on a script, or `refused: ` and why. Where no program is built the
-    launcher compiles one."""
+def report(text, module, *question):
+    """The program's report of `--explain` on a script and a question, `--decide` if none is named, or `refused: ` and
+    why. Where no program is built the launcher compiles one."""
     blocks, journal = GEOMETRY.match(text).groups()
-    words = f"--module {module} --blocks {blocks} --journal {journal} --faults 10 --decide --explain".split()
+    words = f"--module {module} --blocks {blocks} --journal {journal} --faults 10 --explain".split()
     built = program().resolve() if program().exists() else ROOT / "crashmap"
-    run = subprocess.run([built, *words], input=text.encode(), check=False, capture_output=True)
+    run = subprocess.run([built, *words, *(question or ["--decide"])], input=text.encode(), check=False,
+                         capture_output=True)
     if run.returncode not in (0, 1, 2):
         raise RuntimeError(f"{built} ended with status {run.returncode}: {run.stderr.decode()}")
     return run.stdout.decode() if run.returncode < 2 else f"refused: {run.stderr.decode().splitlines()[-1]}"
@@ -85,18 +85,9 @@ def waits_of(text):
 
 
 def needed(text, module):
-    """The first of the smallest sets of waits that are enough, or None where all are not.
-
-    The reference judges the script without the other waits. The sets come as in `--enough --syncs`.
-    """
-    waits = waits_of(text)
-    sets = itertools.chain.from_iterable(itertools.combinations(waits, count) for count in range(len(waits) + 1))
-    for kept in sorted(sets, key=lambda it: (len(it), sum(1 << waits.index(wait) for wait in it))):
-        if judge(without(text, set(waits) - set(kept)), module, reference_report) is None:
-            return list(kept)
-    return None
-
-
-def without(text, places):
-    """The script with these lines taken out; the others keep their numbers."""
-    return "\n".join("#" if at in places else line for at, line in enumerate(text.split("\n")))
+    """The first of the smallest sets of waits that are enough, None where all are not, or the text of a refusal."""
+    found = report(text, module, "--enough", "--syncs")
+    if found.startswith("refused: "):
+        return found.removeprefix("refused: ")
+    enough = re.search(r"^syncs(.*)$", found, re.MULTILINE)
+    return enough and [int(it) - 1 for it in enough[1].split()]

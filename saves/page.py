@@ -56,7 +56,7 @@ NOTES = """
   `synchronous=off` the database can be torn.
 
 In the sections below, *needs* has a smallest set of waits that is enough, out of those that the program makes. A dash
-stands where all of them together are not enough. The reference program answers this, by taking waits out of the script.
+stands where all of them together are not enough.
 """
 
 # A line feed that neither ends a paragraph nor begins an item of a list.
@@ -70,13 +70,13 @@ def text_of(program, suffix=""):
 
 
 def found_of(program):
-    """For each column the verdict and the waits that are enough, which are None where all of them are not."""
+    """For each column the verdict and the waits that are enough: None where all are not, or the text of a refusal."""
     found = {}
     for column, (module, suffix) in COLUMNS.items():
         text = text_of(program, suffix)
         verdict = judge(text, module)
         waits = needed(text, module) if verdict is None else None
-        found[column] = (verdict, waits and [text.split("\n")[it] for it in waits])
+        found[column] = (verdict, [text.split("\n")[it] for it in waits] if isinstance(waits, list) else waits)
     return found
 
 
@@ -96,7 +96,7 @@ def crash_words(verdict):
 
 
 def waits_words(waits):
-    return "none" if not waits else ", ".join(f"`{it}`" for it in waits)
+    return waits if isinstance(waits, str) else ", ".join(f"`{it}`" for it in waits) or "none"
 
 
 def section(program, found):
