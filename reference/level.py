@@ -8,7 +8,7 @@ LEVELS = ("plain", "extended", "deciding", "choosing", "searching", "reaching", 
 `overwrite`, `truncate` and `replace`, the soft rule `MapClear:PtrClear`, and `--generations`. `promises`: also `sync`
 and `fsync`, `keep`, `hold` and `spare`, `--durable` and `--faults`. `syncs`: also `--enough --syncs`."""
 
-LEVEL = "promises"
+LEVEL = "syncs"
 """The level of today. The reference answers lines and options of all levels, but its lists of rules are those of this
 level, and random cases keep to it."""
 

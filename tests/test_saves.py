@@ -4,14 +4,36 @@ import concurrent.futures
 import unittest
 
 from saves import page
-from saves.judge import Crash, crash_of, judge, needed, reference_report, report
+from saves.judge import Crash, crash_of, judge, needed, reference_report, report, waits_of
 from saves.programs import PROGRAMS
+
+
+# The name and the ordering of each verdict of the page.
+ASKED = [(f"{it.name}{suffix}.script", module) for it in PROGRAMS for module, suffix in page.COLUMNS.values()]
 
 
 def answers(name, module):
     """What the program and the reference report on a script of saves/."""
     text = (page.FOLDER / name).read_text()
     return report(text, module), reference_report(text, module)
+
+
+def is_kept_with(text, module, waits):
+    """Whether the reference says that a script keeps its promise without all but these waits."""
+    left = set(waits_of(text)) - set(waits)
+    lines = ["#" if at in left else line for at, line in enumerate(text.split("\n"))]
+    return judge("\n".join(lines), module, reference_report) is None
+
+
+def needs_are_right(name, module):
+    """Whether the waits that a script of saves/ needs are enough, and none of them can be left out, where it has any
+    and keeps its promise with all."""
+    text = (page.FOLDER / name).read_text()
+    if not waits_of(text) or judge(text, module) is not None:
+        return True
+    waits = needed(text, module)
+    return is_kept_with(text, module, waits) and not any(
+        is_kept_with(text, module, set(waits) - {it}) for it in waits)
 
 
 class Saves(unittest.TestCase):
@@ -21,11 +43,17 @@ class Saves(unittest.TestCase):
 
     def test_reports(self):
         """The program and the reference give the same reports on all scripts, with their crashes and promises."""
-        asked = [(f"{it.name}{suffix}.script", module) for it in PROGRAMS for module, suffix in page.COLUMNS.values()]
         with concurrent.futures.ProcessPoolExecutor() as pool:
-            for one, (found, wanted) in zip(asked, pool.map(answers, *zip(*asked))):
+            for one, (found, wanted) in zip(ASKED, pool.map(answers, *zip(*ASKED))):
                 with self.subTest(one):
                     self.assertEqual(found, wanted)
+
+    def test_needs(self):
+        """The reference judges the scripts without waits as the program says."""
+        with concurrent.futures.ProcessPoolExecutor() as pool:
+            for one, is_right in zip(ASKED, pool.map(needs_are_right, *zip(*ASKED))):
+                with self.subTest(one):
+                    self.assertTrue(is_right)
 
     def test_each_script_is_of_a_program(self):
         names = {f"{it.name}{suffix}.script" for it in PROGRAMS for suffix in ("", ".delay")}
@@ -48,10 +76,11 @@ class Saves(unittest.TestCase):
                          ["crashmap: line 3: 10 not found"] * 2)
 
     def test_needed_waits(self):
-        """As the question about waits has it for the same script: the wait for the new file alone, of two."""
+        """The wait for the new file alone, of two."""
         script = ("# crashmap: --blocks 128 --journal 62\ncreate /a\nwrite /a\nstart\nhold /a\ncreate /t\nwrite /t\n"
                   "fsync /t\nreplace /t /a\nspare /a /a\nfsync /a\n")
         self.assertEqual([needed(script, it) for it in ("soft", "meta", "async")], [[7], [], None])
+        self.assertEqual(needed(script + "fsync /a\n" * 63, "soft"), "crashmap: line 74: 23 too many syncs")
 
 
 if __name__ == "__main__":
