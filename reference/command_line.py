@@ -25,7 +25,7 @@ CHOICES = {"module": ("soft", MODULES), "explorer": ("auto", ("auto", "board", "
 """Options with a word: the word without the option, and all words."""
 
 FLAGS = ("json", "explain", "summary", "needs", "strict", "atomic", "whole-blocks", "decide", "enough", "generations",
-         "durable", "syncs")
+         "durable", "syncs", "numbers")
 
 
 class CommandLineFault(Exception):
@@ -126,6 +126,8 @@ def check_questions(parser, call):
         parser.error("--decide with --%s" % asked[1])
     if call.syncs and (not call.enough or call.search is not None):
         parser.error("--syncs without --enough of one script")
+    if call.numbers and not call.json:
+        parser.error("--numbers without --json")
     if call.explorer == "board" and call.limit > MOST_ON_A_BOARD:
         parser.error("--explorer board: a limit above %d" % MOST_ON_A_BOARD)
 

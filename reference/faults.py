@@ -24,6 +24,13 @@ def number_of(text):
     return int(text.split(" ")[0])
 
 
+def numbers_of(text):
+    """The numbers in the text of a fault by name: that of its kind, and for each place the number behind its word."""
+    _, _, places = text.partition(": ")
+    words = places.split()
+    return dict(zip(words[::2], map(int, words[1::2])), kind=number_of(text))
+
+
 def entries_of(image):
     """The entries in use: (directory, entry, inode that it names)."""
     return [(directory, k, target_of(image, directory, k))

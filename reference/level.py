@@ -1,14 +1,15 @@
 """Which options and lines the product of today has. Change it here when later ones land."""
 
 LEVELS = ("plain", "extended", "deciding", "choosing", "searching", "reaching", "all", "operations", "promises",
-          "syncs")
+          "syncs", "numbers")
 """`plain`: those of the first release. `extended`: also rules, `--explain`, `--summary`, `--needs` and `--strict`.
 `deciding`: also `--decide`. `choosing`: also `--enough`. `searching`: also `--search`. `reaching`: also
 `--whole-blocks`, rules with `before`, and `--search` with `--enough`. `all`: also `--atomic`. `operations`: also
 `overwrite`, `truncate` and `replace`, the soft rule `MapClear:PtrClear`, and `--generations`. `promises`: also `sync`
-and `fsync`, `keep`, `hold` and `spare`, `--durable` and `--faults`. `syncs`: also `--enough --syncs`."""
+and `fsync`, `keep`, `hold` and `spare`, `--durable` and `--faults`. `syncs`: also `--enough --syncs`. `numbers`: also
+`--numbers`."""
 
-LEVEL = "syncs"
+LEVEL = "numbers"
 """The level of today. The reference answers lines and options of all levels, but its lists of rules are those of this
 level, and random cases keep to it."""
 

@@ -3,13 +3,18 @@
 import json
 
 from .closed_sets import ids_of
-from .faults import FAULT_NAMES
+from .disk import BLOCK_SIZE
+from .faults import FAULT_NAMES, numbers_of
 from .promises import allowed_to_some, spare_texts
 from .refusals import REFUSAL_TEXTS
 from .rules import written
 from .script import spelled_path
 from .summary import each_fault
 from .verdicts import shows_of
+
+
+FORMAT = 1
+"""The number of the form of reports."""
 
 
 def compact(value):
@@ -28,15 +33,20 @@ def head_value(found, settings):
     value.update((name, True) for name in flags if getattr(settings, name))
     if settings.counted:
         value["counted"] = settings.counted
+    if settings.numbers:
+        value["format"] = FORMAT
+        value["geometry"] = {"block_size": BLOCK_SIZE, "blocks": settings.blocks, "journal": settings.journal}
     return value
 
 
 class Detail:
-    """How much is reported of a set: `explained` what replay changes, `shown` what paths show too."""
+    """How much is reported of a set: `explained` what replay changes, `shown` what paths show too, `numbers` the numbers
+    in the texts of faults."""
 
     def __init__(self, found, settings):
         self.explained = settings.explain
         self.shown = settings.explain and found.tells_promises
+        self.numbers = settings.numbers
 
 
 def trace_value(found, settings):
@@ -81,8 +91,12 @@ def set_value(one, detail):
 
 def section_value(one, detail):
     """A failing set with its faults."""
-    shows = {"shows": one.shows} if detail.shown else {}
-    return dict(set_value(one, detail), faults=one.faults, **shows)
+    value = dict(set_value(one, detail), faults=one.faults)
+    if detail.shown:
+        value["shows"] = one.shows
+    if detail.numbers:
+        value["fault_numbers"] = [numbers_of(text) for text in one.faults]
+    return value
 
 
 def need_value(need, detail):
@@ -102,8 +116,12 @@ def fault_value(fault, detail):
     """A fault and the first set that has it."""
     text, _, first = fault
     shows = shows_of(first)
-    shown = {"shows": [shows[text]] if text in shows else []} if detail.shown else {}
-    return dict(set_value(first, detail), fault=text, **shown)
+    value = dict(set_value(first, detail), fault=text)
+    if detail.shown:
+        value["shows"] = [shows[text]] if text in shows else []
+    if detail.numbers:
+        value["fault_numbers"] = numbers_of(text)
+    return value
 
 
 def asked_values(some):

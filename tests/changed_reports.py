@@ -9,20 +9,24 @@ patches, it changes in one of them.
 import copy
 import json
 
-HEAD = {"atomic", "counted", "durable", "generations", "module", "strict", "whole_blocks", "with", "without"}
+HEAD = {"atomic", "counted", "durable", "format", "generations", "geometry", "module", "strict", "whole_blocks", "with",
+        "without"}
 """The keys that reports on every question can have."""
 
-MAY_LACK = HEAD - {"module"}
+MAY_LACK = HEAD - {"format", "geometry", "module"}
 """The keys without which a report is right. `first` is one of them in a rule, and is not in a report."""
 
 OTHERS = (None, True, 0.5, "other", {"other": 1})
 """Values of other types, none of which is right anywhere, but `True` for some keys."""
 
-TOO_LARGE = {"after": 124, "block": 128, "closed": 10**9 + 1, "counted": 11, "ids": 124, "kind": 11, "line": 2**20 + 1, "number": 21, "offset": 128,
-             "pairs": 7627, "patch": 123, "patches": 125, "pool": 2**20, "search": 9, "set": 124, "sets": 10**9 + 1}
+TOO_LARGE = {"after": 124, "block": 128, "block_size": 129, "blocks": 129, "closed": 10**9 + 1, "counted": 11,
+             "directory": 16, "entries": 161, "entry": 10, "format": 2, "ids": 124, "inode": 255, "journal": 123,
+             "kind": 11, "line": 2**20 + 1, "links": 160, "number": 21, "offset": 128, "pairs": 7627, "patch": 123,
+             "patches": 125, "pool": 2**20, "search": 9, "set": 124, "sets": 10**9 + 1, "slot": 4}
 """A number above the right ones, for the key that it has or is in a list of."""
 
-TOO_SMALL = {"block": 0, "closed": 0, "count": 0, "counted": 0, "kind": 0, "line": 1, "number": 0, "search": 0}
+TOO_SMALL = {"block": 0, "block_size": 127, "blocks": 15, "closed": 0, "count": 0, "counted": 0, "entries": 0,
+             "format": 0, "kind": 0, "line": 1, "number": 0, "search": 0}
 
 WRONG_RULES = ("Ptr", "Ptr:Ptrs", "Ptr:next-Ptr", "Ptr:previous-before-Ptr", "reason", "Ptr:InitFile ")
 WRONG_FAULTS = (
@@ -51,7 +55,8 @@ WRONG_TEXTS = {
     "step": WRONG_STEPS, "steps": WRONG_STEPS, "text": ("no", "Not found", "group fault")}
 """Texts that are wrong for the key that they have or are in a list of."""
 
-NEVER_EMPTY = {"patches", "steps", "keep", "hold", "counted", "why", "faults", "rules", "with", "without", "base"}
+NEVER_EMPTY = {"patches", "steps", "keep", "hold", "counted", "why", "fault_numbers", "faults", "rules", "with", "without",
+               "base"}
 """Keys of lists that are not empty. `faults` and `rules` of a whole report can be."""
 
 
@@ -107,6 +112,8 @@ def wrong_objects(place, value, is_search):
     yield dict(value, other=1)
     if {"set", "writes"} <= set(value) and "replay" not in value and not is_search:
         yield dict(value, replay=[])
+    if {"set", "writes"} <= set(value) and "fault_numbers" not in value:
+        yield dict(value, fault_numbers={"kind": 9} if "fault" in value else [{"kind": 9}])
     for key in value:
         if is_needed(place, key, is_search) and not (key == "shows" and "set" in value):
             yield {other: inner for other, inner in value.items() if other != key}

@@ -16,7 +16,8 @@ HELP = ("Finds every state", "Usage: crashmap", "\nWhat to run:\n", "[SCRIPT]", 
         "\nThe ordering:\n", "--module <M>", "--without <RULE>", "--with <RULE>", "--whole-blocks",
         "\nWhat fails:\n", "--strict", "--atomic",
         "\nHow far:\n", "--limit <L>", "--explorer <E>", "--workers <W>", "--decide", "--enough", "--search <N>",
-        "\nHow to read it:\n", "--explain", "--summary", "--needs", "--json", "--hints <WHEN>", "--options")
+        "\nHow to read it:\n", "--explain", "--summary", "--needs", "--json", "--numbers",
+        "--hints <WHEN>", "--options")
 
 
 def answer(*words, script=b""):

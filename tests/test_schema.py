@@ -11,7 +11,7 @@ import subprocess
 import sys
 import unittest
 
-from reference.faults import FAULT_NAMES
+from reference.faults import FAULT_NAMES, numbers_of
 from reference.refusals import REFUSAL_TEXTS
 from reference.rules import MODULES, PARTS, ROLES, rules_of
 from tests import case_files
@@ -87,6 +87,14 @@ class Reports(unittest.TestCase):
         self.assertEqual(self.answer["accepted"], [])
         self.assertGreater(len(self.bad), 1000)
 
+    def test_numbers_are_those_of_the_texts(self):
+        objects = [(name, part) for name, report in self.good.items() for part in parts_of(report)
+                   if "fault_numbers" in part]
+        self.assertGreater(len(objects), 20)
+        for name, part in objects:
+            wanted = numbers_of(part["fault"]) if "fault" in part else [numbers_of(text) for text in part["faults"]]
+            self.assertEqual(part["fault_numbers"], wanted, name)
+
     def test_reports_are_one_line_without_spaces_and_their_keys_ascend(self):
         for name, text in self.texts.items():
             self.assertEqual(json.dumps(self.good[name], separators=(",", ":"), sort_keys=True) + "\n", text, name)
@@ -127,6 +135,13 @@ class Schema(unittest.TestCase):
         texts = [one.get("pattern") or "^" + one["const"] for one in DEFS["fault_text"]["anyOf"]]
         self.assertEqual([text.split(":")[0] for text in texts],
                          [f"^{number} {name}" for number, name in names.items()])
+
+    def test_the_numbers_of_faults_are_those_of_their_texts(self):
+        words = [re.findall("[a-z]+(?= )", text.partition(": ")[2])
+                 for text in (one.get("pattern", "") for one in DEFS["fault_text"]["anyOf"])]
+        numbers = [one["properties"] for one in DEFS["fault_numbers"]["oneOf"]]
+        self.assertEqual([one["kind"]["const"] for one in numbers], list(FAULT_NAMES))
+        self.assertEqual([set(one) for one in numbers], [{"kind", *some} for some in words])
 
     def test_refusals_are_those_of_the_reference(self):
         self.assertEqual(dict(zip(texts_of("number"), texts_of("text"))),

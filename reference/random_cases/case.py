@@ -9,7 +9,7 @@ from ..settings import MOST_PATCHES, Settings
 from ..trace import trace
 
 FLAGS = ("explain", "summary", "needs", "strict", "atomic", "whole_blocks", "decide", "enough", "generations",
-         "durable", "syncs")
+         "durable", "syncs", "numbers")
 
 
 class Case:
@@ -28,7 +28,7 @@ class Case:
         self.explain = self.summary = self.needs = self.strict = False
         self.atomic = self.whole_blocks = self.decide = self.enough = False
         self.search = None
-        self.generations = self.durable = self.syncs = False
+        self.generations = self.durable = self.syncs = self.numbers = False
         self.counted = None
 
     def is_plain(self):

@@ -12,6 +12,7 @@ from .options import choose, decide, deciding, extend, reach, search
 from .promising import promise_or_leave
 from .refused import bad_geometry, group_fault, journal_full, many_patches, refused_by_plan
 from .refused_promises import fault as new_fault
+from .refused_promises import has
 from .spoiled import mutate, spoil
 
 WITH_NEW_LINES = LEVELS[LEVELS.index("operations"):]
@@ -128,7 +129,7 @@ def deciding_pieces(case, chance):
 
 def new_pieces(case, chance):
     """The words of options about generations, promises and lines that wait, in pieces that stay together."""
-    pieces = [["--" + name] for name in ("generations", "durable", "syncs") if getattr(case, name)]
+    pieces = [["--" + name] for name in ("generations", "durable", "syncs", "numbers") if getattr(case, name)]
     if case.counted is not None:
         pieces.append(joined(chance, "--faults", ",".join(map(str, case.counted))))
     chance.shuffle(pieces)
@@ -161,6 +162,7 @@ def make_case(seed, index, modules=MODULES, level="all", heavy_share=HEAVY_SHARE
         new = chance_of(seed, index, level, "new")
         give_options(case, new, 0.06, lambda dice, module: new_fault(dice, module, level),
                      lambda one, dice: promise_or_leave(one, dice, level))
+        case.numbers = has(level, "numbers") and case.json and new.random() < 0.7
     words = case.basic_words(chance)
     if with_more and case.words is None:
         words = around(more, extended_pieces(case, more), words)

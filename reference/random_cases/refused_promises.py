@@ -62,6 +62,10 @@ SYNC_FAULTS = [
     ["--syncs", "--enough", "--decide"], ["--syncs", "--enough", "--limit", "5"], ["--enough", "--syncs", "--summary"],
     ["--syncs", "--faults", "10"], ["--enough", "--syncs", "--explorer", "auto"]]
 
+NUMBER_FAULTS = [
+    ["--numbers"], ["--numbers", "--decide"], ["--numbers", "--json", "--numbers"], ["--numbers=1", "--json"],
+    ["--explain", "--numbers"], ["--json", "--number"], ["--enough", "--syncs", "--numbers"]]
+
 
 def has(level, wanted):
     """Whether a level has the lines and options of another."""
@@ -75,6 +79,8 @@ def fault(chance, module, level):
         kinds = PROMISE_FAULTS + [["--faults", word] for word in NO_NUMBERS_OF_FAULTS]
     if has(level, "syncs") and chance.random() < 0.3:
         kinds = SYNC_FAULTS
+    if has(level, "numbers") and chance.random() < 0.2:
+        kinds = NUMBER_FAULTS
     return ["--module", module] + chance.choice(kinds)
 
 

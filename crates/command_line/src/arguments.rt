@@ -291,6 +291,12 @@ pub(crate) static HEADS: [Head; 5] = [
                 help: "Report as JSON in place of text",
             },
             Entry {
+                name: "numbers",
+                takes: Takes::NothingBeside(&["json"], &[]),
+                help: "With --json also give the numbers in the text of each fault by name, the number of the form of \
+                       reports, and the size of the disk",
+            },
+            Entry {
                 name: "hints",
                 takes: Takes::OneOf("WHEN", &["auto", "always", "never"], "auto"),
                 help: "Say on standard error what helps: if that is a terminal, always or never",

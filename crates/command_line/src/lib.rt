@@ -132,6 +132,7 @@ fn call_of<'a>(
         blocks: number_of(matches, "blocks", BLOCKS),
         journal: number_of(matches, "journal", JOURNAL),
         json: matches.get_flag("json"),
+        numbers: matches.get_flag("numbers"),
         explain: matches.get_flag("explain"),
         whole_blocks: matches.get_flag("whole-blocks"),
         generations: matches.get_flag("generations"),

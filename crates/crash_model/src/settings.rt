@@ -11,12 +11,13 @@ use crate::rule_lists::RuleList;
 ///
 /// The ordering is the module's with the rules `without` taken out and the rules `with` put in at its end. The disk
 /// has `blocks` blocks of 128 bytes, of which `journal` are the journal's. The report is JSON if `json` is set, else
-/// text; with `explain` it says what the patches are and what replay changes. With `whole_blocks` a block is written
-/// with all changes that it has in memory, so a patch depends on each earlier one of its block. With `generations` the
-/// inodes and the marks of blocks on the disk have generations. With `strict` the checker also requires of each image
-/// that nothing the script keeps is lost; with `atomic`, that it shows the disk after some number of whole operations.
-/// With `durable` each fsync of a path promises that the path shows what it showed, until a later operation touches it.
-/// With `counted` only faults of these numbers count, which are given as a set.
+/// text; with `numbers` JSON also has the numbers of each fault, and of the disk; with `explain` a report says what the
+/// patches are and what replay changes. With `whole_blocks` a block is written with all changes that it has in memory,
+/// so a patch depends on each earlier one of its block. With `generations` the inodes and the marks of blocks on the
+/// disk have generations. With `strict` the checker also requires of each image that nothing the script keeps is lost;
+/// with `atomic`, that it shows the disk after some number of whole operations. With `durable` each fsync of a path
+/// promises that the path shows what it showed, until a later operation touches it. With `counted` only faults of these
+/// numbers count, which are given as a set.
 #[derive(Debug, PartialEq, Eq, Drop)]
 pub struct Settings {
     pub module: Module,
@@ -25,6 +26,7 @@ pub struct Settings {
     pub blocks: usize,
     pub journal: usize,
     pub json: bool,
+    pub numbers: bool,
     pub explain: bool,
     pub whole_blocks: bool,
     pub generations: bool,

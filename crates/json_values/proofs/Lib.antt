@@ -1,5 +1,6 @@
 pub mod Bytes
 pub mod Commas
+pub mod HeadPieces
 pub mod Ids
 pub mod ListedValues
 pub mod PatchBytes

@@ -3,11 +3,11 @@ use Rattle.std.proofs.Common.{◌≡◌, ℕ, List, ◌++◌, map, codes, decima
 use Rattle.crash_model.specs.Lists.{join_of}
 use Rattle.crash_model.specs.declared.fault.Fault.{Fault}
 use Rattle.crash_model.specs.declared.fault.FaultRow.{FaultRow}
-use Rattle.report_model.specs.Report.{Section, ReplayedBlock, ids_json, replayed_json, replay_json, section_json}
+use Rattle.report_model.specs.FaultKeys.{fault_head, faults_head}
+use Rattle.report_model.specs.Report.{Form, Section, ReplayedBlock, ids_json, replayed_json, replay_json, section_json}
 use Rattle.report_model.specs.Report.{write_json, writes_json}
 use Rattle.report_model.specs.Shows.{shows_json}
 use Rattle.report_model.specs.Summary.{told_fault_json}
-use Rattle.json_values.specs.Known.{fault_json}
 use Rattle.json_values.specs.Items.{crash_json, fault_shows_json, last_json, leading_json}
 
 pub three_pieces : (before one two after a b c : List ℕ) → one ≡ before ++ a → two ≡ one ++ b → after ≡ two ++ c
@@ -59,36 +59,30 @@ crash_pieces patches fault s before one after first second =
         ≡ before ++ (a ++ b ++ c ++ d ++ e ++ f ++ g)
     regroup before a b c d e f g = simp append_assoc
 
-pub section_pieces : (patches : ℕ) (s : Section) (before one two three four five six seven after : List ℕ)
-    → one ≡ before ++ codes "{\"faults\":["
-    → two ≡ one ++ join_of 44 (map fault_json s.found)
-    → three ≡ two ++ codes "],"
-    → four ≡ three ++ replay_json s.replay
-    → five ≡ four ++ codes "\"set\":"
-    → six ≡ five ++ ids_json patches s.set
-    → seven ≡ six ++ shows_json s.shows
-    → after ≡ seven ++ last_json patches s
-    → after ≡ before ++ section_json patches s
-section_pieces patches s before one two three four five six seven after first second third fourth fifth sixth seventh
-    eighth =
-    let faults = join_of 44 (map fault_json s.found) in
+pub section_pieces : (form : Form) (s : Section) (before one two three four five after : List ℕ)
+    → one ≡ before ++ faults_head form.numbers s.found
+    → two ≡ one ++ replay_json s.replay
+    → three ≡ two ++ codes "\"set\":"
+    → four ≡ three ++ ids_json form.patches s.set
+    → five ≡ four ++ shows_json s.shows
+    → after ≡ five ++ last_json form.patches s
+    → after ≡ before ++ section_json form s
+section_pieces form s before one two three four five after first second third fourth fifth sixth =
+    let head = faults_head form.numbers s.found in
     let replay = replay_json s.replay in
-    let ids = ids_json patches s.set in
+    let ids = ids_json form.patches s.set in
     let shows = shows_json s.shows in
-    let head : three ≡ before ++ codes "{\"faults\":[" ++ faults ++ codes "]," =
-    third ∙ ap (λ (t : List ℕ). t ++ codes "],") (second ∙ ap (λ (t : List ℕ). t ++ faults) first) in
-    let end : after ≡ three ++ replay ++ codes "\"set\":" ++ ids ++ shows ++ last_json patches s =
-    eighth ∙ ap (λ (t : List ℕ). t ++ last_json patches s) (seventh ∙ ap (λ (t : List ℕ). t ++ shows)
-    (sixth ∙ ap (λ (t : List ℕ). t ++ ids) (fifth ∙ ap (λ (t : List ℕ). t ++ codes "\"set\":") fourth))) in
-    end ∙ (ap (λ (t : List ℕ). t ++ replay ++ codes "\"set\":" ++ ids ++ shows ++ last_json patches s) head
-    ∙ regroup before (codes "{\"faults\":") (codes "[") faults (codes "]") (codes ",") replay
-    (codes "\"set\":") ids shows
-    (codes ",\"writes\":") (writes_json patches s.writes) (codes "}"))
+    let last = last_json form.patches s in
+    let end : after ≡ one ++ replay ++ codes "\"set\":" ++ ids ++ shows ++ last =
+    sixth ∙ ap (λ (t : List ℕ). t ++ last) (fifth ∙ ap (λ (t : List ℕ). t ++ shows)
+    (fourth ∙ ap (λ (t : List ℕ). t ++ ids) (third ∙ ap (λ (t : List ℕ). t ++ codes "\"set\":") second))) in
+    end ∙ (ap (λ (t : List ℕ). t ++ replay ++ codes "\"set\":" ++ ids ++ shows ++ last) first
+    ∙ regroup before head replay (codes "\"set\":") ids shows (codes ",\"writes\":")
+    (writes_json form.patches s.writes) (codes "}"))
   where
-    regroup : (before a b c d e f g h i j k l : List ℕ)
-        → before ++ (a ++ b) ++ c ++ (d ++ e) ++ f ++ g ++ h ++ i ++ (j ++ k ++ l)
-        ≡ before ++ (a ++ (b ++ c ++ d) ++ e ++ f ++ g ++ h ++ i ++ j ++ k ++ l)
-    regroup before a b c d e f g h i j k l = simp append_assoc
+    regroup : (before a b c d e f g h : List ℕ) → before ++ a ++ b ++ c ++ d ++ e ++ (f ++ g ++ h)
+        ≡ before ++ (a ++ b ++ c ++ d ++ e ++ f ++ g ++ h)
+    regroup before a b c d e f g h = simp append_assoc
 
 -- what replay changes
 pub replay_pieces : (replay : List ReplayedBlock) (before one two after : List ℕ)
@@ -105,37 +99,32 @@ replay_pieces replay before one two after first second third =
     regroup a b c d e = simp append_assoc
 
 -- the entry of a fault
-pub row_pieces : (patches : ℕ) (row : FaultRow) (s : Section)
-    (before one two three four five six seven eight after : List ℕ)
-    → one ≡ before ++ codes "{\"fault\":"
-    → two ≡ one ++ fault_json row.fault
-    → three ≡ two ++ codes ","
-    → four ≡ three ++ replay_json s.replay
-    → five ≡ four ++ codes "\"set\":"
-    → six ≡ five ++ ids_json patches s.set
-    → seven ≡ six ++ (codes ",\"sets\":" ++ decimal row.sets)
-    → eight ≡ seven ++ fault_shows_json row.fault s
-    → after ≡ eight ++ last_json patches s
-    → after ≡ before ++ told_fault_json patches (record { row = row; first = s })
-row_pieces patches row s before one two three four five six seven eight after first second third fourth fifth sixth
-    seventh eighth ninth =
-    let fault = fault_json row.fault in
+pub row_pieces : (form : Form) (row : FaultRow) (s : Section) (before one two three four five six after : List ℕ)
+    → one ≡ before ++ fault_head form.numbers row.fault
+    → two ≡ one ++ replay_json s.replay
+    → three ≡ two ++ codes "\"set\":"
+    → four ≡ three ++ ids_json form.patches s.set
+    → five ≡ four ++ (codes ",\"sets\":" ++ decimal row.sets)
+    → six ≡ five ++ fault_shows_json row.fault s
+    → after ≡ six ++ last_json form.patches s
+    → after ≡ before ++ told_fault_json form (record { row = row; first = s })
+row_pieces form row s before one two three four five six after first second third fourth fifth sixth seventh =
+    let head = fault_head form.numbers row.fault in
     let replay = replay_json s.replay in
-    let ids = ids_json patches s.set in
+    let ids = ids_json form.patches s.set in
     let sets = codes ",\"sets\":" ++ decimal row.sets in
     let shows = fault_shows_json row.fault s in
-    let head : three ≡ before ++ codes "{\"fault\":" ++ fault ++ codes "," =
-    third ∙ ap (λ (t : List ℕ). t ++ codes ",") (second ∙ ap (λ (t : List ℕ). t ++ fault) first) in
-    let set : six ≡ three ++ replay ++ codes "\"set\":" ++ ids =
-    sixth ∙ ap (λ (t : List ℕ). t ++ ids) (fifth ∙ ap (λ (t : List ℕ). t ++ codes "\"set\":") fourth) in
-    let end : after ≡ six ++ sets ++ shows ++ last_json patches s =
-    ninth ∙ ap (λ (t : List ℕ). t ++ last_json patches s) (eighth ∙ ap (λ (t : List ℕ). t ++ shows) seventh) in
-    end ∙ (ap (λ (t : List ℕ). t ++ sets ++ shows ++ last_json patches s)
-    (set ∙ ap (λ (t : List ℕ). t ++ replay ++ codes "\"set\":" ++ ids) head)
-    ∙ regroup before (codes "{\"fault\":") fault (codes ",") replay (codes "\"set\":") ids (codes ",\"sets\":")
-    (decimal row.sets) shows (codes ",\"writes\":") (writes_json patches s.writes) (codes "}"))
+    let last = last_json form.patches s in
+    let set : four ≡ one ++ replay ++ codes "\"set\":" ++ ids =
+    fourth ∙ ap (λ (t : List ℕ). t ++ ids) (third ∙ ap (λ (t : List ℕ). t ++ codes "\"set\":") second) in
+    let end : after ≡ four ++ sets ++ shows ++ last =
+    seventh ∙ ap (λ (t : List ℕ). t ++ last) (sixth ∙ ap (λ (t : List ℕ). t ++ shows) fifth) in
+    end ∙ (ap (λ (t : List ℕ). t ++ sets ++ shows ++ last)
+    (set ∙ ap (λ (t : List ℕ). t ++ replay ++ codes "\"set\":" ++ ids) first)
+    ∙ regroup before head replay (codes "\"set\":") ids (codes ",\"sets\":") (decimal row.sets) shows
+    (codes ",\"writes\":") (writes_json form.patches s.writes) (codes "}"))
   where
-    regroup : (o a b c d e f g h i j k l : List ℕ)
-        → o ++ a ++ b ++ c ++ d ++ e ++ f ++ (g ++ h) ++ i ++ (j ++ k ++ l)
-        ≡ o ++ (a ++ b ++ c ++ d ++ e ++ f ++ g ++ h ++ i ++ j ++ k ++ l)
-    regroup o a b c d e f g h i j k l = simp append_assoc
+    regroup : (o a b c d e f g h i j : List ℕ)
+        → o ++ a ++ b ++ c ++ d ++ (e ++ f) ++ g ++ (h ++ i ++ j)
+        ≡ o ++ (a ++ b ++ c ++ d ++ e ++ f ++ g ++ h ++ i ++ j)
+    regroup o a b c d e f g h i j = simp append_assoc

@@ -23,9 +23,7 @@ impl KnownTexts {
             ++ told_fault_json self.old (record { row = row.now; first = section_of first.now })) }
         ensures kept { self.new ≡ self.old }
     {
-        out.push_str("{\"fault\":")?;
-        self.push_fault(out, row.fault)?;
-        out.push_str(",")?;
+        self.push_fault_head(out, row.fault)?;
         push_replay(out, &first.replay)?;
         out.push_str("\"set\":")?;
         push_set(out, self.patches(), first.set)?;

@@ -34,31 +34,32 @@ struct KnownFault {
 /// A cache of the texts of block writes and faults, so that one that comes again is not written anew.
 ///
 /// Each text has one place in a table, and a later text with the same place replaces it.
-/// Contracts see the number of patches of the graph.
+/// Contracts see the number of patches of the graph, and whether the numbers of faults are asked for.
 #[derive(Drop)]
 pub struct KnownTexts {
     heap: Global,
     patches: usize,
+    numbers: bool,
     writes: Vec<Option<KnownWrite>>,
     faults: Vec<Option<KnownFault>>,
 }
 
 impl Model for KnownTexts {
-    ghost use Rattle.std.specs.Prelude.{ℕ};
+    ghost use Rattle.report_model.specs.Parts.{Form};
     ghost use Rattle.json_values.specs.Known.{AreKnown};
 
-    ghost Value = { ℕ };
+    ghost Value = { Form };
 
-    ghost view = { λ k. k.patches };
+    ghost view = { λ k. record { patches = k.patches; numbers = k.numbers } };
 
     ghost invariant = { λ k. AreKnown k.patches k.writes.items k.faults.items };
 }
 
 impl KnownTexts {
-    /// No text yet, for the block writes of a graph with `patches` patches. The texts take their memory from `heap`. It
-    /// fails only when out of memory.
-    pub fn new(heap: Global, patches: usize) -> Result<KnownTexts, AllocError>
-        ensures { IfOk result (λ known. known ≡ patches) }
+    /// No text yet, for the block writes of a graph with `patches` patches. With `numbers` those of each fault stand
+    /// beside its text. The texts take their memory from `heap`. It fails only when out of memory.
+    pub fn new(heap: Global, patches: usize, numbers: bool) -> Result<KnownTexts, AllocError>
+        ensures { IfOk result (λ known. known ≡ record { patches = patches; numbers = numbers }) }
     {
         let mut writes = Vec::new(heap);
         writes.resize_with(
@@ -77,6 +78,7 @@ impl KnownTexts {
         Ok(KnownTexts {
             heap,
             patches,
+            numbers,
             writes,
             faults,
         })
@@ -84,9 +86,16 @@ impl KnownTexts {
 
     /// The number of patches.
     pub fn patches(&self) -> usize
-        ensures { result ≡ self.now }
+        ensures { result ≡ self.now.patches }
     {
         self.patches
+    }
+
+    /// Whether the numbers of faults are asked for.
+    pub(crate) fn numbers(&self) -> bool
+        ensures { result ≡ self.now.numbers }
+    {
+        self.numbers
     }
 
     /// Adds the object of a block write.
@@ -95,7 +104,7 @@ impl KnownTexts {
         out: &mut String<B>,
         write: BlockWrite,
     ) -> Result<(), AllocError>
-        ensures text { OnOk result (string_bytes out.new ≡ string_bytes out.old ++ write_json self.old write) }
+        ensures text { OnOk result (string_bytes out.new ≡ string_bytes out.old ++ write_json self.old.patches write) }
         ensures kept { self.new ≡ self.old }
     {
         if let Some(text) = self.known_write(write) {
@@ -108,8 +117,8 @@ impl KnownTexts {
         Ok(())
     }
 
-    /// Adds the text of a fault, in quotes. It fails only when out of memory.
-    pub fn push_fault<B: Allocator>(
+    /// Adds the text of a fault, in quotes.
+    pub(crate) fn push_fault<B: Allocator>(
         &mut self,
         out: &mut String<B>,
         fault: Fault,
@@ -129,7 +138,7 @@ impl KnownTexts {
 
     /// The object of a block write, if it is kept.
     fn known_write(&self, write: BlockWrite) -> Option<&str>
-        ensures { IfSome result (λ text. text.now ≡ write_json self.now write) }
+        ensures { IfSome result (λ text. text.now ≡ write_json self.now.patches write) }
     {
         let known = self.writes[place_of_word(write.ids, WRITE_PLACES)].as_ref()?;
         if known.write == write {
@@ -153,7 +162,7 @@ impl KnownTexts {
 
     /// Keeps the object of a block write, replacing the one that was there.
     fn keep_write(&mut self, write: BlockWrite, text: String)
-        requires { string_bytes text ≡ write_json self.old write }
+        requires { string_bytes text ≡ write_json self.old.patches write }
         ensures { self.new ≡ self.old }
     {
         let place = place_of_word(write.ids, WRITE_PLACES);

@@ -5,6 +5,7 @@
 mod faults;
 mod items;
 mod known;
+mod numbers;
 mod patches;
 mod rules;
 mod sections;

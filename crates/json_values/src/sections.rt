@@ -35,9 +35,7 @@ impl KnownTexts {
             ≡ string_bytes out.old ++ section_json self.old (section_of section.now)) }
         ensures kept { self.new ≡ self.old }
     {
-        out.push_str("{\"faults\":[")?;
-        self.push_faults(out, &section.faults)?;
-        out.push_str("],")?;
+        self.push_faults_head(out, &section.faults)?;
         push_replay(out, &section.replay)?;
         out.push_str("\"set\":")?;
         push_set(out, self.patches(), section.set)?;
@@ -54,7 +52,7 @@ impl KnownTexts {
         section: &Section<A>,
     ) -> Result<(), AllocError>
         ensures text { OnOk result (string_bytes out.new
-            ≡ string_bytes out.old ++ crash_json self.old fault (section_of section.now)) }
+            ≡ string_bytes out.old ++ crash_json self.old.patches fault (section_of section.now)) }
         ensures kept { self.new ≡ self.old }
     {
         push_replay(out, &section.replay)?;
@@ -70,7 +68,7 @@ impl KnownTexts {
         section: &Section<A>,
     ) -> Result<(), AllocError>
         ensures text { OnOk result (string_bytes out.new
-            ≡ string_bytes out.old ++ leading_json self.old fault (section_of section.now)) }
+            ≡ string_bytes out.old ++ leading_json self.old.patches fault (section_of section.now)) }
         ensures kept { self.new ≡ self.old }
     {
         out.push_str("\"set\":")?;
@@ -86,7 +84,7 @@ impl KnownTexts {
         section: &Section<A>,
     ) -> Result<(), AllocError>
         ensures text { OnOk result (string_bytes out.new
-            ≡ string_bytes out.old ++ last_json self.old (section_of section.now)) }
+            ≡ string_bytes out.old ++ last_json self.old.patches (section_of section.now)) }
         ensures kept { self.new ≡ self.old }
     {
         out.push_str(",\"writes\":[")?;
@@ -95,8 +93,8 @@ impl KnownTexts {
         Ok(())
     }
 
-    /// Adds the texts of the faults, with a comma between two. It fails only when out of memory.
-    pub fn push_faults<B: Allocator>(
+    /// Adds the texts of the faults, with a comma between two.
+    pub(crate) fn push_faults<B: Allocator>(
         &mut self,
         out: &mut String<B>,
         faults: &[Fault],
@@ -119,7 +117,7 @@ impl KnownTexts {
         writes: &[BlockWrite],
     ) -> Result<(), AllocError>
         ensures text { OnOk result (string_bytes out.new
-            ≡ string_bytes out.old ++ join_of COMMA (map (write_json self.old) writes.now)) }
+            ≡ string_bytes out.old ++ join_of COMMA (map (write_json self.old.patches) writes.now)) }
         ensures kept { self.new ≡ self.old }
     {
         for (at, write) in writes.iter().enumerate() {

@@ -12,13 +12,15 @@ use Rattle.crash_model.specs.Promises.{Promise}
 use Rattle.crash_model.specs.declared.showing.Shown.{Shown}
 use Rattle.crash_model.specs.Lists.{when}
 use Rattle.crash_model.specs.Patches.{CountsClosed}
-use Rattle.report_model.specs.Report.{Detail, Section, AreSections, IsLed, line, crash_text}
+use Rattle.report_model.specs.FaultKeys.{fault_head}
+use Rattle.report_model.specs.Report.{Detail, Section, AreSections, IsLed, Form, line, crash_text}
 use Rattle.crash_model.specs.Texts.{fault_text, module_text}
 use Rattle.report_model.specs.Report.{json_string, json_array, ids_json, replay_json, writes_json}
 use Rattle.crash_model.specs.Checker.{Demands}
 use Rattle.crash_model.specs.FaultRows.{HasFault}
 use Rattle.crash_model.specs.Trace.{Tracing}
-use Rattle.report_model.specs.Whole.{told_without, told_with, rule_lines, first_json, rules_json, blocks_text, before_module}
+use Rattle.report_model.specs.Whole.{told_without, told_with, rule_lines, first_json, rules_json, blocks_text}
+use Rattle.report_model.specs.Whole.{before_module, form_of}
 use Rattle.crash_model.specs.declared.patches.Patch.{Patch}
 use Rattle.crash_model.specs.declared.settings.Settings.{Settings}
 use Rattle.question_model.specs.Decided.{AreDecided}
@@ -78,13 +80,13 @@ text_decision settings d =
 
 -- ---- JSON: one compact object, its keys in ascending order, and a line feed
 
-abbrev pub decided_json : ℕ → ToldDecided → List ℕ
-decided_json n t =
-    codes "{\"fault\":" ++ json_string (fault_text t.decided.fault) ++ codes ","
+abbrev pub decided_json : Form → ToldDecided → List ℕ
+decided_json form t =
+    fault_head form.numbers t.decided.fault
     ++ replay_json t.first.replay
-    ++ codes "\"set\":" ++ ids_json n t.first.set
+    ++ codes "\"set\":" ++ ids_json form.patches t.first.set
     ++ shows_json (decided_shows t)
-    ++ codes ",\"writes\":" ++ writes_json n t.first.writes ++ codes "}"
+    ++ codes ",\"writes\":" ++ writes_json form.patches t.first.writes ++ codes "}"
 
 -- `closed` is a text, since it can be more than a JSON number holds
 unfoldable pub json_decision : Settings → Decision → List ℕ
@@ -93,8 +95,8 @@ json_decision settings d =
     ++ codes "\"closed\":" ++ json_string (decimal d.closed)
     ++ counted_json settings.counted
     ++ durable_json settings.durable
-    ++ codes ",\"faults\":" ++ json_array (map (decided_json d.patches) d.faults)
-    ++ before_module settings.generations ++ json_string (module_text settings.module)
+    ++ codes ",\"faults\":" ++ json_array (map (decided_json (form_of settings d.patches)) d.faults)
+    ++ before_module settings ++ json_string (module_text settings.module)
     ++ codes ",\"patches\":" ++ decimal d.patches
     ++ promises_json d.patches d.promises
     ++ (if settings.strict then codes ",\"strict\":true" else [])

@@ -12,14 +12,15 @@ use Rattle.crash_model.specs.Promises.{Promise}
 use Rattle.crash_model.specs.Lists.{when}
 use Rattle.crash_model.specs.RuleUse.{HasGraphBy}
 use Rattle.crash_model.specs.Patches.{CountsClosed}
-use Rattle.report_model.specs.Report.{Detail, AreSections, IsLed, line, json_string, json_array}
-use Rattle.crash_model.specs.Texts.{fault_text, module_text}
+use Rattle.report_model.specs.FaultKeys.{fault_head}
+use Rattle.report_model.specs.Report.{Detail, AreSections, IsLed, Form, line, json_string, json_array}
+use Rattle.crash_model.specs.Texts.{module_text}
 use Rattle.report_model.specs.Report.{ids_json, replay_json, writes_json}
 use Rattle.crash_model.specs.Rules.{rule_text}
 use Rattle.crash_model.specs.Checker.{Demands}
 use Rattle.crash_model.specs.FaultRows.{HasFault, IsFaultBefore, IsFirst}
 use Rattle.crash_model.specs.Trace.{Tracing}
-use Rattle.report_model.specs.Whole.{told_without, told_with, first_json, rules_json, before_module}
+use Rattle.report_model.specs.Whole.{told_without, told_with, first_json, rules_json, before_module, form_of}
 use Rattle.crash_model.specs.declared.fault.Fault.{Fault}
 use Rattle.crash_model.specs.declared.patches.Patch.{Patch}
 use Rattle.crash_model.specs.declared.rules.Rule.{Rule}
@@ -115,20 +116,20 @@ text_enough choices settings r =
 
 -- ---- JSON: one compact object, its keys in ascending order, and a line feed
 
-abbrev pub group_json : Choices → ℕ → ToldGroup → List ℕ
-group_json choices n told =
-    codes "{\"fault\":" ++ json_string (fault_text told.fault.decided.fault) ++ codes ","
+abbrev pub group_json : Choices → Form → ToldGroup → List ℕ
+group_json choices form told =
+    fault_head form.numbers told.fault.decided.fault
     ++ replay_json told.fault.first.replay
     ++ choices.first_key told.group
-    ++ codes "\"set\":" ++ ids_json n told.fault.first.set
+    ++ codes "\"set\":" ++ ids_json form.patches told.fault.first.set
     ++ shows_json (decided_shows told.fault)
     ++ choices.last_key told.group
-    ++ codes ",\"writes\":" ++ writes_json n told.fault.first.writes ++ codes "}"
+    ++ codes ",\"writes\":" ++ writes_json form.patches told.fault.first.writes ++ codes "}"
 
 -- a key with the fault, if there is one
-abbrev pub first_fault_json : ℕ → Option ToldDecided → List ℕ
-first_fault_json n None = []
-first_fault_json n (Some told) = codes ",\"first\":" ++ decided_json n told
+abbrev pub first_fault_json : Form → Option ToldDecided → List ℕ
+first_fault_json form None = []
+first_fault_json form (Some told) = codes ",\"first\":" ++ decided_json form told
 
 -- `closed` is a text, since it can be more than a JSON number holds
 unfoldable pub json_enough : Choices → Settings → EnoughFound → List ℕ
@@ -138,9 +139,9 @@ json_enough choices settings r =
     ++ counted_json settings.counted
     ++ durable_json settings.durable
     ++ codes ",\"enough\":" ++ json_array (map choices.json r.enough)
-    ++ first_fault_json r.patches r.first
-    ++ before_module settings.generations ++ json_string (module_text settings.module)
-    ++ codes ",\"needs\":" ++ json_array (map (group_json choices r.patches) r.needs)
+    ++ first_fault_json (form_of settings r.patches) r.first
+    ++ before_module settings ++ json_string (module_text settings.module)
+    ++ codes ",\"needs\":" ++ json_array (map (group_json choices (form_of settings r.patches)) r.needs)
     ++ codes ",\"patches\":" ++ decimal r.patches
     ++ promises_json r.patches r.promises
     ++ (if settings.strict then codes ",\"strict\":true" else [])

@@ -9,11 +9,12 @@ use Rattle.report_model.specs.Shows.{shows_json, counted_numbers}
 use Rattle.crash_model.specs.Checker.{Demands}
 use Rattle.crash_model.specs.Disk.{Disk}
 use Rattle.crash_model.specs.Lists.{join_of}
+use Rattle.report_model.specs.FaultKeys.{faults_head}
 use Rattle.report_model.specs.Report.{Section, AreSections, IsLed, line, section_text}
-use Rattle.crash_model.specs.Texts.{module_text, fault_text}
+use Rattle.crash_model.specs.Texts.{module_text}
 use Rattle.report_model.specs.Report.{json_string, json_array, ids_json, replay_json, writes_json}
 use Rattle.crash_model.specs.Script.{words_of}
-use Rattle.report_model.specs.Whole.{told_without, told_with, atomic_json, rules_json, generations_json}
+use Rattle.report_model.specs.Whole.{told_without, told_with, atomic_json, rules_json, disk_json}
 use Rattle.crash_model.specs.declared.patches.Patch.{Patch}
 use Rattle.crash_model.specs.declared.refusals.RunFault.{RunFault}
 use Rattle.crash_model.specs.declared.refusals.RunFault.TheVariants.{GroupFault}
@@ -84,10 +85,10 @@ refused_json t =
     codes "{\"count\":" ++ decimal t.count ++ codes ",\"number\":" ++ decimal (refusal_number t.reason)
     ++ codes ",\"text\":" ++ json_string (refusal_text t.reason) ++ codes "}"
 
-abbrev pub kind_json : ToldKind → List ℕ
-kind_json t =
-    codes "{\"faults\":" ++ json_array (map (λ f. json_string (fault_text f)) t.first.found)
-    ++ codes ",\"kind\":" ++ decimal (kind_number t.shown.kind)
+abbrev pub kind_json : Bool → ToldKind → List ℕ
+kind_json numbers t =
+    faults_head numbers t.first.found
+    ++ codes "\"kind\":" ++ decimal (kind_number t.shown.kind)
     ++ codes ",\"name\":" ++ json_string (kind_name t.shown.kind) ++ codes ","
     ++ replay_json t.first.replay
     ++ codes "\"set\":" ++ ids_json t.patches t.first.set
@@ -105,15 +106,15 @@ abbrev pub first_promise_keys : Settings → List ℕ
 first_promise_keys settings =
     first_counted settings.counted ++ (if settings.durable then codes "\"durable\":true," else [])
 
--- that inodes have generations, if they have, and then the key of the kinds
-abbrev pub before_kinds : Bool → List ℕ
-before_kinds generations = generations_json generations ++ codes ",\"kinds\":"
+-- the keys of the disk, and then the key of the kinds
+abbrev pub before_kinds : Settings → List ℕ
+before_kinds settings = disk_json settings ++ codes ",\"kinds\":"
 
 unfoldable pub json_search : Settings → ℕ → ℕ → Found → List ToldKind → List ℕ
 json_search settings most pool found kinds =
     codes "{" ++ atomic_json settings.atomic ++ first_promise_keys settings
     ++ codes "\"failing\":" ++ decimal found.failing
-    ++ before_kinds settings.generations ++ json_array (map kind_json kinds)
+    ++ before_kinds settings ++ json_array (map (kind_json settings.numbers) kinds)
     ++ codes ",\"module\":" ++ json_string (module_text settings.module)
     ++ codes ",\"pool\":" ++ decimal pool
     ++ codes ",\"refused\":" ++ json_array (map refused_json found.refused.items)

@@ -6,7 +6,8 @@ use Rattle.patch_sets.specs.Sets.{AreAllInOrder}
 use Rattle.report_model.specs.Answer.{ordering_rules}
 use Rattle.crash_model.specs.Checker.{Demands}
 use Rattle.crash_model.specs.Disk.{Disk}
-use Rattle.crash_model.specs.Texts.{fault_text, module_text}
+use Rattle.crash_model.specs.Texts.{module_text}
+use Rattle.report_model.specs.FaultKeys.{fault_head}
 use Rattle.report_model.specs.Report.{line, json_string, json_array, ids_json, replay_json}
 use Rattle.report_model.specs.Report.{writes_json}
 use Rattle.report_model.specs.Whole.{told_without, told_with, atomic_json, rules_json, before_module}
@@ -66,9 +67,9 @@ text_search_rules settings most pool found enough needs =
 
 -- ---- JSON: one compact object, its keys in ascending order, and a line feed
 
-abbrev pub need_json : List Rule → ToldNeed → List ℕ
-need_json rules told =
-    codes "{\"fault\":" ++ json_string (fault_text told.fault.decided.fault) ++ codes ","
+abbrev pub need_json : Bool → List Rule → ToldNeed → List ℕ
+need_json numbers rules told =
+    fault_head numbers told.fault.decided.fault
     ++ replay_json told.fault.first.replay
     ++ codes "\"rules\":" ++ set_json rules told.group
     ++ codes ",\"set\":" ++ ids_json told.patches told.fault.first.set
@@ -82,8 +83,8 @@ json_search_rules settings most pool found enough needs =
     codes "{" ++ atomic_json settings.atomic ++ first_promise_keys settings
     ++ codes "\"enough\":" ++ json_array (map (set_json rules) enough)
     ++ codes ",\"failing\":" ++ decimal found.failing
-    ++ before_module settings.generations ++ json_string (module_text settings.module)
-    ++ codes ",\"needs\":" ++ json_array (map (need_json rules) needs)
+    ++ before_module settings ++ json_string (module_text settings.module)
+    ++ codes ",\"needs\":" ++ json_array (map (need_json settings.numbers rules) needs)
     ++ codes ",\"pool\":" ++ decimal pool
     ++ codes ",\"refused\":" ++ json_array (map refused_json found.refused.items)
     ++ codes ",\"search\":" ++ decimal most

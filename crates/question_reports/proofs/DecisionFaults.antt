@@ -3,7 +3,7 @@ use Rattle.std.proofs.Common.{◌≡◌, ℕ, ◌+◌, ◌<◌, List, [], ◌∷
 use Rattle.std.proofs.Common.{arith, length-take}
 use Rattle.std.specs.List.{flat_map}
 use Rattle.std.proofs.lemmas.List.{length-map}
-use Rattle.report_model.specs.Report.{Detail}
+use Rattle.report_model.specs.Report.{Detail, Form}
 use Rattle.crash_model.specs.Disk.{Disk}
 use Rattle.crash_model.specs.declared.fault.Fault.TheVariants.{Dangling}
 use Rattle.crash_model.specs.declared.patches.Patch.{Patch}
@@ -52,14 +52,14 @@ module _ {A : Type 0} (detail : Detail) (base : Disk) (patches : List Patch) (fa
       (more ∙ ap (λ (k : ℕ). so_far ++ decided_text k one) number))
 
   -- and where its object does
-  pub object_more : (n : ℕ) → n ≡ length patches
-      → WritesFaults detail base patches (take i faults) (fault_items (length patches)) old so_far
+  pub object_more : (n form : Form) → n ≡ form
+      → WritesFaults detail base patches (take i faults) (fault_items form) old so_far
       → after ≡ so_far ++ comma_before i ++ decided_json n one
-      → WritesFaults detail base patches (take (i + 1) faults) (fault_items (length patches)) old after
-  object_more n number tells more =
-      fault_more (fault_items (length patches)) tells
-      (mapped_more (decided_json (length patches)) tells.told one i old so_far after (decided_json n one) place
-      tells.whole (ap (λ (k : ℕ). decided_json k one) number) more)
+      → WritesFaults detail base patches (take (i + 1) faults) (fault_items form) old after
+  object_more n form same tells more =
+      fault_more (fault_items form) tells
+      (mapped_more (decided_json form) tells.told one i old so_far after (decided_json n one) place
+      tells.whole (ap (λ (k : Form). decided_json k one) same) more)
     where
       place : i ≡ length tells.told
       place = omega (

@@ -8,8 +8,9 @@ use Rattle.report_model.specs.Explain.{trace_json, explanation_text, told_waits_
 use Rattle.crash_model.specs.Lists.{when}
 use Rattle.crash_model.specs.Promises.{Promise}
 use Rattle.report_model.specs.Shows.{counted_json, durable_json, promises_json, promises_text}
-use Rattle.report_model.specs.Report.{Section, ids_json, json_string, replay_json, writes_json}
-use Rattle.crash_model.specs.Texts.{fault_text, module_text}
+use Rattle.report_model.specs.FaultKeys.{fault_head}
+use Rattle.report_model.specs.Report.{Form, Section, ids_json, replay_json, writes_json}
+use Rattle.crash_model.specs.Texts.{module_text}
 use Rattle.report_model.specs.Whole.{first_json, rules_json, told_with, told_without, before_module}
 use Rattle.crash_model.specs.declared.settings.Settings.{Settings}
 use Rattle.question_model.specs.Decision.{ToldDecided, decided_text, decided_json, text_decision, json_decision}
@@ -20,7 +21,7 @@ use Rattle.report_json.specs.JsonReport.{module_key, promise_keys, strict_key, t
 use Rattle.report_sections.specs.Bodies.{explanation_by}
 use Rattle.traced_patches.specs.Traced.{TracedPatches}
 use Rattle.question_reports.specs.declared.decision.findings.Decision.{Decision}
-use Rattle.question_reports.specs.DecisionParts.{WritesDecision, decision_of, fault_items, head_lines}
+use Rattle.question_reports.specs.DecisionParts.{WritesDecision, decision_of, fault_items, form_by, head_lines}
 
 -- the bytes of a decision in JSON or in text
 abbrev in_form : {A : Type 0} → Decision A → List ToldDecided → Bool → List ℕ
@@ -84,22 +85,19 @@ text_pieces decision told empty head last none first second =
     (told_promises decision.settings.now decision.demands.now) decision.closed) none)
 
 -- the object of a fault
-pub fault_pieces : (n : ℕ) (decided : DecidedFault) (s : Section) (before one two three after : List ℕ)
-    → one ≡ before ++ codes "{\"fault\":"
-    → two ≡ one ++ json_string (fault_text decided.fault)
-    → three ≡ two ++ codes ","
-    → after ≡ three ++ crash_json n decided.fault s
-    → after ≡ before ++ decided_json n (record { decided = decided; first = s })
-fault_pieces n decided s before one two three after first second third fourth =
-    let fault = json_string (fault_text decided.fault) in
-    fourth ∙ (ap (λ (t : List ℕ). t ++ crash_json n decided.fault s) (third ∙ ap (λ (t : List ℕ). t ++ codes ",")
-    (second ∙ ap (λ (t : List ℕ). t ++ fault) first))
-    ∙ regroup before (codes "{\"fault\":") fault (codes ",") (replay_json s.replay) (codes "\"set\":")
-    (ids_json n s.set) (fault_shows_json decided.fault s) (codes ",\"writes\":") (writes_json n s.writes) (codes "}"))
+pub fault_pieces : (form : Form) (decided : DecidedFault) (s : Section) (before one after : List ℕ)
+    → one ≡ before ++ fault_head form.numbers decided.fault
+    → after ≡ one ++ crash_json form.patches decided.fault s
+    → after ≡ before ++ decided_json form (record { decided = decided; first = s })
+fault_pieces form decided s before one after first second =
+    second ∙ (ap (λ (t : List ℕ). t ++ crash_json form.patches decided.fault s) first
+    ∙ regroup before (fault_head form.numbers decided.fault) (replay_json s.replay) (codes "\"set\":")
+    (ids_json form.patches s.set) (fault_shows_json decided.fault s) (codes ",\"writes\":")
+    (writes_json form.patches s.writes) (codes "}"))
   where
-    regroup : (before a b c d e f g h i j : List ℕ) → before ++ a ++ b ++ c ++ (d ++ e ++ f ++ g ++ h ++ i ++ j)
-        ≡ before ++ (a ++ b ++ c ++ d ++ e ++ f ++ g ++ h ++ i ++ j)
-    regroup before a b c d e f g h i j = simp append_assoc
+    regroup : (before a b c d e f g h : List ℕ) → before ++ a ++ (b ++ c ++ d ++ e ++ f ++ g ++ h)
+        ≡ before ++ (a ++ b ++ c ++ d ++ e ++ f ++ g ++ h)
+    regroup before a b c d e f g h = simp append_assoc
 
 -- the keys of the whole
 pub json_pieces : {A : Type 0} (decision : Decision A) (n : ℕ) (told : List ToldDecided)
@@ -111,9 +109,9 @@ pub json_pieces : {A : Type 0} (decision : Decision A) (n : ℕ) (told : List To
     → three ≡ two ++ (codes "\"closed\":\"" ++ decimal decision.closed ++ codes "\"")
     → four ≡ three ++ promise_keys decision.settings.now
     → five ≡ four ++ codes ",\"faults\":["
-    → six ≡ five ++ fault_items (length decision.traced.now.patches) told
+    → six ≡ five ++ fault_items (form_by decision) told
     → seven ≡ six ++ codes "]"
-    → eight ≡ seven ++ module_key decision.settings.now.generations decision.settings.now.module n
+    → eight ≡ seven ++ module_key decision.settings.now n
     → nine ≡ eight ++ promises_json n (told_promises decision.settings.now decision.demands.now)
     → ten ≡ nine ++ from_strict decision.settings.now (length decision.traced.now.patches)
     (explanation_by decision.base.now decision.traced.now) (told_promises decision.settings.now decision.demands.now)
@@ -129,8 +127,8 @@ json_pieces decision n told empty one two three four five six seven eight nine t
     let base = first_json settings (when settings.explain explained) in
     let closed = codes "\"closed\":\"" ++ decimal decision.closed ++ codes "\"" in
     let keys = promise_keys settings in
-    let items = fault_items patches told in
-    let key = module_key settings.generations settings.module in
+    let items = fault_items (form_by decision) told in
+    let key = module_key settings in
     let told_key = promises_json patches promises in
     let rest = from_strict settings patches explained promises in
     let start : five ≡ codes "{" ++ base ++ closed ++ keys ++ codes ",\"faults\":[" =
@@ -145,7 +143,7 @@ json_pieces decision n told empty one two three four five six seven eight nine t
     (middle ∙ ap (λ (t : List ℕ). t ++ items ++ codes "]" ++ key patches ++ told_key) start))
     ∙ regroup (codes "{") base (codes "\"closed\":") (codes "\"") (decimal decision.closed)
     (counted_json settings.counted) (durable_json settings.durable) (codes ",\"faults\":") (codes "[") items (codes "]")
-    (before_module settings.generations) (module_text settings.module) (codes ",\"patches\":") (decimal patches)
+    (before_module settings) (module_text settings.module) (codes ",\"patches\":") (decimal patches)
     told_key (strict_key settings.strict) (trace_json (when settings.explain explained))
     (told_waits_json patches (when settings.explain explained) promises) (whole_key settings.whole_blocks)
     (rules_json (codes "with") (told_with settings)) (rules_json (codes "without") (told_without settings))

@@ -7,11 +7,11 @@ use Rattle.std.proofs.lemmas.List.Folds.{flat_map-map}
 use Rattle.std.proofs.lemmas.Simd.{map-map}
 use Rattle.report_model.specs.Explain.{trace_json, told_waits_json}
 use Rattle.crash_model.specs.Lists.{join_of, when}
-use Rattle.crash_model.specs.Texts.{fault_text, module_text}
-use Rattle.report_model.specs.Report.{ids_json, json_string, line, replay_json, write_json}
+use Rattle.crash_model.specs.Texts.{module_text}
+use Rattle.report_model.specs.Report.{Form, ids_json, json_string, line, write_json}
 use Rattle.report_model.specs.Shows.{counted_json, durable_json, promises_json}
-use Rattle.report_model.specs.Whole.{first_json, rules_json, told_with, told_without, before_module}
-use Rattle.question_model.specs.Decision.{ToldDecided, decided_text}
+use Rattle.report_model.specs.Whole.{first_json, form_of, rules_json, told_with, told_without, before_module}
+use Rattle.question_model.specs.Decision.{decided_text}
 use Rattle.question_reports.specs.Chosen.{choices_of}
 use Rattle.question_reports.specs.DecisionParts.{head_lines}
 use Rattle.question_model.specs.EnoughReport.{Choices, ToldGroup, first_fault_json, group_json, group_text}
@@ -68,46 +68,25 @@ text_pieces {A = A} found choices n empty head sets groups last number none firs
     ∙ ap (λ (t : List ℕ). t ++ count ++ flat_map (choices.text choices.word) found.enough.now)
     (first ∙ ap (λ (t : List ℕ). t ++ start) none))))))
 
--- the keys of a group's object before the set
-pub group_head_pieces : (choices : Choices) (group : ℕ) (fault : ToldDecided)
-    (before one two three four after : List ℕ)
-    → one ≡ before ++ codes "{\"fault\":"
-    → two ≡ one ++ json_string (fault_text fault.decided.fault)
-    → three ≡ two ++ codes ","
-    → four ≡ three ++ replay_json fault.first.replay
-    → after ≡ four ++ choices.first_key group
-    → after ≡ before ++ group_head choices group fault
-group_head_pieces choices group fault before one two three four after first second third fourth fifth =
-    let text = json_string (fault_text fault.decided.fault) in
-    let replay = replay_json fault.first.replay in
-    let key = choices.first_key group in
-    fifth ∙ (ap (λ (t : List ℕ). t ++ key)
-    (fourth ∙ ap (λ (t : List ℕ). t ++ replay) (third ∙ ap (λ (t : List ℕ). t ++ codes ",")
-    (second ∙ ap (λ (t : List ℕ). t ++ text) first)))
-    ∙ regroup before (codes "{\"fault\":") text (codes ",") replay key)
-  where
-    regroup : (before a b c d e : List ℕ) → before ++ a ++ b ++ c ++ d ++ e ≡ before ++ (a ++ b ++ c ++ d ++ e)
-    regroup before a b c d e = simp append_assoc
-
 -- the object of a group
-pub group_pieces : (choices : Choices) (n : ℕ) (told : ToldGroup)
+pub group_pieces : (choices : Choices) (form : Form) (told : ToldGroup)
     (before one two three four five six seven after : List ℕ)
-    → one ≡ before ++ group_head choices told.group told.fault
+    → one ≡ before ++ group_head form.numbers choices told.group told.fault
     → two ≡ one ++ codes "\"set\":"
-    → three ≡ two ++ ids_json n told.fault.first.set
+    → three ≡ two ++ ids_json form.patches told.fault.first.set
     → four ≡ three ++ fault_shows_json told.fault.decided.fault told.fault.first
     → five ≡ four ++ choices.last_key told.group
     → six ≡ five ++ codes ",\"writes\":["
-    → seven ≡ six ++ join_of 44 (map (write_json n) told.fault.first.writes)
+    → seven ≡ six ++ join_of 44 (map (write_json form.patches) told.fault.first.writes)
     → after ≡ seven ++ codes "]}"
-    → after ≡ before ++ group_json choices n told
-group_pieces choices n told before one two three four five six seven after first second third fourth fifth sixth
+    → after ≡ before ++ group_json choices form told
+group_pieces choices form told before one two three four five six seven after first second third fourth fifth sixth
     seventh eighth =
-    let head = group_head choices told.group told.fault in
-    let ids = ids_json n told.fault.first.set in
+    let head = group_head form.numbers choices told.group told.fault in
+    let ids = ids_json form.patches told.fault.first.set in
     let shows = fault_shows_json told.fault.decided.fault told.fault.first in
     let key = choices.last_key told.group in
-    let writes = join_of 44 (map (write_json n) told.fault.first.writes) in
+    let writes = join_of 44 (map (write_json form.patches) told.fault.first.writes) in
     eighth ∙ (ap (λ (t : List ℕ). t ++ codes "]}") (seventh ∙ ap (λ (t : List ℕ). t ++ writes)
     (sixth ∙ ap (λ (t : List ℕ). t ++ codes ",\"writes\":[") (fifth ∙ ap (λ (t : List ℕ). t ++ key)
     (fourth ∙ ap (λ (t : List ℕ). t ++ shows) (third ∙ ap (λ (t : List ℕ). t ++ ids)
@@ -137,9 +116,10 @@ json_start base closed keys items empty one two three four five six after none f
     (first ∙ ap (λ (t : List ℕ). t ++ codes "{") none))))))
 
 -- the keys of the whole
-pub json_pieces : {A : Type 0} (found : EnoughFindings A) (choices : Choices) (n k m : ℕ)
+pub json_pieces : {A : Type 0} (found : EnoughFindings A) (choices : Choices) (n : ℕ) (k m : Form)
     (empty one two three four five six seven eight nine ten eleven twelve thirteen fourteen last : List ℕ)
-    → n ≡ length found.traced.now.patches → k ≡ length found.traced.now.patches → m ≡ length found.traced.now.patches
+    → n ≡ length found.traced.now.patches → k ≡ form_of found.settings.now (length found.traced.now.patches)
+    → m ≡ form_of found.settings.now (length found.traced.now.patches)
     → empty ≡ [] → one ≡ empty ++ codes "{"
     → two ≡ one ++ first_json found.settings.now
     (when found.settings.now.explain (explanation_by found.base.now found.traced.now))
@@ -149,7 +129,7 @@ pub json_pieces : {A : Type 0} (found : EnoughFindings A) (choices : Choices) (n
     → six ≡ five ++ set_items choices found.enough.now
     → seven ≡ six ++ codes "]"
     → eight ≡ seven ++ first_fault_json k (option_map told_first found.first.now)
-    → nine ≡ eight ++ (before_module found.settings.now.generations
+    → nine ≡ eight ++ (before_module found.settings.now
     ++ json_string (module_text found.settings.now.module))
     → ten ≡ nine ++ codes ",\"needs\":["
     → eleven ≡ ten ++ group_items choices m found.needs.now
@@ -165,15 +145,16 @@ json_pieces {A = A} found choices n k m empty one two three four five six seven 
     twelfth thirteenth fourteenth fifteenth =
     let settings = found.settings.now in
     let patches = length found.traced.now.patches in
+    let form = form_of settings patches in
     let explained = explanation_by found.base.now found.traced.now in
     let promises = told_promises settings found.demands.now in
     let base = first_json settings (when settings.explain explained) in
     let closed = codes "\"closed\":\"" ++ decimal found.closed ++ codes "\"" in
     let keys = promise_keys settings in
     let sets = set_items choices found.enough.now in
-    let fault = first_fault_json patches (option_map told_first found.first.now) in
-    let name = before_module settings.generations ++ json_string (module_text settings.module) in
-    let groups = join_of 44 (map (group_json choices patches) (map told_group found.needs.now)) in
+    let fault = first_fault_json form (option_map told_first found.first.now) in
+    let name = before_module settings ++ json_string (module_text settings.module) in
+    let groups = join_of 44 (map (group_json choices form) (map told_group found.needs.now)) in
     let number = codes "],\"patches\":" ++ decimal patches in
     let promised = promises_json patches promises in
     let rest = from_strict settings patches explained promises in
@@ -181,11 +162,11 @@ json_pieces {A = A} found choices n k m empty one two three four five six seven 
     json_start base (decimal found.closed) keys sets empty one two three four five six seven none first second third
     fourth fifth sixth seventh in
     let faults : eight ≡ seven ++ fault =
-    eighth ∙ ap (λ (j : ℕ). seven ++ first_fault_json j (option_map told_first found.first.now)) k_is in
+    eighth ∙ ap (λ (j : Form). seven ++ first_fault_json j (option_map told_first found.first.now)) k_is in
     let needs : eleven ≡ ten ++ groups =
-    eleventh ∙ (ap (λ (j : ℕ). ten ++ group_items choices j found.needs.now) m_is
+    eleventh ∙ (ap (λ (j : Form). ten ++ group_items choices j found.needs.now) m_is
     ∙ ap (λ (items : List (List ℕ)). ten ++ join_of 44 items)
-    (sym (map-map (group_json choices patches) (told_group {A = A}) found.needs.now))) in
+    (sym (map-map (group_json choices form) (told_group {A = A}) found.needs.now))) in
     let end : thirteen ≡ eleven ++ number ++ promised =
     thirteenth ∙ (ap (λ (j : ℕ). twelve ++ promises_json j promises) n_is ∙ ap (λ (t : List ℕ). t ++ promised)
     (twelfth ∙ ap (λ (j : ℕ). eleven ++ (codes "],\"patches\":" ++ decimal j)) n_is)) in
@@ -195,7 +176,7 @@ json_pieces {A = A} found choices n k m empty one two three four five six seven 
     (faults ∙ ap (λ (t : List ℕ). t ++ fault) start))))))
     ∙ regroup (codes "{") base (codes "\"closed\":") (codes "\"") (decimal found.closed)
     (counted_json settings.counted) (durable_json settings.durable) (codes ",\"enough\":")
-    (codes "[") sets (codes "]") fault (before_module settings.generations) (json_string (module_text settings.module))
+    (codes "[") sets (codes "]") fault (before_module settings) (json_string (module_text settings.module))
     (codes ",\"needs\":") groups (codes ",\"patches\":") (decimal patches) promised (strict_key settings.strict)
     (trace_json (when settings.explain explained)) (told_waits_json patches (when settings.explain explained) promises)
     (whole_key settings.whole_blocks) (rules_json (codes "with") (told_with settings))

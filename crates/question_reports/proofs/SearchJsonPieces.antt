@@ -1,8 +1,9 @@
 -- A report as JSON, written piece by piece.
-use Rattle.std.proofs.Common.{◌≡◌, ℕ, List, [], ◌++◌, length, map, codes, decimal, sym, ap, ◌∙◌, append_assoc}
+use Rattle.std.proofs.Common.{◌≡◌, ℕ, List, [], ◌++◌, length, map, codes, decimal, Bool, sym, ap, ◌∙◌, append_assoc}
 use Rattle.std.proofs.lemmas.Simd.{map-map}
 use Rattle.crash_model.specs.Lists.{join_of}
-use Rattle.crash_model.specs.Texts.{fault_text, module_text}
+use Rattle.crash_model.specs.Texts.{module_text}
+use Rattle.report_model.specs.FaultKeys.{faults_head}
 use Rattle.report_model.specs.Report.{ids_json, json_array, json_string, replay_json}
 use Rattle.report_model.specs.Report.{write_json}
 use Rattle.report_model.specs.Shows.{shows_json}
@@ -43,35 +44,34 @@ refusal_pieces r number text before after number_is text_is wrote =
     regroup a b c d e q f g = simp append_assoc
 
 -- the keys of a kind's object before the set
-pub kind_head_pieces : {A : Type 0} (k : KindCrash A) (number : ℕ) (name before one two three after : List ℕ)
+pub kind_head_pieces : {A : Type 0} (numbers : Bool) (k : KindCrash A) (number : ℕ)
+    (name before one two after : List ℕ)
     → number ≡ kind_number k.shown.now.kind → name ≡ kind_name k.shown.now.kind
-    → one ≡ before ++ codes "{\"faults\":["
-    → two ≡ one ++ join_of 44 (map (λ f. json_string (fault_text f)) k.section.faults.items)
-    → three ≡ two ++ (codes "],\"kind\":" ++ (decimal number ++ (codes ",\"name\":\"" ++ (name ++ codes "\","))))
-    → after ≡ three ++ replay_json (told_replay k.section.replay)
-    → after ≡ before ++ kind_head k
-kind_head_pieces k number name before one two three after number_is name_is first second third fourth =
+    → one ≡ before ++ faults_head numbers k.section.faults.items
+    → two ≡ one ++ (codes "\"kind\":" ++ (decimal number ++ (codes ",\"name\":\"" ++ (name ++ codes "\","))))
+    → after ≡ two ++ replay_json (told_replay k.section.replay)
+    → after ≡ before ++ kind_head numbers k
+kind_head_pieces numbers k number name before one two after number_is name_is first second third =
     let kind = k.shown.now.kind in
-    let faults = join_of 44 (map (λ f. json_string (fault_text f)) k.section.faults.items) in
+    let head = faults_head numbers k.section.faults.items in
     let replay = replay_json (told_replay k.section.replay) in
-    let keys = λ (n : ℕ) (text : List ℕ). codes "],\"kind\":" ++ (decimal n ++ (codes ",\"name\":\"" ++ (text
+    let keys = λ (n : ℕ) (text : List ℕ). codes "\"kind\":" ++ (decimal n ++ (codes ",\"name\":\"" ++ (text
     ++ codes "\","))) in
-    fourth ∙ (ap (λ (t : List ℕ). t ++ replay) (third ∙ (ap (λ (n : ℕ). two ++ keys n name) number_is
-    ∙ (ap (λ (text : List ℕ). two ++ keys (kind_number kind) text) name_is
-    ∙ ap (λ (t : List ℕ). t ++ keys (kind_number kind) (kind_name kind))
-    (second ∙ ap (λ (t : List ℕ). t ++ faults) first))))
-    ∙ regroup before (codes "{\"faults\":") (codes "[") faults (codes "]") (codes ",\"kind\":")
-    (decimal (kind_number kind)) (codes ",\"name\":") (codes "\"") (kind_name kind) (codes ",") replay)
+    third ∙ (ap (λ (t : List ℕ). t ++ replay) (second ∙ (ap (λ (n : ℕ). one ++ keys n name) number_is
+    ∙ (ap (λ (text : List ℕ). one ++ keys (kind_number kind) text) name_is
+    ∙ ap (λ (t : List ℕ). t ++ keys (kind_number kind) (kind_name kind)) first)))
+    ∙ regroup before head (codes "\"kind\":") (decimal (kind_number kind)) (codes ",\"name\":") (codes "\"")
+    (kind_name kind) (codes ",") replay)
   where
-    regroup : (before a o f p b n c q m d r : List ℕ)
-        → before ++ (a ++ o) ++ f ++ ((p ++ b) ++ (n ++ ((c ++ q) ++ (m ++ (q ++ d))))) ++ r
-        ≡ before ++ (a ++ (o ++ f ++ p) ++ b ++ n ++ c ++ (q ++ m ++ q) ++ d ++ r)
-    regroup before a o f p b n c q m d r = simp append_assoc
+    regroup : (before h b n c q m d r : List ℕ)
+        → before ++ h ++ (b ++ (n ++ ((c ++ q) ++ (m ++ (q ++ d))))) ++ r
+        ≡ before ++ (h ++ b ++ n ++ c ++ (q ++ m ++ q) ++ d ++ r)
+    regroup before h b n c q m d r = simp append_assoc
 
 -- the object of a kind
-pub kind_pieces : {A : Type 0} (pool : List Step) (k : KindCrash A) (n : ℕ)
+pub kind_pieces : {A : Type 0} (numbers : Bool) (pool : List Step) (k : KindCrash A) (n : ℕ)
     (before one two three shown four five six seven after : List ℕ) → n ≡ k.patches
-    → one ≡ before ++ kind_head k
+    → one ≡ before ++ kind_head numbers k
     → two ≡ one ++ codes "\"set\":"
     → three ≡ two ++ ids_json k.patches k.section.set
     → shown ≡ three ++ shows_json (section_of k.section).shows
@@ -80,23 +80,23 @@ pub kind_pieces : {A : Type 0} (pool : List Step) (k : KindCrash A) (n : ℕ)
     → six ≡ five ++ (codes "],\"workloads\":" ++ (decimal k.shown.now.workloads ++ codes ",\"writes\":["))
     → seven ≡ six ++ join_of 44 (map (write_json n) k.section.writes.items)
     → after ≡ seven ++ codes "]}"
-    → after ≡ before ++ kind_json (told_kind pool k)
-kind_pieces pool k n before one two three shown four five six seven after n_is first second third shows fourth fifth
+    → after ≡ before ++ kind_json numbers (told_kind pool k)
+kind_pieces numbers pool k n before one two three shown four five six seven after n_is first second third shows fourth fifth
     sixth seventh eighth =
     let texts = join_of 44 (map (λ step. json_string (step_text step)) (told_kind pool k).steps) in
     let writes = join_of 44 (map (write_json k.patches) k.section.writes.items) in
     let ids = ids_json k.patches k.section.set in
     let count = codes "],\"workloads\":" ++ (decimal k.shown.now.workloads ++ codes ",\"writes\":[") in
     let showing = shows_json (section_of k.section).shows in
-    let set : shown ≡ before ++ kind_head k ++ codes "\"set\":" ++ ids ++ showing =
+    let set : shown ≡ before ++ kind_head numbers k ++ codes "\"set\":" ++ ids ++ showing =
     shows ∙ ap (λ (t : List ℕ). t ++ showing) (third ∙ ap (λ (t : List ℕ). t ++ ids)
     (second ∙ ap (λ (t : List ℕ). t ++ codes "\"set\":") first)) in
-    let told : five ≡ before ++ kind_head k ++ codes "\"set\":" ++ ids ++ showing ++ codes ",\"steps\":[" ++ texts =
+    let told : five ≡ before ++ kind_head numbers k ++ codes "\"set\":" ++ ids ++ showing ++ codes ",\"steps\":[" ++ texts =
     fifth ∙ ap (λ (t : List ℕ). t ++ texts) (fourth ∙ ap (λ (t : List ℕ). t ++ codes ",\"steps\":[") set) in
     eighth ∙ (ap (λ (t : List ℕ). t ++ codes "]}") (seventh
     ∙ (ap (λ (j : ℕ). six ++ join_of 44 (map (write_json j) k.section.writes.items)) n_is
     ∙ ap (λ (t : List ℕ). t ++ writes) (sixth ∙ ap (λ (t : List ℕ). t ++ count) told)))
-    ∙ regroup before (kind_head k) (codes "\"set\":") ids showing (codes ",\"steps\":") (codes "[") texts
+    ∙ regroup before (kind_head numbers k) (codes "\"set\":") ids showing (codes ",\"steps\":") (codes "[") texts
     (codes "]") (codes ",\"workloads\":") (decimal k.shown.now.workloads) (codes ",\"writes\":") writes (codes "}"))
   where
     regroup : (before h s i j t o p q w n x y z : List ℕ)
@@ -134,8 +134,8 @@ pub json_pieces : {A : Type 0} (f : SearchFindings A) (empty zero half keyed one
     → zero ≡ empty ++ codes "{"
     → half ≡ zero ++ atomic_json f.settings.now.atomic
     → keyed ≡ half ++ first_promise_keys f.settings.now
-    → one ≡ keyed ++ failing_keys f.found.now.failing f.settings.now.generations
-    → two ≡ one ++ kind_items f.pool.now f.kinds.now
+    → one ≡ keyed ++ failing_keys f.found.now.failing f.settings.now
+    → two ≡ one ++ kind_items f.settings.now.numbers f.pool.now f.kinds.now
     → three ≡ two ++ codes "]"
     → four ≡ three ++ (codes ",\"module\":" ++ json_string (module_text f.settings.now.module))
     → last ≡ four ++ last_keys f.settings.now f.most (length f.pool.now) f.found.now
@@ -147,19 +147,19 @@ json_pieces {A = A} f empty zero half keyed one two three four last none opened 
     let found = f.found.now in
     let pool = length f.pool.now in
     let atomic = atomic_json settings.atomic in
-    let fails = failing_keys found.failing settings.generations in
+    let fails = failing_keys found.failing settings in
     let keys = first_promise_keys settings in
-    let kinds = join_of 44 (map kind_json (told_kinds f)) in
+    let kinds = join_of 44 (map (kind_json settings.numbers) (told_kinds f)) in
     let name = codes ",\"module\":" ++ json_string (module_text settings.module) in
     let end = last_keys settings f.most pool found in
     fifth ∙ (ap (λ (t : List ℕ). t ++ end) (fourth ∙ ap (λ (t : List ℕ). t ++ name)
     (third ∙ ap (λ (t : List ℕ). t ++ codes "]")
     (second ∙ (ap (λ (ts : List (List ℕ)). one ++ join_of 44 ts)
-    (sym (map-map kind_json (told_kind {A = A} f.pool.now) f.kinds.now))
+    (sym (map-map (kind_json settings.numbers) (told_kind {A = A} f.pool.now) f.kinds.now))
     ∙ ap (λ (t : List ℕ). t ++ kinds) (first ∙ ap (λ (t : List ℕ). t ++ fails)
     (keys_are ∙ ap (λ (t : List ℕ). t ++ keys)
     (atomic_is ∙ ap (λ (t : List ℕ). t ++ atomic) (opened ∙ ap (λ (t : List ℕ). t ++ codes "{") none))))))))
-    ∙ regroup (codes "{") atomic keys (codes "\"failing\":") (decimal found.failing) (before_kinds settings.generations)
+    ∙ regroup (codes "{") atomic keys (codes "\"failing\":") (decimal found.failing) (before_kinds settings)
     (codes "[") kinds (codes "]")
     (codes ",\"module\":") (json_string (module_text settings.module)) (codes ",\"pool\":") (decimal pool)
     (codes ",\"refused\":") (json_array (map refused_json found.refused.items)) (codes ",\"search\":")

@@ -1,10 +1,11 @@
 -- A report as JSON, written piece by piece.
-use Rattle.std.proofs.Common.{◌≡◌, ℕ, List, [], ◌++◌, length, map, codes, decimal, sym, ap, ◌∙◌, append_assoc}
+use Rattle.std.proofs.Common.{◌≡◌, ℕ, List, [], ◌++◌, length, map, codes, decimal, Bool, sym, ap, ◌∙◌, append_assoc}
 use Rattle.std.proofs.lemmas.Simd.{map-map}
 use Rattle.report_model.specs.Answer.{ordering_rules}
 use Rattle.crash_model.specs.Lists.{join_of}
 use Rattle.report_model.specs.Report.{ids_json, json_array, json_string, replay_json, write_json}
-use Rattle.crash_model.specs.Texts.{fault_text, module_text}
+use Rattle.crash_model.specs.Texts.{module_text}
+use Rattle.report_model.specs.FaultKeys.{fault_head}
 use Rattle.report_model.specs.Whole.{atomic_json, rules_json, told_with, told_without, before_module}
 use Rattle.crash_model.specs.declared.rules.Rule.{Rule}
 use Rattle.crash_model.specs.declared.steps.Step.{Step}
@@ -22,9 +23,9 @@ use Rattle.question_reports.specs.declared.search_rules.findings.NeededWorkload.
 use Rattle.question_reports.specs.declared.search_rules.findings.SearchRulesFindings.{SearchRulesFindings}
 
 -- the object of a group
-pub need_pieces : {A : Type 0} (rules : List Rule) (pool : List Step) (needed : NeededWorkload A) (n : ℕ)
+pub need_pieces : {A : Type 0} (numbers : Bool) (rules : List Rule) (pool : List Step) (needed : NeededWorkload A) (n : ℕ)
     (before one two three shown four five six seven after : List ℕ) → n ≡ needed.patches
-    → one ≡ before ++ group_head (rule_choices rules) needed.group (told_first needed.fault)
+    → one ≡ before ++ group_head numbers (rule_choices rules) needed.group (told_first needed.fault)
     → two ≡ one ++ codes "\"set\":"
     → three ≡ two ++ ids_json needed.patches needed.fault.section.set
     → shown ≡ three ++ fault_shows_json needed.fault.decided.fault (section_of needed.fault.section)
@@ -33,11 +34,11 @@ pub need_pieces : {A : Type 0} (rules : List Rule) (pool : List Step) (needed : 
     → six ≡ five ++ codes "],\"writes\":["
     → seven ≡ six ++ join_of 44 (map (write_json n) needed.fault.section.writes.items)
     → after ≡ seven ++ codes "]}"
-    → after ≡ before ++ need_json rules (told_need pool needed)
-need_pieces rules pool needed n before one two three shown four five six seven after n_is first second third shows
+    → after ≡ before ++ need_json numbers rules (told_need pool needed)
+need_pieces numbers rules pool needed n before one two three shown four five six seven after n_is first second third shows
     fourth fifth sixth seventh eighth =
-    let head = group_head (rule_choices rules) needed.group (told_first needed.fault) in
-    let fault = json_string (fault_text needed.fault.decided.fault) in
+    let head = group_head numbers (rule_choices rules) needed.group (told_first needed.fault) in
+    let fault = fault_head numbers needed.fault.decided.fault in
     let replay = replay_json (section_of needed.fault.section).replay in
     let ids = ids_json needed.patches needed.fault.section.set in
     let steps = join_of 44 (map (λ step. json_string (step_text step)) (steps_at pool needed.places.items)) in
@@ -50,7 +51,7 @@ need_pieces rules pool needed n before one two three shown four five six seven a
     eighth ∙ (ap (λ (t : List ℕ). t ++ codes "]}") (seventh
     ∙ (ap (λ (j : ℕ). six ++ join_of 44 (map (write_json j) needed.fault.section.writes.items)) n_is
     ∙ ap (λ (t : List ℕ). t ++ writes) (sixth ∙ ap (λ (t : List ℕ). t ++ codes "],\"writes\":[") told)))
-    ∙ regroup before (codes "{\"fault\":" ++ fault ++ codes "," ++ replay) (codes "\"rules\":")
+    ∙ regroup before (fault ++ replay) (codes "\"rules\":")
     (set_json rules needed.group) (codes ",") (codes "\"set\":") ids showing (codes ",\"steps\":") (codes "[") steps
     (codes "]") (codes ",\"writes\":") writes (codes "}"))
   where
@@ -69,9 +70,9 @@ pub json_pieces : {A : Type 0} (f : SearchRulesFindings A) (rules : List Rule)
     → one ≡ keyed ++ codes "\"enough\":["
     → two ≡ one ++ set_items (rule_choices rules) f.enough.now
     → three ≡ two ++ (codes "],\"failing\":" ++ decimal f.found.now.failing)
-    → four ≡ three ++ (before_module f.settings.now.generations ++ json_string (module_text f.settings.now.module))
+    → four ≡ three ++ (before_module f.settings.now ++ json_string (module_text f.settings.now.module))
     → five ≡ four ++ codes ",\"needs\":["
-    → six ≡ five ++ need_items rules f.pool.now f.needs.now
+    → six ≡ five ++ need_items f.settings.now.numbers rules f.pool.now f.needs.now
     → seven ≡ six ++ codes "]"
     → last ≡ seven ++ last_keys f.settings.now f.most (length f.pool.now) f.found.now
     → last ≡ json_search_rules f.settings.now f.most (length f.pool.now) f.found.now f.enough.now (told_needs f)
@@ -86,8 +87,8 @@ json_pieces {A = A} f rules empty zero half keyed one two three four five six se
     let keys = first_promise_keys settings in
     let sets = set_items (rule_choices all) f.enough.now in
     let failing = codes "],\"failing\":" ++ decimal found.failing in
-    let name = before_module settings.generations ++ json_string (module_text settings.module) in
-    let needs = join_of 44 (map (need_json all) (told_needs f)) in
+    let name = before_module settings ++ json_string (module_text settings.module) in
+    let needs = join_of 44 (map (need_json settings.numbers all) (told_needs f)) in
     let end = last_keys settings f.most pool found in
     let start : four ≡ codes "{" ++ atomic ++ keys ++ codes "\"enough\":[" ++ sets ++ failing ++ name =
     fourth ∙ ap (λ (t : List ℕ). t ++ name) (third ∙ ap (λ (t : List ℕ). t ++ failing) (second
@@ -96,14 +97,14 @@ json_pieces {A = A} f rules empty zero half keyed one two three four five six se
     (keys_are ∙ ap (λ (t : List ℕ). t ++ keys)
     (atomic_is ∙ ap (λ (t : List ℕ). t ++ atomic) (opened ∙ ap (λ (t : List ℕ). t ++ codes "{") none))))))) in
     let groups : six ≡ five ++ needs =
-    sixth ∙ (ap (λ (rs : List Rule). five ++ need_items rs f.pool.now f.needs.now) same
+    sixth ∙ (ap (λ (rs : List Rule). five ++ need_items settings.numbers rs f.pool.now f.needs.now) same
     ∙ ap (λ (ts : List (List ℕ)). five ++ join_of 44 ts)
-    (sym (map-map (need_json all) (told_need {A = A} f.pool.now) f.needs.now))) in
+    (sym (map-map (need_json settings.numbers all) (told_need {A = A} f.pool.now) f.needs.now))) in
     eighth ∙ (ap (λ (t : List ℕ). t ++ end) (seventh ∙ ap (λ (t : List ℕ). t ++ codes "]")
     (groups ∙ ap (λ (t : List ℕ). t ++ needs) (fifth ∙ ap (λ (t : List ℕ). t ++ codes ",\"needs\":[") start)))
     ∙ regroup (codes "{") atomic keys (codes "\"enough\":") (codes "[") sets (codes "]") (codes ",\"failing\":")
     (decimal found.failing)
-    (before_module settings.generations) (json_string (module_text settings.module)) (codes ",\"needs\":") needs
+    (before_module settings) (json_string (module_text settings.module)) (codes ",\"needs\":") needs
     (codes ",\"pool\":") (decimal pool) (codes ",\"refused\":")
     (json_array (map refused_json found.refused.items)) (codes ",\"search\":") (decimal f.most)
     (strict_key settings.strict) (whole_key settings.whole_blocks) (rules_json (codes "with") (told_with settings))

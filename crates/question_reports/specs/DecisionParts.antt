@@ -6,8 +6,9 @@ use Rattle.crash_model.specs.Disk.{Disk}
 use Rattle.report_model.specs.Explain.{explanation_text}
 use Rattle.crash_model.specs.Lists.{join_of, when}
 use Rattle.crash_model.specs.Promises.{Promise}
-use Rattle.report_model.specs.Report.{Detail, AreSections, line}
+use Rattle.report_model.specs.Report.{Detail, Form, AreSections, line}
 use Rattle.report_model.specs.Shows.{promises_text}
+use Rattle.report_model.specs.Whole.{form_of}
 use Rattle.crash_model.specs.declared.patches.Patch.{Patch}
 use Rattle.crash_model.specs.declared.settings.Settings.{Settings}
 use Rattle.question_model.specs.Decision as model
@@ -21,6 +22,10 @@ use Rattle.question_reports.specs.declared.decision.findings.Decision.{Decision}
 -- what the decision says about a set
 abbrev pub detail_by : {A : Type 0} → Decision A → Detail
 detail_by decision = detail_of decision.settings.now decision.demands.now
+
+-- how its faults are written
+abbrev pub form_by : {A : Type 0} → Decision A → Form
+form_by decision = form_of decision.settings.now (length decision.traced.now.patches)
 
 -- what can be reported: patches of the base, and first sets that a crash can leave
 pub record CanReport {A : Type 0} (decision : Decision A) : Type 0 where
@@ -63,6 +68,6 @@ head_lines settings base t promises closed =
     ++ explanation_text (length t.patches) (when settings.explain (explanation_by base t))
     ++ promises_text (length t.patches) promises
 
--- the objects of faults, with a comma between two, where patches are n in all
-abbrev pub fault_items : ℕ → List ToldDecided → List ℕ
-fault_items n told = join_of COMMA (map (decided_json n) told)
+-- the objects of faults, with a comma between two
+abbrev pub fault_items : Form → List ToldDecided → List ℕ
+fault_items form told = join_of COMMA (map (decided_json form) told)

@@ -1,9 +1,9 @@
 -- What is found of the rules that a script needs, as the definition of the report sees it.
-use Rattle.std.specs.Prelude.{ℕ, List, ◌++◌, codes, length, map, flat_map, option_map}
+use Rattle.std.specs.Prelude.{ℕ, List, ◌++◌, Bool, length, map, flat_map, option_map}
 use Rattle.crash_model.specs.declared.separators.TheConstants.{COMMA}
 use Rattle.crash_model.specs.Lists.{join_of, when}
-use Rattle.crash_model.specs.Texts.{fault_text}
-use Rattle.report_model.specs.Report.{json_string, replay_json}
+use Rattle.report_model.specs.FaultKeys.{fault_head}
+use Rattle.report_model.specs.Report.{Form, replay_json}
 use Rattle.question_model.specs.Decision.{ToldDecided}
 use Rattle.question_model.specs.EnoughReport.{Choices, EnoughFound, ToldGroup, group_json, group_text}
 use Rattle.report_json.specs.JsonReport.{told_promises}
@@ -38,12 +38,12 @@ group_lines choices n groups = flat_map (λ needed. group_text choices n (told_g
 abbrev pub set_items : Choices → List ℕ → List ℕ
 set_items choices sets = join_of COMMA (map choices.json sets)
 
-abbrev pub group_items : {A : Type 0} → Choices → ℕ → List (NeededGroup A) → List ℕ
-group_items choices n groups = join_of COMMA (map (λ needed. group_json choices n (told_group needed)) groups)
+abbrev pub group_items : {A : Type 0} → Choices → Form → List (NeededGroup A) → List ℕ
+group_items choices form groups = join_of COMMA (map (λ needed. group_json choices form (told_group needed)) groups)
 
 -- the keys of a group's object before its set
-abbrev pub group_head : Choices → ℕ → ToldDecided → List ℕ
-group_head choices group fault =
-    codes "{\"fault\":" ++ json_string (fault_text fault.decided.fault) ++ codes ","
+abbrev pub group_head : Bool → Choices → ℕ → ToldDecided → List ℕ
+group_head numbers choices group fault =
+    fault_head numbers fault.decided.fault
     ++ replay_json fault.first.replay
     ++ choices.first_key group

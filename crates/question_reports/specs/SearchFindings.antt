@@ -2,7 +2,7 @@
 use Rattle.std.specs.Prelude.{ℕ, List, [], ◌++◌, map, flat_map, if◌then◌else◌, codes, decimal, Bool}
 use Rattle.crash_model.specs.declared.separators.TheConstants.{COMMA}
 use Rattle.crash_model.specs.Lists.{join_of}
-use Rattle.crash_model.specs.Texts.{fault_text}
+use Rattle.report_model.specs.FaultKeys.{faults_head}
 use Rattle.report_model.specs.Report.{json_array, json_string, replay_json}
 use Rattle.report_model.specs.Whole.{told_with, told_without, rules_json}
 use Rattle.crash_model.specs.declared.settings.Settings.{Settings}
@@ -39,21 +39,21 @@ abbrev pub kind_lines : {A : Type 0} → List Step → List (KindCrash A) → Li
 kind_lines pool kinds = flat_map (λ k. kind_text (told_kind pool k)) kinds
 
 -- their objects, with a comma between two
-abbrev pub kind_items : {A : Type 0} → List Step → List (KindCrash A) → List ℕ
-kind_items pool kinds = join_of COMMA (map (λ k. kind_json (told_kind pool k)) kinds)
+abbrev pub kind_items : {A : Type 0} → Bool → List Step → List (KindCrash A) → List ℕ
+kind_items numbers pool kinds = join_of COMMA (map (λ k. kind_json numbers (told_kind pool k)) kinds)
 
 -- the keys of a kind's object before the set
-abbrev pub kind_head : {A : Type 0} → KindCrash A → List ℕ
-kind_head k =
-    codes "{\"faults\":" ++ json_array (map (λ f. json_string (fault_text f)) k.section.faults.items)
-    ++ codes ",\"kind\":" ++ decimal (kind_number k.shown.now.kind)
+abbrev pub kind_head : {A : Type 0} → Bool → KindCrash A → List ℕ
+kind_head numbers k =
+    faults_head numbers k.section.faults.items
+    ++ codes "\"kind\":" ++ decimal (kind_number k.shown.now.kind)
     ++ codes ",\"name\":" ++ json_string (kind_name k.shown.now.kind) ++ codes ","
     ++ replay_json (told_replay k.section.replay)
 
--- how many workloads fail, that inodes have generations, if they have, and the key of the kinds up to its array
-abbrev pub failing_keys : ℕ → Bool → List ℕ
-failing_keys failing generations =
-    codes "\"failing\":" ++ (decimal failing ++ (before_kinds generations ++ codes "["))
+-- how many workloads fail, the keys of the disk, and the key of the kinds up to its array
+abbrev pub failing_keys : ℕ → Settings → List ℕ
+failing_keys failing settings =
+    codes "\"failing\":" ++ (decimal failing ++ (before_kinds settings ++ codes "["))
 
 -- the keys that say that the run is strict, that blocks are written whole, and which rules are put in and taken out
 abbrev pub ordering_keys : Settings → List ℕ

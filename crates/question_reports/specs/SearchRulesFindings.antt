@@ -1,5 +1,5 @@
 -- What a search finds of the rules that its workloads need, as the definition of the report sees it.
-use Rattle.std.specs.Prelude.{ℕ, List, map, flat_map}
+use Rattle.std.specs.Prelude.{ℕ, List, Bool, map, flat_map}
 use Rattle.crash_model.specs.declared.separators.TheConstants.{COMMA}
 use Rattle.crash_model.specs.Lists.{join_of}
 use Rattle.crash_model.specs.declared.rules.Rule.{Rule}
@@ -28,5 +28,6 @@ abbrev pub need_lines : {A : Type 0} → List Rule → List Step → List (Neede
 need_lines rules pool needs = flat_map (λ needed. need_text rules (told_need pool needed)) needs
 
 -- their objects, with a comma between two
-abbrev pub need_items : {A : Type 0} → List Rule → List Step → List (NeededWorkload A) → List ℕ
-need_items rules pool needs = join_of COMMA (map (λ needed. need_json rules (told_need pool needed)) needs)
+abbrev pub need_items : {A : Type 0} → Bool → List Rule → List Step → List (NeededWorkload A) → List ℕ
+need_items numbers rules pool needs =
+    join_of COMMA (map (λ needed. need_json numbers rules (told_need pool needed)) needs)

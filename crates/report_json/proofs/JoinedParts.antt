@@ -3,7 +3,7 @@ use Rattle.std.proofs.Common.{◌≡◌, ℕ, suc, ◌+◌, List, [], ◌∷◌,
 use Rattle.std.proofs.lemmas.List.{append-nil, length-map, map-append}
 use Rattle.crash_model.specs.Disk.{Disk}
 use Rattle.crash_model.specs.Lists.{join_of}
-use Rattle.report_model.specs.Report.{Detail, Section, section_json}
+use Rattle.report_model.specs.Report.{Detail, Form, Section, section_json}
 use Rattle.crash_model.specs.declared.patches.Patch.{Patch}
 use Rattle.report_sections.proofs.Joined.{sections_join}
 use Rattle.report_sections.proofs.Pushed.{length-sections}
@@ -42,18 +42,18 @@ placed_more items place at old so_far after item e told more =
     (sym (items_append place at items (item ∷ []) e
     ∙ ap (λ (t : List ℕ). items_from place items ++ t) (append-nil (comma_before at ++ item))))))
 
-module _ (detail : Detail) (base : Disk) (patches : List Patch) where
+module _ (how : Form) (detail : Detail) (base : Disk) (patches : List Patch) where
   abbrev form : Section → List ℕ
-  form = section_json (length patches)
+  form = section_json how
 
   -- no objects
-  pub sections_none : (text : List ℕ) → WritesSections detail base patches 0 [] text text
+  pub sections_none : (text : List ℕ) → WritesSections how detail base patches 0 [] text text
   sections_none text = record { sections = []; are = refl; whole = sym (append-nil text) }
 
   -- objects after objects, which are in a text of their own
-  pub sections_joined : (sets others old text part new : List ℕ) → WritesSections detail base patches 0 sets old text
-      → WritesSections detail base patches (length sets) others [] part → new ≡ text ++ part
-      → WritesSections detail base patches 0 (sets ++ others) old new
+  pub sections_joined : (sets others old text part new : List ℕ) → WritesSections how detail base patches 0 sets old text
+      → WritesSections how detail base patches (length sets) others [] part → new ≡ text ++ part
+      → WritesSections how detail base patches 0 (sets ++ others) old new
   sections_joined sets others old text part new first next more = record {
     sections = first.sections ++ next.sections;
     are = sections_join detail base patches sets others first.sections next.sections first.are next.are;
@@ -76,7 +76,7 @@ module _ (detail : Detail) (base : Disk) (patches : List Patch) where
           ∙ items_append 0 (length sets) (map form first.sections) (map form next.sections) count
 
   -- objects from the first place on are those of an array
-  pub sections_whole : (sets old new : List ℕ) (wrote : WritesSections detail base patches 0 sets old new)
+  pub sections_whole : (sets old new : List ℕ) (wrote : WritesSections how detail base patches 0 sets old new)
       → new ≡ old ++ join_of 44 (map form wrote.sections)
   sections_whole sets old new wrote = wrote.whole
       ∙ ap (λ (t : List ℕ). old ++ t) (items_joined (map form wrote.sections))

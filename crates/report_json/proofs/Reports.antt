@@ -5,7 +5,7 @@ use Rattle.std.proofs.lemmas.List.{length-map, map-append}
 use Rattle.crash_model.specs.Lists.{when}
 use Rattle.report_model.specs.Explain.{trace_json, told_waits_json}
 use Rattle.crash_model.specs.Disk.{Disk}
-use Rattle.report_model.specs.Report.{Detail, section_json}
+use Rattle.report_model.specs.Report.{Detail, Form, section_json}
 use Rattle.crash_model.specs.Texts.{module_text}
 use Rattle.report_model.specs.Shows.{counted_json, durable_json, promises_json}
 use Rattle.report_model.specs.Summary.{ToldFault, told_fault_json}
@@ -22,50 +22,48 @@ use Rattle.report_sections.proofs.Joined.{rows_more, firsts_more}
 use Rattle.report_sections.proofs.Pieces.{four_pieces}
 use Rattle.report_sections.proofs.Pushed.{sections_more, length-sections}
 use Rattle.report_json.specs.JsonReport.{WritesSections, WritesFaults, items_from, module_key, strict_key, whole_key}
-use Rattle.report_json.specs.JsonReport.{from_module, from_strict, promise_keys, told_promises}
+use Rattle.report_json.specs.JsonReport.{form_by, from_module, from_strict, promise_keys, told_promises}
 use Rattle.report_json.proofs.JoinedParts.{placed_more}
 use Rattle.json_values.specs.Items.{comma_before}
 use Rattle.json_values.proofs.Commas.{mapped_more}
 
-pub section_more : {A : Type 0} (detail : Detail) (base : Disk) (patches : List Patch) (sets : List ℕ) (place i n : ℕ)
-    (old so_far after text : List ℕ) (s : code.Section A) → i < length sets → n ≡ length patches
-    → WritesSections detail base patches place (take i sets) old so_far
-    → IsSection detail base patches (get_or sets i 0) s → text ≡ section_json n (section_of s)
+pub section_more : {A : Type 0} (form : Form) (detail : Detail) (base : Disk) (patches : List Patch) (sets : List ℕ)
+    (place i : ℕ) (old so_far after text : List ℕ) (s : code.Section A) → i < length sets
+    → WritesSections form detail base patches place (take i sets) old so_far
+    → IsSection detail base patches (get_or sets i 0) s → text ≡ section_json form (section_of s)
     → after ≡ so_far ++ comma_before (place + i) ++ text
-    → WritesSections detail base patches place (take (i + 1) sets) old after
-section_more detail base patches sets place i n old so_far after text s within number tells is written more = record {
+    → WritesSections form detail base patches place (take (i + 1) sets) old after
+section_more form detail base patches sets place i old so_far after text s within tells is written more = record {
   sections = tells.sections ++ section_of s ∷ [];
   are = sections_more detail base patches sets i tells.sections s within tells.are is;
-  whole = placed_more (map (section_json (length patches)) tells.sections) place (place + i) old so_far after
-      (section_json (length patches) (section_of s)) at tells.whole
-      (more ∙ ap (λ (t : List ℕ). so_far ++ comma_before (place + i) ++ t)
-      (written ∙ ap (λ (k : ℕ). section_json k (section_of s)) number))
+  whole = placed_more (map (section_json form) tells.sections) place (place + i) old so_far after
+      (section_json form (section_of s)) at tells.whole
+      (more ∙ ap (λ (t : List ℕ). so_far ++ comma_before (place + i) ++ t) written)
       ∙ ap (λ (ts : List (List ℕ)). old ++ items_from place ts)
-      (sym (map-append (section_json (length patches)) tells.sections (section_of s ∷ [])));
+      (sym (map-append (section_json form) tells.sections (section_of s ∷ [])));
 }
   where
-    at : place + i ≡ length (map (section_json (length patches)) tells.sections) + place
+    at : place + i ≡ length (map (section_json form) tells.sections) + place
     at = omega (
       arith,
       within,
-      length-map tells.sections (section_json (length patches)),
+      length-map tells.sections (section_json form),
       length-sections detail base patches (take i sets) tells.sections tells.are,
       length-take i sets,
     )
 
-pub fault_more : {A : Type 0} (detail : Detail) (base : Disk) (patches : List Patch) (rows : List FaultRow) (i n : ℕ)
-    (d : FaultRow) (old so_far after text : List ℕ) (s : code.Section A) → i < length rows → n ≡ length patches
-    → WritesFaults detail base patches (take i rows) old so_far
+pub fault_more : {A : Type 0} (form : Form) (detail : Detail) (base : Disk) (patches : List Patch) (rows : List FaultRow)
+    (i : ℕ) (d : FaultRow) (old so_far after text : List ℕ) (s : code.Section A) → i < length rows
+    → WritesFaults form detail base patches (take i rows) old so_far
     → IsSection detail base patches (get_or rows i d).first s
-    → text ≡ told_fault_json n (record { row = get_or rows i d; first = section_of s })
-    → after ≡ so_far ++ comma_before i ++ text → WritesFaults detail base patches (take (i + 1) rows) old after
-fault_more detail base patches rows i n d old so_far after text s within number tells is written more = record {
+    → text ≡ told_fault_json form (record { row = get_or rows i d; first = section_of s })
+    → after ≡ so_far ++ comma_before i ++ text → WritesFaults form detail base patches (take (i + 1) rows) old after
+fault_more form detail base patches rows i d old so_far after text s within tells is written more = record {
   told = tells.told ++ one ∷ [];
   of_rows = rows_more (λ (t : ToldFault). t.row) rows i d tells.told one within refl tells.of_rows;
   firsts = firsts_more (λ (row : FaultRow). row.first) (λ (t : ToldFault). t.first) rows i d tells.told one
       detail base patches s within refl tells.firsts is;
-  whole = mapped_more (told_fault_json (length patches)) tells.told one i old so_far after text place tells.whole
-      (written ∙ ap (λ (k : ℕ). told_fault_json k one) number) more;
+  whole = mapped_more (told_fault_json form) tells.told one i old so_far after text place tells.whole written more;
 }
   where
     one : ToldFault
@@ -85,18 +83,16 @@ fault_more detail base patches rows i n d old so_far after text s within number 
 -- the keys from the module on, one after another
 pub keys_from_module : {A : Type 0} (report : Report A) (n : ℕ) (body : Body) (before one two three last : List ℕ)
     → n ≡ length report.traced.now.patches
-    → one ≡ before ++ module_key report.settings.now.generations report.settings.now.module n
+    → one ≡ before ++ module_key report.settings.now n
     → two ≡ one ++ promises_json n (told_promises report.settings.now report.demands.now)
-    → three ≡ two ++ late_json (length report.traced.now.patches) report.failing body
+    → three ≡ two ++ late_json (form_by report) report.failing body
     → last ≡ three ++ from_strict report.settings.now (length report.traced.now.patches)
     (explanation_by report.base.now report.traced.now) (told_promises report.settings.now report.demands.now)
     → last ≡ before ++ from_module report body
 keys_from_module report n body before one two three last number first second third fourth =
-    let kind = report.settings.now.module in
-    let generations = report.settings.now.generations in
     let promises = told_promises report.settings.now report.demands.now in
     four_pieces before one two three last _ _ _ _
-    (first ∙ ap (λ (k : ℕ). before ++ module_key generations kind k) number)
+    (first ∙ ap (λ (k : ℕ). before ++ module_key report.settings.now k) number)
     (second ∙ ap (λ (k : ℕ). one ++ promises_json k promises) number) third fourth
 
 -- the pieces of the whole, one after another
@@ -107,7 +103,7 @@ pub whole_text : {A : Type 0} (report : Report A) (body : Body) (empty one two t
     (when report.settings.now.explain (explanation_by report.base.now report.traced.now))
     → three ≡ two ++ (codes "\"closed\":" ++ decimal report.closed)
     → four ≡ three ++ promise_keys report.settings.now
-    → five ≡ four ++ early_json (length report.traced.now.patches) report.failing body
+    → five ≡ four ++ early_json (form_by report) report.failing body
     → six ≡ five ++ from_module report body
     → last ≡ six ++ codes "}\n"
     → last ≡ json_report report.settings.now (whole_of report body)
@@ -117,7 +113,8 @@ whole_text report body empty one two three four five six last none first second 
     let patches = length report.traced.now.patches in
     let base = first_json report.settings.now told in
     let keys = promise_keys report.settings.now in
-    let early = early_json patches report.failing body in
+    let form = form_by report in
+    let early = early_json form report.failing body in
     let rest = from_module report body in
     let promises = told_promises report.settings.now report.demands.now in
     let start : four ≡ codes "{" ++ base ++ (codes "\"closed\":" ++ decimal report.closed) ++ keys =
@@ -131,10 +128,10 @@ whole_text report body empty one two three four five six last none first second 
     (durable_json report.settings.now.durable) early rest (codes "}\n")
     ∙ regroup (codes "{" ++ base ++ codes "\"closed\":" ++ decimal report.closed
     ++ counted_json report.settings.now.counted ++ durable_json report.settings.now.durable ++ early)
-    (before_module report.settings.now.generations) (codes "\"")
+    (before_module report.settings.now) (codes "\"")
     (module_text report.settings.now.module) (codes "\"") (codes ",\"patches\":") (decimal patches)
     (promises_json patches promises)
-    (late_json patches report.failing body) (strict_key report.settings.now.strict) (trace_json told)
+    (late_json form report.failing body) (strict_key report.settings.now.strict) (trace_json told)
     (told_waits_json patches told promises)
     (whole_key report.settings.now.whole_blocks)
     (rules_json (codes "with") (told_with report.settings.now))

@@ -8,17 +8,16 @@ use Rattle.crash_model.specs.Disk.{Disk}
 use Rattle.crash_model.specs.Promises.{Promise}
 use Rattle.crash_model.specs.Reasons.{Explanation, blocks_of, told_patches}
 use Rattle.report_model.specs.Explain.{hex_json, told_json, trace_json, told_waits_json}
-use Rattle.report_model.specs.Report.{Detail, Section, AreSections, json_array, json_string, section_json}
+use Rattle.report_model.specs.Report.{Detail, Form, Section, AreSections, json_array, json_string, section_json}
 use Rattle.report_model.specs.Shows.{counted_json, durable_json, promises_json}
 use Rattle.crash_model.specs.Script.{path_text}
 use Rattle.crash_model.specs.Texts.{module_text}
 use Rattle.report_model.specs.Summary.{ToldFault, told_fault_json}
 use Rattle.report_model.specs.Needs.{told_rule_json}
 use Rattle.report_model.specs.Whole as whole
-use Rattle.report_model.specs.Whole.{early_json, late_json, rules_json, told_with, told_without, before_module}
+use Rattle.report_model.specs.Whole.{early_json, late_json, rules_json, told_with, told_without, before_module, form_of}
 use Rattle.crash_model.specs.declared.fault.FaultRow.{FaultRow}
 use Rattle.crash_model.specs.declared.patches.Patch.{Patch}
-use Rattle.crash_model.specs.declared.modules.Module.{Module}
 use Rattle.crash_model.specs.declared.names.Path.{Path}
 use Rattle.crash_model.specs.declared.settings.Settings.{Settings}
 use Rattle.traced_patches.specs.Traced.{TracedPatches}
@@ -36,10 +35,10 @@ abbrev pub trace_key : TracedPatches → List ℕ
 trace_key t = codes ",\"trace\":" ++ json_array (map told_json (told_patches t.rules t.whole t.links t.emitted
     t.patches))
 
--- that inodes have generations, if they have, the module and the number of patches
-abbrev pub module_key : Bool → Module → ℕ → List ℕ
-module_key generations kind patches =
-    before_module generations ++ codes "\"" ++ module_text kind ++ codes "\",\"patches\":" ++ decimal patches
+-- the keys of the disk, the module and the number of patches
+abbrev pub module_key : Settings → ℕ → List ℕ
+module_key settings patches =
+    before_module settings ++ codes "\"" ++ module_text settings.module ++ codes "\",\"patches\":" ++ decimal patches
 
 -- that the run is strict, if it is
 abbrev pub strict_key : Bool → List ℕ
@@ -73,24 +72,28 @@ from_strict settings n explanation promises =
     ++ rules_json (codes "with") (told_with settings)
     ++ rules_json (codes "without") (told_without settings)
 
+-- how the objects of a report are written
+abbrev pub form_by : {A : Type 0} → Report A → Form
+form_by report = form_of report.settings.now (length report.traced.now.patches)
+
 -- the text has the body's key before `module` appended
 abbrev pub WritesEarly : {A : Type 0} → Report A → List ℕ → List ℕ → Type 0
 WritesEarly report old new =
     (body : whole.Body) × TellsBody (detail_by report) report.base.now report.traced.now.patches report.body body
-    × (new ≡ old ++ early_json (length report.traced.now.patches) report.failing body)
+    × (new ≡ old ++ early_json (form_by report) report.failing body)
 
 -- and its key after `patches`
 abbrev pub WritesLate : {A : Type 0} → Report A → List ℕ → List ℕ → Type 0
 WritesLate report old new =
     (body : whole.Body) → TellsBody (detail_by report) report.base.now report.traced.now.patches report.body body
-    → new ≡ old ++ late_json (length report.traced.now.patches) report.failing body
+    → new ≡ old ++ late_json (form_by report) report.failing body
 
 -- the keys from the module on
 abbrev pub from_module : {A : Type 0} → Report A → whole.Body → List ℕ
 from_module report body =
-    module_key report.settings.now.generations report.settings.now.module (length report.traced.now.patches)
+    module_key report.settings.now (length report.traced.now.patches)
     ++ promises_json (length report.traced.now.patches) (told_promises report.settings.now report.demands.now)
-    ++ late_json (length report.traced.now.patches) report.failing body
+    ++ late_json (form_by report) report.failing body
     ++ from_strict report.settings.now (length report.traced.now.patches)
     (explanation_by report.base.now report.traced.now) (told_promises report.settings.now report.demands.now)
 
@@ -106,20 +109,20 @@ items_from place [] = []
 items_from place (item ∷ items) = comma_before place ++ item ++ items_from (suc place) items
 
 -- the text has the objects of these sets appended, the first of them at this place of an array
-pub record WritesSections (detail : Detail) (base : Disk) (patches : List Patch) (place : ℕ)
+pub record WritesSections (form : Form) (detail : Detail) (base : Disk) (patches : List Patch) (place : ℕ)
     (sets old new : List ℕ) : Type 0 where
   pub sections : List Section
   pub are : AreSections detail base patches sets sections
-  pub whole : new ≡ old ++ items_from place (map (section_json (length patches)) sections)
+  pub whole : new ≡ old ++ items_from place (map (section_json form) sections)
 
 -- the text has the objects of these rows appended, separated by commas
-pub record WritesFaults (detail : Detail) (base : Disk) (patches : List Patch) (rows : List FaultRow)
+pub record WritesFaults (form : Form) (detail : Detail) (base : Disk) (patches : List Patch) (rows : List FaultRow)
     (old new : List ℕ) : Type 0 where
   pub told : List ToldFault
   pub of_rows : map (λ t. t.row) told ≡ rows
   pub firsts : AreSections detail base patches (map (λ row. row.first) rows) (map (λ t. t.first) told)
-  pub whole : new ≡ old ++ join_of COMMA (map (told_fault_json (length patches)) told)
+  pub whole : new ≡ old ++ join_of COMMA (map (told_fault_json form) told)
 
--- and of the objects of these rules, of n patches
-abbrev pub WritesRules : {A : Type 0} → ℕ → List (ToldRule A) → List ℕ → List ℕ → Type 0
-WritesRules n rules old new = new ≡ old ++ join_of COMMA (map (λ rule. told_rule_json n (told_rule rule)) rules)
+-- and of the objects of these rules
+abbrev pub WritesRules : {A : Type 0} → Form → List (ToldRule A) → List ℕ → List ℕ → Type 0
+WritesRules form rules old new = new ≡ old ++ join_of COMMA (map (λ rule. told_rule_json form (told_rule rule)) rules)

@@ -7,7 +7,8 @@ ghost use Rattle.crash_model.specs.Lists.{join_of, when};
 ghost use Rattle.report_model.specs.Report.{json_string};
 ghost use Rattle.crash_model.specs.Texts.{module_text};
 ghost use Rattle.crash_model.specs.Rules.{rule_text};
-ghost use Rattle.report_model.specs.Whole.{atomic_json, first_json, rules_json, generations_json, before_module};
+ghost use Rattle.report_model.specs.Whole.{atomic_json, before_module, disk_json, first_json, format_json};
+ghost use Rattle.report_model.specs.Whole.{generations_json, geometry_json, rules_json};
 ghost use Rattle.traced_patches.specs.Traced.{TracedPatches};
 ghost use Rattle.report_sections.specs.Bodies.{explanation_by};
 ghost use Rattle.report_model.specs.Shows.{counted_json, counted_numbers, durable_json};
@@ -109,17 +110,17 @@ fn write_explained_trace<A: Allocator + Copy, B: Allocator>(
     Ok(())
 }
 
-/// That inodes have generations, if they have, the module and the number of patches, with a comma before them. It fails
-/// only when out of memory.
+/// The keys of the disk, the module and the number of patches, each with a comma before it. It fails only when out of
+/// memory.
 pub fn write_module<B: Allocator>(
     out: &mut String<B>,
     settings: &Settings,
     patches: usize,
 ) -> Result<(), AllocError>
     ensures { OnOk result (string_bytes out.new
-        ≡ string_bytes out.old ++ module_key settings.now.generations settings.now.«module» patches) }
+        ≡ string_bytes out.old ++ module_key settings.now patches) }
 {
-    write_generations_key(out, settings.generations)?;
+    write_disk_keys(out, settings)?;
     out.push_str(",\"module\":\"")?;
     out.push_str(settings.module.name())?;
     out.push_str("\",\"patches\":")?;
@@ -136,21 +137,61 @@ pub fn write_module_key<B: Allocator>(out: &mut String<B>, module: Module) -> Re
     write!(out, ",\"module\":\"{name}\"")
 }
 
-/// That inodes have generations, if they have, and the key of the module, with a comma before them. It fails only when
-/// out of memory.
+/// The keys of the disk and that of the module, each with a comma before it. It fails only when out of memory.
 pub fn write_disk_and_module<B: Allocator>(
     out: &mut String<B>,
     settings: &Settings,
 ) -> Result<(), AllocError>
     ensures { OnOk result (string_bytes out.new ≡ string_bytes out.old
-        ++ (before_module settings.now.generations ++ json_string (module_text settings.now.«module»))) }
+        ++ (before_module settings.now ++ json_string (module_text settings.now.«module»))) }
 {
-    write_generations_key(out, settings.generations)?;
+    write_disk_keys(out, settings)?;
     write_module_key(out, settings.module)
 }
 
-/// The key of a disk with generations, with a comma before it. It fails only when out of memory.
-pub fn write_generations_key<B: Allocator>(
+/// The keys of the disk, each with a comma before it: the number of the form of reports and the size of the disk and of
+/// its journal, if numbers are asked for, and that inodes have generations, if they have. It fails only when out of
+/// memory.
+pub fn write_disk_keys<B: Allocator>(
+    out: &mut String<B>,
+    settings: &Settings,
+) -> Result<(), AllocError>
+    ensures { OnOk result (string_bytes out.new ≡ string_bytes out.old ++ disk_json settings.now) }
+{
+    write_format_key(out, settings.numbers)?;
+    write_generations_key(out, settings.generations)?;
+    write_geometry_key(out, settings)
+}
+
+/// The key of the number of the form of reports with a comma before it, if numbers are asked for.
+fn write_format_key<B: Allocator>(out: &mut String<B>, numbers: bool) -> Result<(), AllocError>
+    ensures { OnOk result (string_bytes out.new ≡ string_bytes out.old ++ format_json numbers) }
+{
+    if numbers {
+        out.push_str(",\"format\":1")?;
+    }
+    Ok(())
+}
+
+/// The key of the size of the disk and of its journal with a comma before it, if numbers are asked for.
+fn write_geometry_key<B: Allocator>(
+    out: &mut String<B>,
+    settings: &Settings,
+) -> Result<(), AllocError>
+    ensures { OnOk result (string_bytes out.new ≡ string_bytes out.old ++ geometry_json settings.now) }
+{
+    if settings.numbers {
+        let (blocks, journal) = (settings.blocks, settings.journal);
+        write!(
+            out,
+            ",\"geometry\":{{\"block_size\":128,\"blocks\":{blocks},\"journal\":{journal}}}"
+        )?;
+    }
+    Ok(())
+}
+
+/// The key of a disk with generations, with a comma before it.
+fn write_generations_key<B: Allocator>(
     out: &mut String<B>,
     generations: bool,
 ) -> Result<(), AllocError>

@@ -2,7 +2,7 @@
 
 ghost use Rattle.std.specs.Prelude.{◌≡◌, string_bytes, OnOk};
 ghost use Rattle.report_sections.specs.Bodies.{detail_by, AreOnBase, AreClosed};
-ghost use Rattle.report_json.specs.JsonReport.{WritesSections};
+ghost use Rattle.report_json.specs.JsonReport.{form_by, WritesSections};
 
 use crate::report::write_sections;
 use report_sections::Report;
@@ -21,7 +21,7 @@ impl<'a, 'found, 'steps, 'asked, 'body, A: Allocator + Copy> WriteSets<A>
     ghost can_write = { λ w sets. AreOnBase w.report.now.base.now w.report.now.traced.now.patches
         × AreClosed w.report.now.traced.now.patches sets };
 
-    ghost writes = { λ w. WritesSections (detail_by w.report.now) w.report.now.base.now
+    ghost writes = { λ w. WritesSections (form_by w.report.now) (detail_by w.report.now) w.report.now.base.now
         w.report.now.traced.now.patches };
 
     fn write(&self, out: &mut String<A>, place: usize, sets: &[u128]) -> Result<(), AllocError> {

@@ -10,7 +10,7 @@ ghost use Rattle.report_sections.specs.Bodies.{detail_by, CanTell, TellsBody, Ar
 ghost use Rattle.report_sections.specs.Sections.{section_of, IsSection};
 ghost use Rattle.report_sections.specs.declared.section.Section.{Section};
 ghost use Rattle.json_values.specs.Items.{comma_before};
-ghost use Rattle.report_json.specs.JsonReport.{WritesEarly, WritesLate, WritesFromModule};
+ghost use Rattle.report_json.specs.JsonReport.{form_by, WritesEarly, WritesLate, WritesFromModule};
 ghost use Rattle.report_json.specs.JsonReport.{WritesSections, WritesFaults, WritesRules};
 
 use crate::head::{write_first_keys, write_from_strict, write_module, write_promise_keys};
@@ -143,7 +143,7 @@ fn write_late<A: Allocator + Copy>(
         }
         Body::Rules(rules) => {
             out.push_str(",\"rules\":[")?;
-            write_rules(out, heap, report.traced.graph().len(), rules)?;
+            write_rules(out, heap, report, rules)?;
             out.push_str("]")?;
         }
     }
@@ -162,11 +162,11 @@ pub(crate) fn write_sections<A: Allocator + Copy>(
     requires on_base { AreOnBase report.now.base.now report.now.traced.now.patches }
     requires closed { AreClosed report.now.traced.now.patches sets.now }
     requires fits { place + length sets.now < 2 ^ 64 }
-    ensures { OnOk result (WritesSections (detail_by report.now) report.now.base.now
+    ensures { OnOk result (WritesSections (form_by report.now) (detail_by report.now) report.now.base.now
         report.now.traced.now.patches place sets.now (string_bytes out.old) (string_bytes out.new)) }
 {
     let graph = report.traced.graph();
-    let mut known = KnownTexts::new(heap, graph.len())?;
+    let mut known = KnownTexts::new(heap, graph.len(), report.settings.numbers)?;
     let mut maker = SectionMaker::new(
         *out.allocator(),
         report.base,
@@ -185,10 +185,9 @@ fn write_each_section<A: Allocator + Copy>(
     place: usize,
     sets: &[u128],
 ) -> Result<(), AllocError>
-    requires known { known.old ≡ length maker.old.patches }
     requires closed { AreClosed maker.old.patches sets.now }
     requires fits { place + length sets.now < 2 ^ 64 }
-    ensures { OnOk result (WritesSections maker.old.detail maker.old.base maker.old.patches place sets.now
+    ensures { OnOk result (WritesSections known.old maker.old.detail maker.old.base maker.old.patches place sets.now
         (string_bytes out.old) (string_bytes out.new)) }
 {
     for (at, set) in sets.iter().enumerate() {
@@ -227,11 +226,11 @@ fn write_faults<A: Allocator + Copy>(
 ) -> Result<(), AllocError>
     requires on_base { AreOnBase report.now.base.now report.now.traced.now.patches }
     requires closed { AreClosed report.now.traced.now.patches (map (λ row. row.first) rows.now) }
-    ensures { OnOk result (WritesFaults (detail_by report.now) report.now.base.now
+    ensures { OnOk result (WritesFaults (form_by report.now) (detail_by report.now) report.now.base.now
         report.now.traced.now.patches rows.now (string_bytes out.old) (string_bytes out.new)) }
 {
     let graph = report.traced.graph();
-    let mut known = KnownTexts::new(heap, graph.len())?;
+    let mut known = KnownTexts::new(heap, graph.len(), report.settings.numbers)?;
     let mut maker = SectionMaker::new(
         *out.allocator(),
         report.base,
@@ -249,9 +248,8 @@ fn write_each_fault<A: Allocator + Copy>(
     maker: &mut SectionMaker<'_, A>,
     rows: &[FaultRow],
 ) -> Result<(), AllocError>
-    requires known { known.old ≡ length maker.old.patches }
     requires closed { AreClosed maker.old.patches (map (λ row. row.first) rows.now) }
-    ensures { OnOk result (WritesFaults maker.old.detail maker.old.base maker.old.patches rows.now
+    ensures { OnOk result (WritesFaults known.old maker.old.detail maker.old.base maker.old.patches rows.now
         (string_bytes out.old) (string_bytes out.new)) }
 {
     for (at, row) in rows.iter().enumerate() {
@@ -281,16 +279,17 @@ fn write_fault<A: Allocator + Copy>(
     known.push_fault_row(out, row, &section)
 }
 
-/// The objects of the rules, with a comma between two. The graph has `patches` patches.
+/// The objects of the rules, with a comma between two.
 fn write_rules<A: Allocator + Copy>(
     out: &mut String<A>,
     heap: Global,
-    patches: usize,
+    report: &Report<'_, '_, '_, '_, A>,
     rules: &[ToldRule<A>],
 ) -> Result<(), AllocError>
-    ensures { OnOk result (WritesRules patches rules.now (string_bytes out.old) (string_bytes out.new)) }
+    ensures { OnOk result (WritesRules (form_by report.now) rules.now (string_bytes out.old) (string_bytes out.new)) }
 {
-    let mut known = KnownTexts::new(heap, patches)?;
+    let patches = report.traced.graph().len();
+    let mut known = KnownTexts::new(heap, patches, report.settings.numbers)?;
     write_each_rule(out, &mut known, rules)
 }
 

@@ -1,4 +1,5 @@
 pub mod Parts
+pub mod FaultKeys
 pub mod Shows
 pub mod Report
 pub mod Explain

@@ -8,7 +8,7 @@ use Rattle.crash_model.specs.Patches.{deps_of, CountsClosed, ExceedsLimit}
 use Rattle.crash_model.specs.Rules.{rules_in_first, rule_text}
 use Rattle.crash_model.specs.Trace.{Tracing}
 use Rattle.crash_model.specs.Checker.{IsFailingUnder}
-use Rattle.report_model.specs.Report.{Detail, Section, AreSections, IsLed, line, section_text, json_string}
+use Rattle.report_model.specs.Report.{Detail, Section, AreSections, IsLed, Form, line, section_text, json_string}
 use Rattle.report_model.specs.Report.{section_json}
 use Rattle.crash_model.specs.declared.patches.Patch.{Patch}
 use Rattle.crash_model.specs.declared.rules.Rule.{Rule}
@@ -87,18 +87,18 @@ told_rule_text n t = usage_text n (codes "rule " ++ rule_text t.rule) t.usage
 
 -- ---- JSON
 
-abbrev pub first_json : ℕ → Option Section → List ℕ
-first_json n None = []
-first_json n (Some section) = codes "\"first\":" ++ section_json n section ++ codes ","
+abbrev pub first_json : Form → Option Section → List ℕ
+first_json form None = []
+first_json form (Some section) = codes "\"first\":" ++ section_json form section ++ codes ","
 
 -- the keys before and after `rule`
-abbrev pub usage_json : ℕ → List ℕ → RuleUsage → List ℕ
-usage_json n rule Unused = codes "\"pairs\":0" ++ rule
-usage_json n rule (TooMany pairs) = codes "\"pairs\":" ++ decimal pairs ++ rule ++ codes ",\"too_many\":true"
-usage_json n rule (Used pairs w) =
+abbrev pub usage_json : Form → List ℕ → RuleUsage → List ℕ
+usage_json form rule Unused = codes "\"pairs\":0" ++ rule
+usage_json form rule (TooMany pairs) = codes "\"pairs\":" ++ decimal pairs ++ rule ++ codes ",\"too_many\":true"
+usage_json form rule (Used pairs w) =
     codes "\"closed\":" ++ decimal w.closed ++ codes ",\"failing\":" ++ decimal w.failing ++ codes ","
-    ++ first_json n w.first ++ codes "\"pairs\":" ++ decimal pairs ++ rule
+    ++ first_json form w.first ++ codes "\"pairs\":" ++ decimal pairs ++ rule
 
-abbrev pub told_rule_json : ℕ → ToldRule → List ℕ
-told_rule_json n t =
-    codes "{" ++ usage_json n (codes ",\"rule\":" ++ json_string (rule_text t.rule)) t.usage ++ codes "}"
+abbrev pub told_rule_json : Form → ToldRule → List ℕ
+told_rule_json form t =
+    codes "{" ++ usage_json form (codes ",\"rule\":" ++ json_string (rule_text t.rule)) t.usage ++ codes "}"

@@ -14,8 +14,8 @@ use Rattle.crash_model.specs.Checker.{Demands, faults_under}
 use Rattle.crash_model.specs.declared.fault.Fault.{Fault}
 use Rattle.crash_model.specs.declared.patches.Patch.{Patch}
 use Rattle.crash_model.specs.declared.showing.Shown.{Shown}
-use Rattle.crash_model.specs.Texts.{fault_text}
-pub use Rattle.report_model.specs.Parts.{line, numbers, json_string, json_array, ids_json}
+pub use Rattle.report_model.specs.Parts.{line, numbers, json_string, json_array, ids_json, Form}
+use Rattle.report_model.specs.FaultKeys.{faults_head}
 use Rattle.report_model.specs.Shows.{broken_shown, faults_text, shows_if, shows_json}
 
 -- ---- the section of a set
@@ -112,10 +112,10 @@ abbrev pub replay_json : Option (List ReplayedBlock) → List ℕ
 replay_json None = []
 replay_json (Some replay) = codes "\"replay\":" ++ json_array (map replayed_json replay) ++ codes ","
 
-abbrev pub section_json : ℕ → Section → List ℕ
-section_json n s =
-    codes "{\"faults\":" ++ json_array (map (λ f. json_string (fault_text f)) s.found) ++ codes ","
+abbrev pub section_json : Form → Section → List ℕ
+section_json form s =
+    faults_head form.numbers s.found
     ++ replay_json s.replay
-    ++ codes "\"set\":" ++ ids_json n s.set
+    ++ codes "\"set\":" ++ ids_json form.patches s.set
     ++ shows_json s.shows
-    ++ codes ",\"writes\":" ++ writes_json n s.writes ++ codes "}"
+    ++ codes ",\"writes\":" ++ writes_json form.patches s.writes ++ codes "}"

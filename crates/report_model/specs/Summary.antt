@@ -1,8 +1,9 @@
 -- A summary of the sets that fail: each fault once, with the number of the sets that have it and the first of them.
 use Rattle.std.specs.Prelude.{ℕ, List, ◌++◌, map, option_map, codes, decimal}
 use Rattle.crash_model.specs.Disk.{Disk}
-use Rattle.report_model.specs.Report.{Detail, Section, AreSections, line, crash_text, json_string, ids_json}
+use Rattle.report_model.specs.Report.{Detail, Section, AreSections, Form, line, crash_text, ids_json}
 use Rattle.report_model.specs.Report.{replay_json, writes_json}
+use Rattle.report_model.specs.FaultKeys.{fault_head}
 use Rattle.report_model.specs.Shows.{shown_of, told_shows, shows_json}
 use Rattle.crash_model.specs.Texts.{fault_text}
 use Rattle.crash_model.specs.declared.fault.FaultRow.{FaultRow}
@@ -27,11 +28,11 @@ told_fault_text n t =
     ++ line (codes "sets " ++ decimal t.row.sets)
     ++ crash_text n t.first
 
-abbrev pub told_fault_json : ℕ → ToldFault → List ℕ
-told_fault_json n t =
-    codes "{\"fault\":" ++ json_string (fault_text t.row.fault) ++ codes ","
+abbrev pub told_fault_json : Form → ToldFault → List ℕ
+told_fault_json form t =
+    fault_head form.numbers t.row.fault
     ++ replay_json t.first.replay
-    ++ codes "\"set\":" ++ ids_json n t.first.set
+    ++ codes "\"set\":" ++ ids_json form.patches t.first.set
     ++ codes ",\"sets\":" ++ decimal t.row.sets
     ++ shows_json (option_map (shown_of t.row.fault t.first.found) t.first.shows)
-    ++ codes ",\"writes\":" ++ writes_json n t.first.writes ++ codes "}"
+    ++ codes ",\"writes\":" ++ writes_json form.patches t.first.writes ++ codes "}"

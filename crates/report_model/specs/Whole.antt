@@ -1,7 +1,7 @@
 -- A whole report, as text and as JSON.
 use Rattle.std.specs.Prelude.{ℕ, List, [], ◌∷◌, ◌++◌, map, flat_map, Bool, if◌then◌else◌, Option, codes, decimal}
 use Rattle.crash_model.specs.Rules.{rule_text, rules_taken_out, rules_put_in}
-use Rattle.report_model.specs.Report.{Section, line, section_text, json_string, json_array, section_json}
+use Rattle.report_model.specs.Report.{Section, Form, line, section_text, json_string, json_array, section_json}
 use Rattle.crash_model.specs.Texts.{module_text}
 use Rattle.crash_model.specs.Reasons.{Explanation, explanation}
 use Rattle.crash_model.specs.Promises.{Promise}
@@ -84,28 +84,49 @@ rules_json key (rule ∷ rules) =
 abbrev pub atomic_json : Bool → List ℕ
 atomic_json atomic = if atomic then codes "\"atomic\":true," else []
 
+-- the number of the form of reports, if numbers are asked for
+abbrev pub format_json : Bool → List ℕ
+format_json numbers = if numbers then codes ",\"format\":1" else []
+
 -- that inodes have generations, if they have
 abbrev pub generations_json : Bool → List ℕ
 generations_json generations = if generations then codes ",\"generations\":true" else []
 
--- that, and then the key of the module
-abbrev pub before_module : Bool → List ℕ
-before_module generations = generations_json generations ++ codes ",\"module\":"
+-- the size of the disk and of its journal, if numbers are asked for
+abbrev pub geometry_json : Settings → List ℕ
+geometry_json settings =
+    if settings.numbers
+    then codes ",\"geometry\":{\"block_size\":128,\"blocks\":" ++ decimal settings.blocks ++ codes ",\"journal\":"
+    ++ decimal settings.journal ++ codes "}"
+    else []
+
+-- these three
+abbrev pub disk_json : Settings → List ℕ
+disk_json settings =
+    format_json settings.numbers ++ generations_json settings.generations ++ geometry_json settings
+
+-- and then the key of the module
+abbrev pub before_module : Settings → List ℕ
+before_module settings = disk_json settings ++ codes ",\"module\":"
+
+-- how the objects of a report on so many patches are written
+abbrev pub form_of : Settings → ℕ → Form
+form_of settings patches = record { patches = patches; numbers = settings.numbers }
 
 abbrev pub first_json : Settings → Option Explanation → List ℕ
 first_json settings explanation = atomic_json settings.atomic ++ base_json explanation
 
 -- the body's keys before `module`
-abbrev pub early_json : ℕ → ℕ → Body → List ℕ
-early_json n failing (Sets sections) = codes ",\"failing\":" ++ json_array (map (section_json n) sections)
-early_json n failing (Faults told) = codes ",\"faults\":" ++ json_array (map (told_fault_json n) told)
-early_json n failing (Rules told) = codes ",\"failing\":" ++ decimal failing
+abbrev pub early_json : Form → ℕ → Body → List ℕ
+early_json form failing (Sets sections) = codes ",\"failing\":" ++ json_array (map (section_json form) sections)
+early_json form failing (Faults told) = codes ",\"faults\":" ++ json_array (map (told_fault_json form) told)
+early_json form failing (Rules told) = codes ",\"failing\":" ++ decimal failing
 
 -- and those after `patches`
-abbrev pub late_json : ℕ → ℕ → Body → List ℕ
-late_json n failing (Sets sections) = []
-late_json n failing (Faults told) = codes ",\"sets\":" ++ decimal failing
-late_json n failing (Rules told) = codes ",\"rules\":" ++ json_array (map (told_rule_json n) told)
+abbrev pub late_json : Form → ℕ → Body → List ℕ
+late_json form failing (Sets sections) = []
+late_json form failing (Faults told) = codes ",\"sets\":" ++ decimal failing
+late_json form failing (Rules told) = codes ",\"rules\":" ++ json_array (map (told_rule_json form) told)
 
 unfoldable pub json_report : Settings → Report → List ℕ
 json_report settings r =
@@ -113,11 +134,11 @@ json_report settings r =
     ++ codes "\"closed\":" ++ decimal r.closed
     ++ counted_json settings.counted
     ++ durable_json settings.durable
-    ++ early_json r.patches r.failing r.body
-    ++ before_module settings.generations ++ json_string (module_text settings.module)
+    ++ early_json (form_of settings r.patches) r.failing r.body
+    ++ before_module settings ++ json_string (module_text settings.module)
     ++ codes ",\"patches\":" ++ decimal r.patches
     ++ promises_json r.patches r.promises
-    ++ late_json r.patches r.failing r.body
+    ++ late_json (form_of settings r.patches) r.failing r.body
     ++ (if settings.strict then codes ",\"strict\":true" else [])
     ++ trace_json r.explanation
     ++ told_waits_json r.patches r.explanation r.promises

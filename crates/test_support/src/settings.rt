@@ -16,6 +16,7 @@ pub fn plain_settings(module: Module) -> Settings {
         blocks: 16,
         journal: 0,
         json: false,
+        numbers: false,
         explain: false,
         whole_blocks: false,
         generations: false,

@@ -1,6 +1,6 @@
 //! Decisions as JSON.
 
-ghost use Rattle.std.specs.Prelude.{◌≡◌, ◌++◌, [], length, map, string_bytes, IfOk, OnOk};
+ghost use Rattle.std.specs.Prelude.{◌≡◌, ◌++◌, [], map, string_bytes, IfOk, OnOk};
 ghost use Rattle.patch_sets.specs.Closed.{IsClosed};
 ghost use Rattle.crash_model.specs.Patches.{deps_of};
 ghost use Rattle.question_model.specs.Decision.{decided_json, json_decision};
@@ -8,7 +8,8 @@ ghost use Rattle.report_sections.specs.Bodies.{AreClosed};
 ghost use Rattle.report_sections.specs.Sections.{section_of, IsSection};
 ghost use Rattle.report_sections.specs.declared.section.Section.{Section};
 ghost use Rattle.json_values.specs.Items.{comma_before};
-ghost use Rattle.question_reports.specs.DecisionParts.{detail_by, CanReport, WritesDecision, WritesFaults, fault_items};
+ghost use Rattle.question_reports.specs.DecisionParts.{detail_by, form_by, CanReport, WritesDecision, WritesFaults};
+ghost use Rattle.question_reports.specs.DecisionParts.{fault_items};
 
 use crate::decision::findings::Decision;
 use json_values::{KnownTexts, write_comma};
@@ -79,11 +80,11 @@ fn write_faults<A: Allocator + Copy>(
 ) -> Result<(), AllocError>
     requires { CanReport decision.now }
     ensures { OnOk result (WritesFaults (detail_by decision.now) decision.now.base.now decision.now.traced.now.patches
-        decision.now.faults.now (fault_items (length decision.now.traced.now.patches))
+        decision.now.faults.now (fault_items (form_by decision.now))
         (string_bytes out.old) (string_bytes out.new)) }
 {
     let graph = decision.traced.graph();
-    let mut known = KnownTexts::new(heap, graph.len())?;
+    let mut known = KnownTexts::new(heap, graph.len(), decision.settings.numbers)?;
     let mut maker = SectionMaker::new(
         *out.allocator(),
         decision.base,
@@ -101,10 +102,9 @@ fn write_each_fault<A: Allocator + Copy>(
     maker: &mut SectionMaker<'_, A>,
     faults: &[DecidedFault],
 ) -> Result<(), AllocError>
-    requires known { known.old ≡ length maker.old.patches }
     requires closed { AreClosed maker.old.patches (map (λ fault. fault.first) faults.now) }
     ensures { OnOk result (WritesFaults maker.old.detail maker.old.base maker.old.patches faults.now
-        (fault_items (length maker.old.patches)) (string_bytes out.old) (string_bytes out.new)) }
+        (fault_items known.old) (string_bytes out.old) (string_bytes out.new)) }
 {
     for (at, decided) in faults.iter().enumerate() {
         write_fault(out, at, known, maker, *decided)?;
@@ -145,8 +145,6 @@ pub fn push_decided<A: Allocator, B: Allocator + Copy>(
         ++ decided_json known.old (record { decided = decided; first = section_of section.now })) }
     ensures known { known.new ≡ known.old }
 {
-    out.push_str("{\"fault\":")?;
-    known.push_fault(out, decided.fault)?;
-    out.push_str(",")?;
+    known.push_fault_head(out, decided.fault)?;
     known.push_crash(out, decided.fault, section)
 }

@@ -2,6 +2,7 @@
 
 ghost use Rattle.std.specs.Prelude.{◌≡◌, ◌++◌, [], length, option_map};
 ghost use Rattle.std.specs.Prelude.{string_bytes, IfOk, OnOk};
+ghost use Rattle.report_model.specs.Whole.{form_of};
 ghost use Rattle.question_model.specs.EnoughReport.{first_fault_json, group_json, json_enough};
 ghost use Rattle.question_reports.specs.Chosen.{choices_of, AreFewChoices};
 ghost use Rattle.question_reports.specs.EnoughFindings.{group_head, group_items, report_of, set_items, told_first};
@@ -30,7 +31,8 @@ pub fn enough_json<A: Allocator + Copy>(
     ensures { IfOk result (λ text.
         string_bytes text ≡ json_enough (choices_of found.now.choices) found.now.settings.now (report_of found.now)) }
 {
-    let mut known = KnownTexts::new(heap, found.traced.graph().len())?;
+    let patches = found.traced.graph().len();
+    let mut known = KnownTexts::new(heap, patches, found.settings.numbers)?;
     let mut out = String::new(alloc);
     write_findings(&mut out, heap, &mut known, found)?;
     Ok(out)
@@ -44,7 +46,7 @@ fn write_findings<A: Allocator + Copy>(
     found: &EnoughFindings<'_, '_, '_, A>,
 ) -> Result<(), AllocError>
     requires empty { string_bytes out.old ≡ [] }
-    requires known { known.old ≡ length found.now.traced.now.patches }
+    requires known { known.old ≡ form_of found.now.settings.now (length found.now.traced.now.patches) }
     ensures { OnOk result (string_bytes out.new
         ≡ json_enough (choices_of found.now.choices) found.now.settings.now (report_of found.now)) }
 {
@@ -157,12 +159,10 @@ pub fn write_group_head<A: Allocator, B: Allocator + Copy>(
 ) -> Result<(), AllocError>
     requires few { AreFewChoices choices }
     ensures text { OnOk result (string_bytes out.new
-        ≡ string_bytes out.old ++ group_head (choices_of choices.entry) group (told_first fault.now)) }
+        ≡ string_bytes out.old ++ group_head known.old.numbers (choices_of choices.entry) group (told_first fault.now)) }
     ensures known { known.new ≡ known.old }
 {
-    out.push_str("{\"fault\":")?;
-    known.push_fault(out, fault.decided.fault)?;
-    out.push_str(",")?;
+    known.push_fault_head(out, fault.decided.fault)?;
     push_replay(out, &fault.section.replay)?;
     choices.write_first_key(out, group)?;
     Ok(())

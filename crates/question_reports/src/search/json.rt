@@ -19,8 +19,8 @@ use crash_model::steps::{Act, Step};
 use json_values::{KnownTexts, push_all_shows, push_replay, push_set, write_comma};
 use question_model::{Found, RefusedCount};
 use report_json::{
-    write_atomic_key, write_counted_numbers, write_generations_key, write_module_key,
-    write_rule_key, write_strict_key, write_whole_key,
+    write_atomic_key, write_counted_numbers, write_disk_keys, write_module_key, write_rule_key,
+    write_strict_key, write_whole_key,
 };
 use std::alloc::{AllocError, Allocator, Global};
 
@@ -56,8 +56,9 @@ fn write_findings<A: Allocator + Copy>(
     out.push_str("{")?;
     write_atomic_key(out, findings.settings.atomic)?;
     write_first_promise_keys(out, findings.settings)?;
-    write_failing(out, failing, findings.settings.generations)?;
-    write_kinds(out, heap, findings.pool, findings.kinds)?;
+    write_failing(out, failing, findings.settings)?;
+    let numbers = findings.settings.numbers;
+    write_kinds(out, heap, numbers, findings.pool, findings.kinds)?;
     out.push_str("]")?;
     write_module_key(out, findings.settings.module)?;
     write_last_keys(out, findings.settings, findings.most, pool, findings.found)?;
@@ -103,16 +104,16 @@ fn write_first_durable<B: Allocator>(out: &mut String<B>, durable: bool) -> Resu
     Ok(())
 }
 
-/// How many workloads fail, that inodes have generations, if they have, and the key of the kinds up to its array.
+/// How many workloads fail, the keys of the disk, and the key of the kinds up to its array.
 fn write_failing<B: Allocator>(
     out: &mut String<B>,
     failing: u128,
-    generations: bool,
+    settings: &Settings,
 ) -> Result<(), AllocError>
-    ensures { OnOk result (string_bytes out.new ≡ string_bytes out.old ++ failing_keys failing generations) }
+    ensures { OnOk result (string_bytes out.new ≡ string_bytes out.old ++ failing_keys failing settings.now) }
 {
     write!(out, "\"failing\":{failing}")?;
-    write_generations_key(out, generations)?;
+    write_disk_keys(out, settings)?;
     out.push_str(",\"kinds\":[")?;
     Ok(())
 }
@@ -188,14 +189,15 @@ fn write_refusal<B: Allocator>(out: &mut String<B>, refusal: RefusedCount) -> Re
 fn write_kinds<A: Allocator + Copy>(
     out: &mut String<A>,
     heap: Global,
+    numbers: bool,
     pool: &[Step],
     kinds: &[KindCrash<'_, A>],
 ) -> Result<(), AllocError>
-    ensures { OnOk result (string_bytes out.new ≡ string_bytes out.old ++ kind_items pool.now kinds.now) }
+    ensures { OnOk result (string_bytes out.new ≡ string_bytes out.old ++ kind_items numbers pool.now kinds.now) }
 {
     for (at, crash) in kinds.iter().enumerate() {
         write_comma(out, at)?;
-        write_kind(out, heap, pool, crash)?;
+        write_kind(out, heap, numbers, pool, crash)?;
     }
     Ok(())
 }
@@ -205,13 +207,15 @@ fn write_kinds<A: Allocator + Copy>(
 fn write_kind<A: Allocator + Copy>(
     out: &mut String<A>,
     heap: Global,
+    numbers: bool,
     pool: &[Step],
     crash: &KindCrash<'_, A>,
 ) -> Result<(), AllocError>
-    ensures { OnOk result (string_bytes out.new ≡ string_bytes out.old ++ kind_json (told_kind pool.now crash.now)) }
+    ensures { OnOk result (string_bytes out.new
+        ≡ string_bytes out.old ++ kind_json numbers (told_kind pool.now crash.now)) }
 {
     let (section, workloads) = (&crash.section, crash.shown.workloads);
-    let mut known = KnownTexts::new(heap, crash.patches)?;
+    let mut known = KnownTexts::new(heap, crash.patches, numbers)?;
     write_head(out, &mut known, crash)?;
     out.push_str("\"set\":")?;
     push_set(out, crash.patches, section.set)?;
@@ -230,13 +234,12 @@ fn write_head<A: Allocator + Copy>(
     known: &mut KnownTexts,
     crash: &KindCrash<'_, A>,
 ) -> Result<(), AllocError>
-    ensures text { OnOk result (string_bytes out.new ≡ string_bytes out.old ++ kind_head crash.now) }
+    ensures text { OnOk result (string_bytes out.new ≡ string_bytes out.old ++ kind_head known.old.numbers crash.now) }
     ensures known { known.new ≡ known.old }
 {
     let (number, name) = (crash.shown.kind.number(), crash.shown.kind.name());
-    out.push_str("{\"faults\":[")?;
-    known.push_faults(out, &crash.section.faults)?;
-    write!(out, "],\"kind\":{number},\"name\":\"{name}\",")?;
+    known.push_faults_head(out, &crash.section.faults)?;
+    write!(out, "\"kind\":{number},\"name\":\"{name}\",")?;
     push_replay(out, &crash.section.replay)?;
     Ok(())
 }

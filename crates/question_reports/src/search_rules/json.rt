@@ -55,7 +55,8 @@ fn write_findings<A: Allocator + Copy>(
     write!(out, "],\"failing\":{failing}")?;
     write_disk_and_module(out, findings.settings)?;
     out.push_str(",\"needs\":[")?;
-    write_needs(out, heap, ordering, findings.pool, findings.needs)?;
+    let numbers = findings.settings.numbers;
+    write_needs(out, heap, numbers, ordering, findings.pool, findings.needs)?;
     out.push_str("]")?;
     write_last_keys(out, findings.settings, findings.most, pool, findings.found)?;
     Ok(())
@@ -65,16 +66,17 @@ fn write_findings<A: Allocator + Copy>(
 fn write_needs<A: Allocator + Copy>(
     out: &mut String<A>,
     heap: Global,
+    numbers: bool,
     ordering: &Ordering,
     pool: &[Step],
     needs: &[NeededWorkload<A>],
 ) -> Result<(), AllocError>
     ensures { OnOk result (string_bytes out.new
-        ≡ string_bytes out.old ++ need_items ordering.now.rules.items pool.now needs.now) }
+        ≡ string_bytes out.old ++ need_items numbers ordering.now.rules.items pool.now needs.now) }
 {
     for (at, needed) in needs.iter().enumerate() {
         write_comma(out, at)?;
-        write_need(out, heap, ordering, pool, needed)?;
+        write_need(out, heap, numbers, ordering, pool, needed)?;
     }
     Ok(())
 }
@@ -84,15 +86,16 @@ fn write_needs<A: Allocator + Copy>(
 fn write_need<A: Allocator + Copy>(
     out: &mut String<A>,
     heap: Global,
+    numbers: bool,
     ordering: &Ordering,
     pool: &[Step],
     needed: &NeededWorkload<A>,
 ) -> Result<(), AllocError>
     ensures { OnOk result (string_bytes out.new
-        ≡ string_bytes out.old ++ need_json ordering.now.rules.items (told_need pool.now needed.now)) }
+        ≡ string_bytes out.old ++ need_json numbers ordering.now.rules.items (told_need pool.now needed.now)) }
 {
     let section = &needed.fault.section;
-    let mut known = KnownTexts::new(heap, needed.patches)?;
+    let mut known = KnownTexts::new(heap, needed.patches, numbers)?;
     let choices = Choices::Rules(ordering);
     write_group_head(out, &mut known, choices, needed.group, &needed.fault)?;
     out.push_str("\"set\":")?;

@@ -1,7 +1,7 @@
 use Rattle.std.proofs.Common.{◌≡◌, ℕ, List, ◌++◌, append_assoc, ap, ◌∙◌, codes, decimal}
 use Rattle.report_sections.proofs.Pieces.{four_pieces}
 use Rattle.crash_model.specs.Texts.{module_text}
-use Rattle.report_model.specs.Whole.{generations_json}
+use Rattle.report_model.specs.Whole.{disk_json}
 use Rattle.report_json.proofs.head.write_module.Goals as goal
 
 regroup : (old g a b c d e : List ℕ)
@@ -15,9 +15,9 @@ after old g a b c d e middle last first rest = rest ∙ ap (λ (t : List ℕ). t
 
 pub returns : goal.returns
 returns g c =
-    after _ (generations_json c.args.settings.now.generations) (codes ",\"module\":") (codes "\"")
+    after _ (disk_json c.args.settings.now) (codes ",\"module\":") (codes "\"")
     (module_text c.args.settings.now.module) (codes ",\"patches\":") (decimal c.args.patches) _ _
-    c.in_ok-write_generations_key.ensures
+    c.in_ok-write_disk_keys.ensures
     (four_pieces _ _ _ _ _ _ _ _ _ c.in_ok-push_str.ensures.bytes
     (rw c.name.ensures at c.in_ok-push_str-2.ensures.bytes) c.in_ok-push_str-3.ensures.bytes
     c.in_ok-write.ensures.bytes)

@@ -1,9 +1,11 @@
-use Rattle.std.proofs.Common.{get_or, refl, subst, sym, ◌∙◌}
+use Rattle.std.proofs.Common.{get_or, subst, sym, ap, ◌∙◌}
+use Rattle.report_model.specs.Report.{Form}
+use Rattle.report_model.specs.Summary.{told_fault_json}
 use Rattle.patch_sets.specs.Closed.{IsClosed}
 use Rattle.crash_model.specs.Patches.{deps_of}
 use Rattle.crash_model.specs.declared.fault.FaultRow.{FaultRow}
 use Rattle.section_maker.specs.Maker.{Reported}
-use Rattle.report_sections.specs.Sections.{IsSection}
+use Rattle.report_sections.specs.Sections.{IsSection, section_of}
 use Rattle.report_sections.proofs.Firsts.{no_row, first_closed}
 use Rattle.report_json.proofs.Reports.{fault_more}
 use Rattle.report_json.proofs.report.write_each_fault.Goals as goal
@@ -26,8 +28,10 @@ loop-at-preserved g c =
     let is = subst (λ (m : Reported). IsSection m.detail m.base m.patches (get_or rows c.loop-at.at no_row).first
     told.0) before.maker told.1 in
     record {
-      told = fault_more maker.detail maker.base maker.patches rows c.loop-at.at c.loop-at.known no_row _ _ _ _ told.0
-          c.loop-at-test.true (before.known ∙ c.requires.known) before.told is refl told.2;
+      told = fault_more c.args.known.now maker.detail maker.base maker.patches rows c.loop-at.at no_row _ _ _ _ told.0
+          c.loop-at-test.true before.told is
+          (ap (λ (form : Form). told_fault_json form
+          (record { row = get_or rows c.loop-at.at no_row; first = section_of told.0 })) before.known) told.2;
       maker = wrote.maker ∙ before.maker;
       known = wrote.known ∙ before.known;
     }

@@ -1,6 +1,7 @@
 use Rattle.std.proofs.Common.{◌≡◌, ◌++◌, List, ℕ, map, string_bytes, ap, ◌∙◌}
 use Rattle.std.proofs.lemmas.List.{take_all}
 use Rattle.crash_model.specs.Lists.{join_of}
+use Rattle.report_model.specs.Parts.{Form}
 use Rattle.report_model.specs.Needs.{told_rule_json}
 use Rattle.report_sections.specs.ToldRules.{told_rule}
 use Rattle.report_sections.specs.declared.rules.ToldRule.{ToldRule}
@@ -14,7 +15,7 @@ loop-at-preserved g c =
     let comma = string_bytes c.write_comma.new.out in
     let rule = c.index-rules-at.result in
     let wrote : string_bytes c.push_rule.new.out ≡ comma ++ form rule = c.in_ok-push_rule.ensures.text
-    ∙ ap (λ (n : ℕ). comma ++ told_rule_json n (told_rule rule)) before.known in
+    ∙ ap (λ (n : Form). comma ++ told_rule_json n (told_rule rule)) before.known in
     record {
       text = taken_more form c.args.rules.now c.loop-at.at rule (string_bytes c.args.out.now)
           (string_bytes c.loop-at.out) (string_bytes c.push_rule.new.out) (form rule) c.loop-at-test.true before.text

@@ -6,6 +6,7 @@ use Rattle.crash_model.specs.Patches.{deps_of}
 use Rattle.report_sections.specs.Bodies.{AreClosed, detail_by, sets_of, TellsBody}
 use Rattle.report_sections.specs.ToldRules.{told_rule}
 use Rattle.report_sections.proofs.Pieces.{array_pieces}
+use Rattle.report_json.specs.JsonReport.{form_by}
 use Rattle.report_json.proofs.JoinedParts.{sections_none, sections_joined, sections_whole}
 use Rattle.report_json.proofs.report.write_early.Goals as goal
 
@@ -22,8 +23,8 @@ pub write_together-requires-clause-joined : goal.write_together-requires-clause-
 write_together-requires-clause-joined g c = λ _ _.
     let report = c.args.report.now in
     record {
-      none = sections_none (detail_by report) report.base.now report.traced.now.patches;
-      more = sections_joined (detail_by report) report.base.now report.traced.now.patches;
+      none = sections_none (form_by report) (detail_by report) report.base.now report.traced.now.patches;
+      more = sections_joined (form_by report) (detail_by report) report.base.now report.traced.now.patches;
     }
 
 pub returns-in_ok-push_str-in-Sets-2 : goal.returns-in_ok-push_str-in-Sets-2
@@ -34,7 +35,7 @@ returns-in_ok-push_str-in-Sets-2 g c =
       subst (λ b. TellsBody (detail_by report) report.base.now report.traced.now.patches b (whole.Sets wrote.sections))
           (sym c.in-Sets.is) (wrote.sections, wrote.are, refl),
       array_pieces _ _ _ _ (codes ",\"failing\":") _ c.in_ok-push_str-in-Sets.ensures.bytes
-          (sections_whole (detail_by report) report.base.now report.traced.now.patches _ _ _ wrote)
+          (sections_whole (form_by report) (detail_by report) report.base.now report.traced.now.patches _ _ _ wrote)
           c.in_ok-push_str-in-Sets-2.ensures.bytes,
     )
 

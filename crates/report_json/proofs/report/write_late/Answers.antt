@@ -1,4 +1,4 @@
-use Rattle.std.proofs.Common.{◌≡◌, ◌++◌, ℕ, length, map, codes, string_bytes, sym, subst, ap, ◌∙◌}
+use Rattle.std.proofs.Common.{◌≡◌, ◌++◌, map, codes, string_bytes, sym, subst, ap, ◌∙◌}
 use Rattle.std.proofs.lemmas.Simd.{map-map}
 use Rattle.crash_model.specs.Lists.{join_of}
 use Rattle.report_model.specs.Needs.{told_rule_json}
@@ -7,6 +7,7 @@ use Rattle.report_model.specs.Whole.{late_json}
 use Rattle.report_sections.specs.Bodies.{detail_by, TellsBody}
 use Rattle.report_sections.specs.ToldRules.{told_rule}
 use Rattle.report_sections.proofs.Pieces.{array_pieces}
+use Rattle.report_json.specs.JsonReport.{form_by}
 use Rattle.report_json.proofs.report.write_late.Goals as goal
 
 pub returns-in_ok-push_str-in-Rules-2 : goal.returns-in_ok-push_str-in-Rules-2
@@ -14,14 +15,11 @@ returns-in_ok-push_str-in-Rules-2 g c = λ body tells.
     let report = c.args.report.now in
     let patches = report.traced.now.patches in
     let rules = c.in-Rules.rules.now in
-    let number : c.len.result ≡ length patches = cc in
     let same : body ≡ whole.Rules (map told_rule rules) =
     subst (λ b. TellsBody (detail_by report) report.base.now patches b body) c.in-Rules.is tells in
     let items = c.in_ok-write_rules-in-Rules.ensures
-    ∙ (ap (λ (k : ℕ). string_bytes c.push_str.new.self ++ join_of 44
-    (map (λ rule. told_rule_json k (told_rule rule)) rules)) number
     ∙ ap (λ ts. string_bytes c.push_str.new.self ++ join_of 44 ts)
-    (sym (map-map (told_rule_json (length patches)) told_rule rules))) in
+    (sym (map-map (told_rule_json (form_by report)) told_rule rules)) in
     array_pieces _ _ _ _ (codes ",\"rules\":") _ c.in_ok-push_str-in-Rules.ensures.bytes items
     c.in_ok-push_str-in-Rules-2.ensures.bytes
-    ∙ ap (λ (b : whole.Body). string_bytes c.args.out.now ++ late_json (length patches) report.failing b) (sym same)
+    ∙ ap (λ (b : whole.Body). string_bytes c.args.out.now ++ late_json (form_by report) report.failing b) (sym same)

@@ -7,7 +7,7 @@ use Rattle.json_values.proofs.known.KnownTexts.push_crash.Goals as goal
 
 pub returns-clause-text : goal.returns-clause-text
 returns-clause-text g c =
-    let patches = c.args.self.now in
+    let patches = c.args.self.now.patches in
     let fault = c.args.fault in
     let s = section_of c.args.section.now in
     on_ok_weaker {P = string_bytes c.push_leading.new.out ≡ string_bytes c.push_replay.new.out

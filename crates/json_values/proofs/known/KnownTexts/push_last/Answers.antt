@@ -8,7 +8,7 @@ use Rattle.json_values.proofs.known.KnownTexts.push_last.Goals as goal
 
 pub returns-clause-text : goal.returns-clause-text
 returns-clause-text g c =
-    let patches = c.args.self.now in
+    let patches = c.args.self.now.patches in
     let writes = ap (λ (ws : List BlockWrite). string_bytes c.push_str.new.self
     ++ join_of 44 (map (write_json patches) ws)) c.deref.ensures.value in
     last_pieces patches (section_of c.args.section.now) (string_bytes c.args.out.now) _ _ _

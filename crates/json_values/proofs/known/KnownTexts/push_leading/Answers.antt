@@ -8,7 +8,7 @@ use Rattle.json_values.proofs.known.KnownTexts.push_leading.Goals as goal
 
 pub returns-clause-text : goal.returns-clause-text
 returns-clause-text g c =
-    let patches = c.args.self.now in
+    let patches = c.args.self.now.patches in
     let s = section_of c.args.section.now in
     let ids = ap (λ (n : ℕ). string_bytes c.push_str.new.self ++ ids_json n s.set) c.patches.ensures in
     on_ok_weaker {P = string_bytes c.push_last.new.out ≡ string_bytes c.push_shows.new.out ++ last_json patches s}

@@ -1,28 +1,27 @@
-use Rattle.std.proofs.Common.{◌≡◌, ◌++◌, ℕ, List, map, string_bytes, ap, ◌∙◌}
+use Rattle.std.proofs.Common.{◌≡◌, ◌++◌, ℕ, List, string_bytes, ap, ◌∙◌}
 use Rattle.std.proofs.lemmas.Result.{on_ok_weaker}
-use Rattle.crash_model.specs.Lists.{join_of}
-use Rattle.report_model.specs.Report.{ids_json, section_json}
+use Rattle.report_model.specs.FaultKeys.{faults_head}
+use Rattle.report_model.specs.Report.{Form, ids_json, section_json}
 use Rattle.crash_model.specs.declared.fault.Fault.{Fault}
 use Rattle.report_sections.specs.Sections.{section_of}
-use Rattle.json_values.specs.Known.{fault_json}
 use Rattle.json_values.specs.Items.{last_json}
 use Rattle.json_values.proofs.SectionPieces.{section_pieces}
 use Rattle.json_values.proofs.known.KnownTexts.push_section.Goals as goal
 
 pub returns-clause-text : goal.returns-clause-text
 returns-clause-text g c =
-    let patches = c.args.self.now in
+    let form = c.args.self.now in
     let s = section_of c.args.section.now in
-    let faults = ap (λ (fs : List Fault). string_bytes c.push_str.new.self ++ join_of 44 (map fault_json fs))
+    let head = ap (λ (fs : List Fault). string_bytes c.args.out.now ++ faults_head form.numbers fs)
     c.deref.ensures.value in
-    let same : c.push_faults.new.self ≡ patches = c.in_ok-push_faults.ensures.kept in
-    let ids = ap (λ (n : ℕ). string_bytes c.push_str-3.new.self ++ ids_json n s.set) (c.patches.ensures ∙ same) in
+    let same = ap (λ (f : Form). f.patches) c.in_ok-push_faults_head.ensures.kept in
+    let ids = ap (λ (n : ℕ). string_bytes c.push_str.new.self ++ ids_json n s.set) (c.patches.ensures ∙ same) in
     let last = ap (λ (n : ℕ). string_bytes c.push_all_shows.new.out ++ last_json n s) same in
     on_ok_weaker {P = string_bytes c.push_last.new.out ≡ string_bytes c.push_all_shows.new.out
-    ++ last_json c.push_faults.new.self s}
-    {Q = string_bytes c.push_last.new.out ≡ string_bytes c.args.out.now ++ section_json patches s}
+    ++ last_json c.push_faults_head.new.self.patches s}
+    {Q = string_bytes c.push_last.new.out ≡ string_bytes c.args.out.now ++ section_json form s}
     c.push_last.result
-    (λ wrote. section_pieces patches s (string_bytes c.args.out.now) _ _ _ _ _ _ _ _ c.in_ok-push_str.ensures.bytes
-    (c.in_ok-push_faults.ensures.text ∙ faults) c.in_ok-push_str-2.ensures.bytes c.in_ok-push_replay.ensures
-    c.in_ok-push_str-3.ensures.bytes (c.in_ok-push_set.ensures ∙ ids) c.in_ok-push_all_shows.ensures (wrote ∙ last))
+    (λ wrote. section_pieces form s (string_bytes c.args.out.now) _ _ _ _ _ _
+    (c.in_ok-push_faults_head.ensures.text ∙ head) c.in_ok-push_replay.ensures
+    c.in_ok-push_str.ensures.bytes (c.in_ok-push_set.ensures ∙ ids) c.in_ok-push_all_shows.ensures (wrote ∙ last))
     c.push_last.ensures.text

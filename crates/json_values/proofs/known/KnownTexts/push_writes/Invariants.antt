@@ -6,6 +6,6 @@ use Rattle.json_values.proofs.known.KnownTexts.push_writes.Given as goal
 abbrev pub invariant-loop-at : goal.invariant-loop-at
 invariant-loop-at g l = record {
   text : string_bytes l.out ≡ string_bytes l.initial.out
-      ++ join_of 44 (map (write_json l.initial.self) (take l.at l.writes));
+      ++ join_of 44 (map (write_json l.initial.self.patches) (take l.at l.writes));
   kept : l.self ≡ l.initial.self;
 }

@@ -27,7 +27,7 @@ loop-at-preserved g c =
     told.0) before.maker told.1 in
     record {
       told = object_more maker.detail maker.base maker.patches faults c.loop-at.at no_fault _ _ _ told.0
-          c.loop-at-test.true is c.loop-at.known (before.known ∙ c.requires.known) before.told told.2;
+          c.loop-at-test.true is c.loop-at.known c.args.known.now before.known before.told told.2;
       maker = wrote.maker ∙ before.maker;
       known = wrote.known ∙ before.known;
     }

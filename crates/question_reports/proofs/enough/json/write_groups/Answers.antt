@@ -1,4 +1,5 @@
 use Rattle.std.proofs.Common.{◌≡◌, List, ℕ, ◌++◌, string_bytes, ap, ◌∙◌}
+use Rattle.report_model.specs.Report.{Form}
 use Rattle.question_model.specs.EnoughReport.{group_json}
 use Rattle.json_values.proofs.Commas.{taken_more}
 use Rattle.question_reports.specs.Chosen.{choices_of}
@@ -15,7 +16,7 @@ loop-at-preserved g c =
     let text = form c.index-groups-at.result in
     let written : string_bytes c.write_group.new.out ≡ string_bytes c.write_comma.new.out ++ text =
     c.in_ok-write_group.ensures.text
-    ∙ ap (λ (k : ℕ). string_bytes c.write_comma.new.out ++ group_json choices k (told_group c.index-groups-at.result))
+    ∙ ap (λ (k : Form). string_bytes c.write_comma.new.out ++ group_json choices k (told_group c.index-groups-at.result))
     before.known in
     record {
       written = taken_more form c.args.groups.now c.loop-at.at c.index-groups-at.result (string_bytes c.args.out.now)

@@ -1,22 +1,25 @@
 use Rattle.std.proofs.Common.{◌++◌, List, ℕ, map, string_bytes, ap, ◌∙◌}
 use Rattle.crash_model.specs.Lists.{join_of}
-use Rattle.report_model.specs.Report.{json_string, write_json}
+use Rattle.report_model.specs.Report.{Form, json_string, write_json}
 use Rattle.patch_sets.specs.declared.write.BlockWrite.{BlockWrite}
 use Rattle.question_model.specs.SearchReport.{step_text}
 use Rattle.question_model.specs.Workloads.{steps_at}
+use Rattle.question_reports.specs.SearchFindings.{kind_head}
 use Rattle.question_reports.proofs.SearchJsonPieces.{kind_pieces}
 use Rattle.question_reports.proofs.search.json.write_kind.Goals as goal
 
 pub returns : goal.returns
 returns g c =
     let pool = c.args.pool.now in
-    let known = c.write_head.new.known in
+    let known = c.write_head.new.known.patches in
+    let made = c.in_ok-known.ensures in
+    let head = ap (λ (f : Form). string_bytes c.args.out.now ++ kind_head f.numbers c.args.crash.now) made in
     let steps = ap (λ (places : List ℕ). string_bytes c.push_str-2.new.self
     ++ join_of 44 (map (λ step. json_string (step_text step)) (steps_at pool places))) c.as_slice.ensures.value in
     let writes = ap (λ (ws : List BlockWrite). string_bytes c.write.new.self ++ join_of 44 (map (write_json known) ws))
     c.deref.ensures.value in
-    kind_pieces pool c.args.crash.now known (string_bytes c.args.out.now) _ _ _ _ _ _ _ _ _
-    (c.in_ok-write_head.ensures.known ∙ c.in_ok-known.ensures) c.in_ok-write_head.ensures.text
+    kind_pieces c.args.numbers pool c.args.crash.now known (string_bytes c.args.out.now) _ _ _ _ _ _ _ _ _
+    (ap (λ (f : Form). f.patches) (c.in_ok-write_head.ensures.known ∙ made)) (c.in_ok-write_head.ensures.text ∙ head)
     c.in_ok-push_str.ensures.bytes c.in_ok-push_set.ensures c.in_ok-push_all_shows.ensures
     c.in_ok-push_str-2.ensures.bytes
     (c.in_ok-write_steps.ensures ∙ steps) c.in_ok-write.ensures.bytes (c.in_ok-push_writes.ensures.text ∙ writes)

@@ -7,7 +7,7 @@ use Rattle.question_reports.proofs.search.json.write_kinds.Goals as goal
 
 pub loop-at-preserved : goal.loop-at-preserved
 loop-at-preserved g c =
-    let form : KindCrash g.row.A.Denot → List ℕ = λ crash. kind_json (told_kind c.args.pool.now crash) in
+    let form : KindCrash g.row.A.Denot → List ℕ = λ crash. kind_json c.args.numbers (told_kind c.args.pool.now crash) in
     let text = form c.index-kinds-at.result in
     taken_more form c.args.kinds.now c.loop-at.at c.index-kinds-at.result (string_bytes c.args.out.now)
     (string_bytes c.loop-at.out) (string_bytes c.write_kind.new.out) text c.loop-at-test.true c.loop-at.invariant
