@@ -10,7 +10,7 @@ use Rattle.patch_sets.proofs.Ids.{has_true, has_false}
 use Rattle.crash_model.specs.Checker.{Demands}
 use Rattle.crash_model.specs.Disk.{Disk}
 use Rattle.crash_model.specs.Lists.{some_below}
-use Rattle.crash_model.specs.Trace.{Tracing}
+use Rattle.crash_model.specs.Tracing.{Tracing}
 use Rattle.crash_model.specs.declared.rules.Rule.{Rule}
 use Rattle.question_model.specs.Enough as model
 use Rattle.question_model.specs.Enough.{rules_in, rules_but, AreEnough}

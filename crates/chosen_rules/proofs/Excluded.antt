@@ -11,7 +11,9 @@ use Rattle.crash_model.specs.Disk.{Disk}
 use Rattle.crash_model.specs.Patches.{Place, places_of, deps_of, image_from, overlap}
 use Rattle.crash_model.specs.Replay.{image_after_replay}
 use Rattle.crash_model.specs.Checker.{Demands, IsCleanUnder, IsFailingUnder}
-use Rattle.crash_model.specs.Trace.{Emitted, Tracing, IsGraphOf, applies, depends, shares_block, groups_depend, waits_for}
+use Rattle.crash_model.specs.Trace.{Emitted, IsGraphOf, applies, depends, groups_depend, waits_for}
+use Rattle.crash_model.specs.Tracing.{Tracing}
+use Rattle.crash_model.specs.WholeBlocks.{shares_block}
 use Rattle.crash_model.specs.declared.patches.Patch.{Patch}
 use Rattle.crash_model.specs.declared.rules.Rule.{Rule}
 use Rattle.rule_laws.proofs.Closed.{get_some, length-deps}

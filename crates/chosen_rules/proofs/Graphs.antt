@@ -9,7 +9,8 @@ use Rattle.patch_sets.specs.Sets.{Has, with_id}
 use Rattle.patch_sets.proofs.Bits.{eq_or_not, none_in_empty, in_with_same, in_with_old, in_with_cases}
 use Rattle.crash_model.specs.Disk.{Disk, with_bytes}
 use Rattle.crash_model.specs.Patches.{Place, place, places_of, deps_of, AreUndo}
-use Rattle.crash_model.specs.Trace.{Emitted, Tracing, IsGraphOf, depends}
+use Rattle.crash_model.specs.Trace.{Emitted, IsGraphOf, depends}
+use Rattle.crash_model.specs.Tracing.{Tracing}
 use Rattle.crash_model.specs.declared.patches.Patch.{Patch}
 use Rattle.crash_model.specs.declared.rules.Rule.{Rule}
 

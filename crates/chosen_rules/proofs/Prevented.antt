@@ -11,10 +11,11 @@ use Rattle.patch_sets.proofs.Lists.{in_front, in_none}
 use Rattle.crash_model.specs.ChosenWaits.{tracing_waiting, demands_waiting, emitted_waiting, forced_before}
 use Rattle.crash_model.specs.Checker.{Demands, IsFailingUnder, faults_under}
 use Rattle.crash_model.specs.Disk.{Disk}
-use Rattle.crash_model.specs.FaultRows.{HasFault}
+use Rattle.crash_model.specs.FirstSets.{HasFault}
 use Rattle.crash_model.specs.Patches.{Place, deps_of, image_from, image_of}
 use Rattle.crash_model.specs.Replay.{image_after_replay}
-use Rattle.crash_model.specs.Trace.{Emitted, Tracing, IsGraphOf}
+use Rattle.crash_model.specs.Trace.{Emitted, IsGraphOf}
+use Rattle.crash_model.specs.Tracing.{Tracing}
 use Rattle.crash_model.specs.Waiting.{Wait}
 use Rattle.crash_model.specs.declared.fault.Fault.{Fault}
 use Rattle.crash_model.specs.declared.fault.Fault.TheVariants.{BrokenPromise}

@@ -20,7 +20,8 @@ use Rattle.crash_model.specs.Faults.{is_marked_free, is_wild, entries_to}
 use Rattle.crash_model.specs.Layout.{pointer_of, target_of, links_of}
 use Rattle.crash_model.specs.Lists.{when}
 use Rattle.crash_model.specs.Promises.{Promise, has_all, has_none, is_allowed, is_spared, is_broken, paths_show}
-use Rattle.crash_model.specs.Promises.{breaks_line, lines_end, broken_lines}
+use Rattle.crash_model.specs.Promises.{breaks_line}
+use Rattle.crash_model.specs.BrokenLines.{lines_end, broken_lines}
 use Rattle.crash_model.specs.Strict.{strict_faults, is_lost, lacks_block}
 use Rattle.crash_model.specs.Waiting.{Wait}
 use Rattle.crash_model.specs.declared.fault.Fault.{Fault}

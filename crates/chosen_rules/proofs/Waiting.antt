@@ -12,7 +12,9 @@ use Rattle.patch_sets.proofs.Ids.{has_true, from_has}
 use Rattle.crash_model.specs.ChosenWaits.{emitted_waiting, tracing_waiting, forced_before}
 use Rattle.crash_model.specs.Disk.{Disk}
 use Rattle.crash_model.specs.Patches.{deps_of, overlap}
-use Rattle.crash_model.specs.Trace.{Emitted, Tracing, IsGraphOf, applies, shares_block, groups_depend}
+use Rattle.crash_model.specs.Trace.{Emitted, IsGraphOf, applies, groups_depend}
+use Rattle.crash_model.specs.Tracing.{Tracing}
+use Rattle.crash_model.specs.WholeBlocks.{shares_block}
 use Rattle.crash_model.specs.Waiting.{Wait}
 use Rattle.crash_model.specs.declared.patches.Patch.{Patch}
 use Rattle.crash_model.specs.declared.rules.Rule.{Rule}

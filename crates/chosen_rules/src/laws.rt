@@ -8,8 +8,9 @@ ghost use Rattle.crash_model.specs.ChosenWaits.{tracing_waiting, demands_waiting
 ghost use Rattle.crash_model.specs.Disk.{Disk};
 ghost use Rattle.crash_model.specs.Patches.{deps_of};
 ghost use Rattle.crash_model.specs.Checker.{Demands, IsFailingUnder};
-ghost use Rattle.crash_model.specs.FaultRows.{HasFault};
-ghost use Rattle.crash_model.specs.Trace.{Tracing, IsGraphOf};
+ghost use Rattle.crash_model.specs.FirstSets.{HasFault};
+ghost use Rattle.crash_model.specs.Trace.{IsGraphOf};
+ghost use Rattle.crash_model.specs.Tracing.{Tracing};
 ghost use Rattle.crash_model.specs.declared.fault.Fault.{Fault};
 ghost use Rattle.crash_model.specs.declared.patches.Patch.{Patch};
 ghost use Rattle.crash_model.specs.declared.rules.Rule.{Rule};

@@ -6,7 +6,8 @@ use Rattle.std.specs.Prelude.{◌||◌}
 use Rattle.std.specs.Borrow.{Bor}
 use Rattle.std.proofs.lemmas.List.Elements.{All-push}
 use Rattle.std.proofs.lemmas.List.Quantifiers.{all_pairs_push}
-use Rattle.crash_model.specs.Rules.{rule_text, has_rule, is_same_rule}
+use Rattle.crash_model.specs.RuleTexts.{rule_text}
+use Rattle.crash_model.specs.ChosenRules.{has_rule, is_same_rule}
 use Rattle.crash_model.specs.declared.rules.Rule.{Rule}
 use Rattle.command_line.specs.Given.{AreGiven}
 use Rattle.command_line.specs.GivenBy.{IsGivenBy}

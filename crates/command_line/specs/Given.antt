@@ -2,7 +2,9 @@
 use Rattle.std.specs.Prelude.{◌≡◌, ℕ, ◌≤◌, List, true, false, length}
 use Rattle.std.specs.List.{All, AllPairs}
 use Rattle.std.specs.Borrow.{Bor}
-use Rattle.crash_model.specs.Rules.{rule_text, rules_of, has_rule, is_same_rule}
+use Rattle.crash_model.specs.Rules.{rules_of}
+use Rattle.crash_model.specs.RuleTexts.{rule_text}
+use Rattle.crash_model.specs.ChosenRules.{has_rule, is_same_rule}
 use Rattle.crash_model.specs.declared.rules.Rule.{Rule}
 use Rattle.crash_model.specs.declared.settings.Settings.{Settings}
 use Rattle.command_line.specs.GivenBy.{IsGivenBy}

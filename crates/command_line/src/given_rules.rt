@@ -1,7 +1,8 @@
 //! The rules to take out of an ordering and to put in.
 
 ghost use Rattle.std.specs.Prelude.{◌≡◌, ◌<◌, false, IfOk, OnOk, length};
-ghost use Rattle.crash_model.specs.Rules.{rule_text, has_rule};
+ghost use Rattle.crash_model.specs.RuleTexts.{rule_text};
+ghost use Rattle.crash_model.specs.ChosenRules.{has_rule};
 ghost use Rattle.command_line.specs.Given.{AreGiven, AreAllIn, AreNoneIn};
 ghost use Rattle.command_line.specs.GivenBy.{IsGivenBy};
 

@@ -8,7 +8,7 @@ use Rattle.crash_model.specs.Atomic.{is_half_done, atomic_faults, ShowsSome}
 use Rattle.crash_model.specs.Checker.{Demands, faults_keeping, faults_showing, promised, counted_among}
 use Rattle.crash_model.specs.Checker.{IsCleanKeeping, IsCleanUnder}
 use Rattle.crash_model.specs.FaultKinds.{fault_number}
-use Rattle.crash_model.specs.Promises.{broken_lines}
+use Rattle.crash_model.specs.BrokenLines.{broken_lines}
 use Rattle.crash_model.specs.declared.fault.Fault.{Fault}
 use Rattle.crash_model.specs.declared.fault.Fault.TheVariants.{HalfDone}
 use Rattle.crash_model.proofs.Clean.{nil_left, nil_right, nil_both}

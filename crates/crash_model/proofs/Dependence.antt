@@ -5,7 +5,8 @@ use Rattle.std.proofs.lemmas.List.Elements.{All-contains}
 use Rattle.std.proofs.lemmas.List.Folds.{Any-from_list_any, list_any_at}
 use Rattle.crash_model.specs.Patches.{overlap}
 use Rattle.crash_model.specs.RuleFacts.{AreAmong}
-use Rattle.crash_model.specs.Trace.{Emitted, applies, depends, shares_block, groups_depend, waits_for}
+use Rattle.crash_model.specs.Trace.{Emitted, applies, depends, groups_depend, waits_for}
+use Rattle.crash_model.specs.WholeBlocks.{shares_block}
 use Rattle.crash_model.specs.declared.rules.Rule.{Rule}
 
 any-among : (p : Rule → Bool) (some all : List Rule) → AreAmong some all → list_any p some ≡ true

@@ -9,7 +9,7 @@ use Rattle.std.proofs.lemmas.List.Concat.{flat_map-append}
 use Rattle.std.proofs.lemmas.Bool.Decides.{nat_tests}
 use Rattle.crash_model.specs.Names.{is_name_byte, IsName}
 use Rattle.crash_model.specs.FirstNames.{IsNothingOrSlash, HasFirstName}
-use Rattle.crash_model.specs.Script.{IsPath, IsPathWord, path_text}
+use Rattle.crash_model.specs.PathTexts.{IsPath, IsPathWord, path_text}
 use Rattle.crash_model.specs.declared.names.Path.{Path}
 use Rattle.crash_model.specs.declared.names.Name.{Name}
 use Rattle.arrayvec.specs.ArrayVec.{ArrayVec}

@@ -2,7 +2,8 @@
 use Rattle.std.proofs.Common.{◌≡◌, List, [], ◌∷◌, ◌++◌, refl, sym, ap, ◌∙◌, subst}
 use Rattle.std.proofs.lemmas.List.{append-nil}
 use Rattle.std.proofs.lemmas.List.Elements.{Contains-append_left, All-contains_itself}
-use Rattle.crash_model.specs.Rules.{rules_of, rules_in_first, kept_rules, rules_put_in, rules_under}
+use Rattle.crash_model.specs.Rules.{rules_of}
+use Rattle.crash_model.specs.ChosenRules.{rules_in_first, kept_rules, rules_put_in, rules_under}
 use Rattle.crash_model.specs.RuleFacts.{AreAmong}
 use Rattle.crash_model.specs.declared.rules.Rule.{Rule}
 use Rattle.crash_model.specs.declared.modules.Module.{Module}

@@ -2,7 +2,7 @@
 use Rattle.std.proofs.Common.{◌≡◌, ℕ, List, [], ◌∷◌, ◌++◌, sym, ap, ◌∙◌, append-nil, map, refl}
 use Rattle.std.specs.List.{flat_map}
 use Rattle.crash_model.specs.Lists.{join_of}
-use Rattle.crash_model.specs.Script.{path_text}
+use Rattle.crash_model.specs.PathTexts.{path_text}
 use Rattle.crash_model.specs.declared.names.Path.{Path}
 
 -- a word and others, each of these after a space

@@ -6,7 +6,7 @@ use mathlib.Core.Bool.{beq}
 use Rattle.crash_model.specs.declared.disk_bytes.TheConstants.{INODES, SLOTS}
 use Rattle.crash_model.specs.Disk.{Disk, block_of}
 use Rattle.crash_model.specs.Layout.{pointer_of, is_pointer}
-use Rattle.crash_model.specs.Strict.{disk_after}
+use Rattle.crash_model.specs.StepDisks.{disk_after}
 use Rattle.crash_model.specs.declared.fault.Fault.{Fault}
 use Rattle.crash_model.specs.declared.fault.Fault.TheVariants.{HalfDone}
 use Rattle.crash_model.specs.declared.steps.Step.{Step}

@@ -1,6 +1,5 @@
 -- The checker: what is demanded of an image, and all faults that it has.
-use Rattle.std.specs.Prelude.{◌≡◌, ℕ, List, [], ◌++◌, filter, Bool, Option, Some, None}
-use Rattle.std.specs.List.{list_any}
+use Rattle.std.specs.Prelude.{◌≡◌, ℕ, List, [], ◌++◌, filter, Bool, Option, Some, None, true, false}
 use Rattle.patch_sets.specs.Sets.{has}
 use Rattle.patch_sets.specs.Closed.{IsClosed}
 use Rattle.crash_model.specs.Disk.{Disk}
@@ -8,10 +7,11 @@ use Rattle.crash_model.specs.Lists.{when}
 use Rattle.crash_model.specs.Patches.{deps_of, image_of}
 use Rattle.crash_model.specs.Replay.{image_after_replay}
 use Rattle.crash_model.specs.Faults.{faults}
-use Rattle.crash_model.specs.Strict.{IsToldKept, strict_faults}
+use Rattle.crash_model.specs.Strict.{strict_faults, IsKept}
 use Rattle.crash_model.specs.Atomic.{disks_of, atomic_faults}
 use Rattle.crash_model.specs.FaultKinds.{fault_number}
-use Rattle.crash_model.specs.Promises.{Promise, waits_or_promises, promises_of, broken_lines}
+use Rattle.crash_model.specs.Promises.{Promise, promises_of}
+use Rattle.crash_model.specs.BrokenLines.{broken_lines}
 use Rattle.crash_model.specs.declared.fault.Fault.{Fault}
 use Rattle.crash_model.specs.declared.modules.Module.{Module}
 use Rattle.crash_model.specs.declared.patches.Patch.{Patch}
@@ -37,9 +37,10 @@ pub record Asked : Type 0 where
   pub tells : Bool
   pub kind : Module
 
--- a line of the script waits or promises
-abbrev pub has_promises : List Step → Bool
-has_promises steps = list_any (λ x. waits_or_promises x.act) steps
+-- which inodes are demanded: none, or of a strict checker those that the script keeps
+abbrev pub IsToldKept : Bool → Disk → List Step → Option ℕ → Type 0
+IsToldKept strict base steps None = strict ≡ false
+IsToldKept strict base steps (Some kept) = (strict ≡ true) × IsKept base steps kept
 
 -- what a script demands of the sets that a crash leaves of it
 pub record AreDemands (asked : Asked) (base : Disk) (steps : List Step) (demands : Demands) : Type 0 where

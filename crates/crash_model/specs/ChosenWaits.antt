@@ -4,7 +4,7 @@ use Rattle.patch_sets.specs.Sets.{has}
 use Rattle.crash_model.specs.Checker.{Demands}
 use Rattle.crash_model.specs.Emitted.{Emitted}
 use Rattle.crash_model.specs.Promises.{Promise}
-use Rattle.crash_model.specs.Trace.{Tracing}
+use Rattle.crash_model.specs.Tracing.{Tracing}
 use Rattle.crash_model.specs.Waiting.{Wait}
 use Rattle.crash_model.specs.declared.steps.Step.{Step}
 use Rattle.crash_model.specs.declared.steps.Act.{Act}

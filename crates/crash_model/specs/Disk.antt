@@ -54,11 +54,3 @@ empty_disk blocks journal =
     1 0 (replicate (5 + journal) 1))
     INODE_BLOCK 0 (DIRECTORY_KIND ∷ 1 ∷ 0 ∷ 0 ∷ (JOURNAL_AT + journal) ∷ []))
     (JOURNAL_AT + journal) 0 (DIRECTORY_MARK ∷ 0 ∷ [])
-
--- the same bytes on a disk whose inodes have generations, or none
-abbrev pub with_generations : Bool → Disk → Disk
-with_generations generations d = record d { generations = generations }
-
--- a new disk with generations, or without
-abbrev pub new_disk : ℕ → ℕ → Bool → Disk
-new_disk blocks journal generations = with_generations generations (empty_disk blocks journal)

@@ -1,12 +1,12 @@
 -- What the bytes of a disk mean. Inodes are in blocks 2 and 3, 16 bytes each, so inode i begins at byte 256 + 16 * i.
-use Rattle.std.specs.Prelude.{ℕ, ◌+◌, ◌-◌, ◌*◌, ◌/◌, ◌%◌, List, take, drop, slice_index, Bool, ◌&&◌, ◌==◌, not}
-use Rattle.std.specs.Prelude.{nat_le, nat_lt, if◌then◌else◌}
+use Rattle.std.specs.Prelude.{ℕ, ◌+◌, ◌-◌, ◌*◌, ◌/◌, ◌%◌, List, take, drop, slice_index, Bool, ◌&&◌, ◌==◌, not, nat_le}
+use Rattle.std.specs.Prelude.{nat_lt}
 use Rattle.crash_model.specs.declared.disk_bytes.TheConstants.{BLOCK_SIZE, MAP_AT, INODE_BLOCK, JOURNAL_AT, INODES}
 use Rattle.crash_model.specs.declared.disk_bytes.TheConstants.{INODES_IN_BLOCK, INODE_SIZE, KINDS_AT, LINKS_AT}
-use Rattle.crash_model.specs.declared.disk_bytes.TheConstants.{GENERATIONS_AT}
 use Rattle.crash_model.specs.declared.disk_bytes.TheConstants.{POINTERS_AT, ENTRIES_FROM, ENTRY_SIZE, SPELLING_SIZE}
 use Rattle.crash_model.specs.declared.disk_bytes.TheConstants.{FREE_KIND, DIRECTORY_KIND, DIRECTORY_MARK}
 use Rattle.crash_model.specs.Disk.{Disk, byte}
+use Rattle.crash_model.specs.Generations.{generation_of, mark_generation}
 
 -- 0 free, 1 file, 2 directory
 abbrev pub kind_of : Disk → ℕ → ℕ
@@ -18,13 +18,6 @@ links_of d inode = slice_index d.bytes (LINKS_AT + INODE_SIZE * inode)
 -- the block in a slot, or 0
 abbrev pub pointer_of : Disk → ℕ → ℕ → ℕ
 pointer_of d inode slot = slice_index d.bytes (POINTERS_AT + INODE_SIZE * inode + slot)
-
--- the generations of an inode and of the mark of a block; 0 on a disk without generations
-unfoldable pub generation_of : Disk → ℕ → ℕ
-generation_of d inode = if d.generations then slice_index d.bytes (GENERATIONS_AT + INODE_SIZE * inode) else 0
-
-unfoldable pub mark_generation : Disk → ℕ → ℕ
-mark_generation d block = if d.generations then byte d block 2 else 0
 
 -- a block's mark names the inode, and is of its generation
 abbrev pub is_owned : Disk → ℕ → ℕ → Bool

@@ -1,5 +1,5 @@
 -- What each operation changes, and when it is refused.
-use Rattle.std.specs.Prelude.{ℕ, ◌+◌, ◌-◌, ◌*◌, ◌/◌, ◌%◌, List, [], ◌∷◌, ◌++◌, length, replicate, Bool, ◌&&◌, ◌==◌, not}
+use Rattle.std.specs.Prelude.{ℕ, ◌+◌, ◌-◌, ◌*◌, ◌%◌, List, [], ◌∷◌, ◌++◌, length, replicate, Bool, ◌&&◌, ◌==◌, not}
 use Rattle.std.specs.Prelude.{nat_le, nat_lt, if◌then◌else◌, Option, Some, None, is_some, option_to_list, Result, Ok}
 use Rattle.std.specs.Prelude.{Err, bytes_eq, false, slice_index}
 use Rattle.crash_model.specs.declared.disk_bytes.TheConstants.{INODES, INODE_SIZE, POINTERS_FROM, SLOTS, MOST_LINKS}
@@ -10,7 +10,7 @@ use Rattle.crash_model.specs.Lists.{first_below, some_below, when}
 use Rattle.crash_model.specs.Disk.{Disk, byte, with_bytes}
 use Rattle.crash_model.specs.Layout.{kind_of, links_of, pointer_of, map_of, is_live, is_data, counts, entry_of}
 use Rattle.crash_model.specs.Layout.{is_entry, target_of, spelling_of, inode_block, inode_offset, entry_offset}
-use Rattle.crash_model.specs.Layout.{generation_of}
+use Rattle.crash_model.specs.Generations.{generation_of, next_generation}
 use Rattle.crash_model.specs.Slots.{slot_number}
 use Rattle.crash_model.specs.declared.operations.Op.{Op}
 use Rattle.crash_model.specs.declared.names.Path.{Path}
@@ -117,10 +117,6 @@ at_inode role inode from new = change role (inode_block inode) (inode_offset ino
 -- it keeps its generation
 abbrev pub inode_init : Disk → ℕ → ℕ → Change
 inode_init d inode kind = at_inode InodeInit inode 0 (kind ∷ 1 ∷ generation_of d inode ∷ replicate 13 0)
-
--- the generation after that of an inode; 0 on a disk without generations
-unfoldable pub next_generation : Disk → ℕ → ℕ
-next_generation d inode = if d.generations then (generation_of d inode + 1) % 256 else 0
 
 abbrev pub inode_free : Disk → ℕ → Change
 inode_free d inode = at_inode InodeFree inode 0 (0 ∷ 0 ∷ next_generation d inode ∷ replicate 13 0)
@@ -260,8 +256,3 @@ plan_of d (Replace old new) =
 abbrev pub with_changes : Disk → List Change → Disk
 with_changes d [] = d
 with_changes d (c ∷ cs) = with_changes (with_bytes d c.block c.offset c.new.items) cs
-
--- the same for an answer: the disk as it was if it is a refusal
-abbrev pub with_plan : Disk → Result (List Change) FsFault → Disk
-with_plan d (Err e) = d
-with_plan d (Ok cs) = with_changes d cs

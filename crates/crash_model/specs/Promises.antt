@@ -1,16 +1,17 @@
 -- What lines of a script promise: what a crash leaves of their paths.
-use Rattle.std.specs.Prelude.{ℕ, zero, suc, ◌+◌, ◌^◌, List, [], ◌∷◌, ◌++◌, length, map, take, drop, Bool, true, false, ◌&&◌, ◌||◌}
-use Rattle.std.specs.Prelude.{◌==◌, not, nat_le, if◌then◌else◌, Option, Some, None, is_some, option_to_list, Ok, Err}
-use Rattle.std.specs.Prelude.{bit_or, bit_and, max}
+use Rattle.std.specs.Prelude.{ℕ, zero, suc, ◌+◌, ◌^◌, List, [], ◌∷◌, ◌++◌, length, map, take, drop, Bool, true, false}
+use Rattle.std.specs.Prelude.{◌&&◌, ◌||◌, ◌==◌, not, nat_le, if◌then◌else◌, Option, Some, None, is_some, option_to_list}
+use Rattle.std.specs.Prelude.{Ok, Err, bit_or, bit_and}
 use Rattle.std.specs.List.{range_with_len, list_any}
 use Rattle.crash_model.specs.declared.disk_bytes.TheConstants.{POINTERS_FROM, SLOTS, ENTRY_SIZE, SHOWN_BYTES}
 use Rattle.patch_sets.specs.Sets.{with_id}
 use Rattle.crash_model.specs.Disk.{Disk}
 use Rattle.crash_model.specs.Layout.{pointer_of, entry_offset, target_of}
-use Rattle.crash_model.specs.Lists.{some_below, when}
+use Rattle.crash_model.specs.Lists.{when}
 use Rattle.crash_model.specs.Plan.{entry_named}
 use Rattle.crash_model.specs.Paths.{names_of, is_same_path, names_show, path_shows, is_same_shown, are_same_shown}
-use Rattle.crash_model.specs.Trace.{Tracing, trace_start, step}
+use Rattle.crash_model.specs.Tracing.{Tracing, trace_start}
+use Rattle.crash_model.specs.Trace.{step}
 use Rattle.crash_model.specs.Waiting.{range, inode_range, pointed_ranges, meets}
 use Rattle.crash_model.specs.declared.ranges.Range.{Range}
 use Rattle.crash_model.specs.declared.names.Path.{Path}
@@ -18,10 +19,8 @@ use Rattle.crash_model.specs.declared.showing.Shown.{Shown}
 use Rattle.crash_model.specs.declared.promises.Allowance.{Allowance}
 use Rattle.crash_model.specs.declared.promises.Spare.{Spare as StandIn}
 use Rattle.crash_model.specs.declared.modules.Module.{Module}
-use Rattle.crash_model.specs.declared.fault.Fault.{Fault}
-use Rattle.crash_model.specs.declared.fault.Fault.TheVariants.{BrokenPromise}
 use Rattle.crash_model.specs.declared.steps.Act.{Act}
-use Rattle.crash_model.specs.declared.steps.Act.TheVariants.{Do, Sync, Fsync, Keep, Hold, Spare}
+use Rattle.crash_model.specs.declared.steps.Act.TheVariants.{Fsync, Keep, Hold, Spare}
 use Rattle.crash_model.specs.declared.steps.Target.TheVariants.{At}
 use Rattle.crash_model.specs.declared.steps.Step.{Step}
 
@@ -71,16 +70,6 @@ is_broken promise set d =
 -- 10: a promise of the line is broken
 abbrev pub breaks_line : List Promise → ℕ → Disk → ℕ → Bool
 breaks_line promises set d line = list_any (λ promise. promise.line == line && is_broken promise set d) promises
-
--- the number behind the lines
-abbrev pub lines_end : List Promise → ℕ
-lines_end [] = 0
-lines_end (promise ∷ promises) = max (promise.line + 1) (lines_end promises)
-
--- by line, each once
-unfoldable pub broken_lines : List Promise → ℕ → Disk → List Fault
-broken_lines promises set d =
-    some_below (lines_end promises) (λ line. when (breaks_line promises set d line) (BrokenPromise line))
 
 -- ---- what a promise allows
 
@@ -200,15 +189,6 @@ abbrev pub durable : Module → ℕ → Path → Tracing → List Step → Promi
 durable kind line path here steps = record (held kind line path here steps) {
   ends = touching_from kind path (touched_ranges here.disk (Some 0) (names_of path)) here steps;
 }
-
--- lines that wait, promise or let something stand in
-abbrev pub waits_or_promises : Act → Bool
-waits_or_promises Sync = true
-waits_or_promises (Fsync _) = true
-waits_or_promises (Keep _) = true
-waits_or_promises (Hold _) = true
-waits_or_promises (Spare _ _) = true
-waits_or_promises _ = false
 
 -- the promise of an act, right behind which a place is
 abbrev pub promise_of : Module → Bool → ℕ → Act → Tracing → List Step → Option Promise

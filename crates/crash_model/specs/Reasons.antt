@@ -1,12 +1,14 @@
 -- What the patches of a trace are, and why each depends on others.
 use Rattle.std.specs.Prelude.{ℕ, List, [], ◌∷◌, ◌++◌, length, map, Bool, if◌then◌else◌, Option, Some, None, slice_get}
-use Rattle.std.specs.Prelude.{codes}
+use Rattle.std.specs.Prelude.{codes, filter}
 use Rattle.std.specs.List.{range_with_len}
 use Rattle.crash_model.specs.Lists.{some_below, when}
 use Rattle.crash_model.specs.Disk.{Disk, block_of}
 use Rattle.crash_model.specs.Patches.{overlap}
-use Rattle.crash_model.specs.Rules.{rule_text}
-use Rattle.crash_model.specs.Trace.{Emitted, Tracing, shares_block, groups_depend, waits_for, rules_between, depends}
+use Rattle.crash_model.specs.RuleTexts.{rule_text}
+use Rattle.crash_model.specs.Trace.{Emitted, groups_depend, waits_for, depends, applies}
+use Rattle.crash_model.specs.Tracing.{Tracing}
+use Rattle.crash_model.specs.WholeBlocks.{shares_block}
 use Rattle.crash_model.specs.Waiting.{Wait}
 use Rattle.crash_model.specs.declared.patches.Patch.{Patch}
 use Rattle.crash_model.specs.declared.rules.Rule.{Rule}
@@ -22,6 +24,10 @@ pub record ToldPatch : Type 0 where
   pub emitted : Emitted
   pub undo : List ℕ
   pub after : List Dependency
+
+-- the rules that make a patch wait for an earlier one
+abbrev pub rules_between : List Rule → Emitted → Emitted → List Rule
+rules_between rules q p = filter (λ rule. applies rule q p) rules
 
 -- why a patch depends on an earlier one, of this id
 abbrev pub reasons : List Rule → Bool → List (List ℕ × List ℕ) → Emitted → ℕ → Emitted → List (List ℕ)

@@ -1,7 +1,7 @@
 -- Facts about rules and lists of rules. No answer of a run depends on them.
 use Rattle.std.specs.Prelude.{◌≢◌, ℕ, List, ◌++◌}
 use Rattle.std.specs.List.{All, Contains}
-use Rattle.crash_model.specs.Rules.{rule_part_text, scope_text, rule_text}
+use Rattle.crash_model.specs.RuleTexts.{rule_part_text, scope_text, rule_text}
 use Rattle.crash_model.specs.declared.rules.RulePart.{RulePart}
 use Rattle.crash_model.specs.declared.rules.Scope.TheVariants.{Previous, Before}
 use Rattle.crash_model.specs.declared.rules.Rule.{Rule}

@@ -1,6 +1,5 @@
 -- What the strict checker finds in addition to the six faults, given the inodes that the script keeps.
-use Rattle.std.specs.Prelude.{◌≡◌, ℕ, zero, suc, ◌<◌, List, [], ◌∷◌, ◌++◌, Bool, true, false, ◌&&◌, ◌||◌, ◌==◌, not}
-use Rattle.std.specs.Prelude.{Option, Some, None}
+use Rattle.std.specs.Prelude.{◌≡◌, ℕ, zero, suc, ◌<◌, List, [], ◌∷◌, ◌++◌, Bool, false, ◌&&◌, ◌||◌, ◌==◌, not}
 use Rattle.std.specs.List.{range_with_len, list_any}
 use Rattle.crash_model.specs.declared.disk_bytes.TheConstants.{INODES, ENTRIES, DIRECTORY_KIND}
 use Rattle.patch_sets.specs.Sets.{has, ids_below}
@@ -8,19 +7,12 @@ use Rattle.crash_model.specs.Disk.{Disk}
 use Rattle.crash_model.specs.Layout.{kind_of, pointer_of, is_live}
 use Rattle.crash_model.specs.Lists.{some_below, when}
 use Rattle.crash_model.specs.Faults.{leads_to}
-use Rattle.crash_model.specs.Plan.{plan_of, with_plan}
 use Rattle.crash_model.specs.declared.fault.Fault.{Fault}
 use Rattle.crash_model.specs.declared.fault.Fault.TheVariants.{Lost, NoBlock}
-use Rattle.crash_model.specs.declared.steps.Act.{Act}
-use Rattle.crash_model.specs.declared.steps.Act.TheVariants.{Do}
 use Rattle.crash_model.specs.declared.steps.Step.{Step}
+use Rattle.crash_model.specs.StepDisks.{disk_after}
 
 -- ---- the inodes that a script keeps
-
--- the disk after a step; a group changes nothing, nor does what is refused
-abbrev pub disk_after : Disk → Act → Disk
-disk_after d (Do op) = with_plan d (plan_of d op)
-disk_after d _ = d
 
 -- an inode is live in a disk and in the disk after each of the steps
 abbrev pub stays_live : Disk → List Step → ℕ → Bool
@@ -30,11 +22,6 @@ stays_live d (x ∷ xs) inode = is_live d inode && stays_live (disk_after d x.ac
 -- the set has the inodes that stay live from the base on, and no other
 abbrev pub IsKept : Disk → List Step → ℕ → Type 0
 IsKept base steps kept = (inode : ℕ) → has kept inode ≡ stays_live base steps inode
-
--- what is demanded of them: nothing, or of a strict checker the inodes that the script keeps
-abbrev pub IsToldKept : Bool → Disk → List Step → Option ℕ → Type 0
-IsToldKept strict base steps None = strict ≡ false
-IsToldKept strict base steps (Some kept) = (strict ≡ true) × IsKept base steps kept
 
 -- ---- the inodes that are reached
 

@@ -1,16 +1,10 @@
--- The words for faults, modules and operations.
+-- The words for faults and modules.
 use Rattle.std.specs.Prelude.{ℕ, List, ◌++◌, codes, decimal}
-use Rattle.crash_model.specs.declared.separators.TheConstants.{SPACE}
-use Rattle.crash_model.specs.Lists.{join_of}
 use Rattle.crash_model.specs.declared.fault.Fault.{Fault}
 use Rattle.crash_model.specs.declared.fault.Fault.TheVariants.{Dangling, Twice, Unwritten, LowLinks, MarkedFree, Wild}
 use Rattle.crash_model.specs.declared.fault.Fault.TheVariants.{Lost, NoBlock, HalfDone, BrokenPromise}
 use Rattle.crash_model.specs.declared.modules.Module.{Module}
 use Rattle.crash_model.specs.declared.modules.Module.TheVariants.{Async, Soft, Meta, Full}
-use Rattle.crash_model.specs.Script.{words_of}
-use Rattle.crash_model.specs.declared.operations.Op.{Op}
-use Rattle.crash_model.specs.declared.steps.Act.{Act}
-use Rattle.crash_model.specs.declared.steps.Act.TheVariants.{Do}
 
 unfoldable pub fault_text : Fault → List ℕ
 fault_text (Dangling d k i) =
@@ -34,11 +28,3 @@ module_text Async = codes "async"
 module_text Soft = codes "soft"
 module_text Meta = codes "meta"
 module_text Full = codes "full"
-
--- the words of an act's line
-abbrev pub act_text : Act → List ℕ
-act_text act = join_of SPACE (words_of act)
-
--- the words of an operation's line
-abbrev pub op_text : Op → List ℕ
-op_text op = join_of SPACE (words_of (Do op))

@@ -1,17 +1,17 @@
 -- The patches of a script's steps, and which depends on which.
 use Rattle.std.specs.Prelude.{◌≡◌, ℕ, ◌+◌, ◌<◌, List, [], ◌∷◌, ◌++◌, length, map, filter, Bool, true, false, ◌&&◌, ◌||◌}
-use Rattle.std.specs.Prelude.{◌==◌, not, nat_lt, Option, Some, None, is_some, Result, Ok, Err, bytes_eq}
-use Rattle.std.specs.Prelude.{◌↔◌, slice_get, slice_index, IsTrue, bit_or, if◌then◌else◌}
+use Rattle.std.specs.Prelude.{◌==◌, not, nat_lt, Option, Some, None, is_some, Result, Ok, Err, bytes_eq, ◌↔◌, slice_get}
+use Rattle.std.specs.Prelude.{slice_index, IsTrue, if◌then◌else◌}
 use Rattle.std.specs.List.{range_with_len, list_any}
 use Rattle.crash_model.specs.declared.patches.TheConstants.{MAX_PATCHES}
 use Rattle.crash_model.specs.declared.disk_bytes.TheConstants.{JOURNAL_AT, COMMITTED_MARK, DONE_MARK}
 use Rattle.patch_sets.specs.Sets.{Has, has}
 use Rattle.patch_sets.specs.Closed.{AreEarlier}
 use Rattle.crash_model.specs.Disk.{Disk, block_of}
-use Rattle.crash_model.specs.Plan.{then_ok, unless, with_found, plan_of, with_changes, at_entry}
-use Rattle.crash_model.specs.Patches.{Place, place, places_of, deps_of, overlap, AreUndo}
+use Rattle.crash_model.specs.Plan.{then_ok, unless, with_found, plan_of, with_changes}
+use Rattle.crash_model.specs.Patches.{place, places_of, deps_of, overlap, AreUndo}
 use Rattle.crash_model.specs.Refusals.{trace_fault}
-use Rattle.crash_model.specs.Waiting.{Wait, forced_by_sync, forced_by_fsync}
+use Rattle.crash_model.specs.Waiting.{forced_by_sync, forced_by_fsync}
 use Rattle.crash_model.specs.Paths.{is_same_path}
 pub use Rattle.crash_model.specs.Emitted.{Origin, origin_at, Emitted}
 use Rattle.crash_model.specs.Rules.{has_part, are_scoped}
@@ -29,11 +29,13 @@ use Rattle.crash_model.specs.declared.rules.Rule.{Rule}
 use Rattle.crash_model.specs.declared.patches.Patch.{Patch}
 use Rattle.crash_model.specs.declared.modules.Module.{Module}
 use Rattle.crash_model.specs.declared.modules.Module.TheVariants.{Meta, Full}
-use Rattle.crash_model.specs.declared.steps.Target.{Target}
-use Rattle.crash_model.specs.declared.steps.Target.TheVariants.{Root, At}
+use Rattle.crash_model.specs.declared.steps.Target.TheVariants.{At}
 use Rattle.crash_model.specs.declared.steps.Act.{Act}
 use Rattle.crash_model.specs.declared.steps.Act.TheVariants.{Do, Group, End, Depend, Sync, Fsync, Keep, Hold, Spare}
 use Rattle.crash_model.specs.declared.steps.Step.{Step}
+use Rattle.crash_model.specs.WholeBlocks.{shares_block}
+use Rattle.crash_model.specs.Tracing.{Tracing}
+use Rattle.crash_model.specs.WaitSteps.{target_found, when_found, with_wait}
 
 -- ---- which patch depends on which
 
@@ -50,10 +52,6 @@ groups_depend links q p =
 abbrev pub applies : Rule → Emitted → Emitted → Bool
 applies rule q p = has_part rule.later q.part && (has_part rule.earlier p.part && are_scoped rule.scope q.turn p.turn)
 
--- blocks are written whole, and two patches change the same block
-abbrev pub shares_block : Bool → Emitted → Emitted → Bool
-shares_block whole q p = whole && q.place.block == p.place.block
-
 -- a line before the patch waits for the patch of an id
 abbrev pub waits_for : Emitted → ℕ → Bool
 waits_for q id = has q.origin.waits_for id
@@ -63,10 +61,6 @@ abbrev pub depends : List Rule → Bool → List (List ℕ × List ℕ) → Emit
 depends rules whole links q id p =
     overlap q.place p.place || shares_block whole q p || groups_depend links q p || waits_for q id
     || list_any (λ rule. applies rule q p) rules
-
--- the rules that make it wait
-abbrev pub rules_between : List Rule → Emitted → Emitted → List Rule
-rules_between rules q p = filter (λ rule. applies rule q p) rules
 
 -- ---- the patches of an operation
 
@@ -119,39 +113,6 @@ transaction after turn j origin changes =
 
 -- ---- the steps
 
-pub record Tracing : Type 0 where
-  -- the disk after the operations so far, and their patches
-  pub disk : Disk
-  pub emitted : List Emitted
-  -- the number of the next operation, and the next free journal block
-  pub turn : ℕ
-  pub journal : ℕ
-  -- whether blocks are written whole
-  pub whole : Bool
-  -- the groups: the open one, those that were opened, those that have ended, and the pairs (B, A)
-  pub current : Option (List ℕ)
-  pub opened : List (List ℕ)
-  pub ended : List (List ℕ)
-  pub links : List (List ℕ × List ℕ)
-  -- the ids that lines so far wait for, as a set, and these lines
-  pub forced : ℕ
-  pub waits : List Wait
-
-abbrev pub trace_start : Bool → Disk → Tracing
-trace_start whole base = record {
-  disk = base;
-  emitted = [];
-  turn = 1;
-  journal = JOURNAL_AT;
-  whole = whole;
-  current = None;
-  opened = [];
-  ended = [];
-  links = [];
-  forced = 0;
-  waits = [];
-}
-
 -- how many journal blocks an operation takes, and its patches
 abbrev pub journal_blocks : Module → ℕ → List Change → ℕ
 journal_blocks Meta blocks changes = 1 + length (touched_blocks blocks (metadata_changes changes))
@@ -176,23 +137,6 @@ trace_of_plan kind line op s (Ok changes) =
 
 abbrev pub is_among : List ℕ → List (List ℕ) → Bool
 is_among name names = list_any (bytes_eq name) names
-
--- the inode of a target, or how the walk to it is refused
-abbrev pub target_found : Disk → Target → Result ℕ FsFault
-target_found d Root = Ok 0
-target_found d (At path) = at_entry d path (λ dir k inode. Ok inode)
-
--- the trace after a line, unless a walk is refused
-abbrev pub when_found : ℕ → Result ℕ FsFault → Tracing → Result Tracing TraceFault
-when_found line (Err e) next = Err (trace_fault line e)
-when_found line (Ok _) next = Ok next
-
--- with a line that waits for ids
-abbrev pub with_wait : ℕ → Act → ℕ → Tracing → Tracing
-with_wait line act ids s = record s {
-  forced = bit_or s.forced ids;
-  waits = s.waits ++ record { line = line; act = act; ids = ids } ∷ [];
-}
 
 abbrev pub step : Module → Tracing → ℕ → Act → Result Tracing TraceFault
 step kind s line (Do op) = trace_of_plan kind line op s (plan_of s.disk op)

@@ -1,7 +1,7 @@
 //! What a checker can find wrong with an image.
 
 ghost use Rattle.std.specs.Prelude.{◌≡◌, [], ◌∷◌};
-ghost use Rattle.crash_model.specs.FaultRows.{numbers_of};
+ghost use Rattle.crash_model.specs.FaultOrder.{numbers_of};
 
 use std::fmt;
 

@@ -115,7 +115,7 @@ impl Default for Path {
 }
 
 impl Path {
-    ghost use Rattle.crash_model.specs.Script.{IsPath, IsPathWord, path_text};
+    ghost use Rattle.crash_model.specs.PathTexts.{IsPath, IsPathWord, path_text};
     ghost use Rattle.crash_model.specs.Paths.{is_same_path};
 
     /// The path with this text: a slash and a name, one to four times. `None` for any other text.
@@ -175,7 +175,7 @@ impl Path {
 
 impl fmt::Display for Path {
     ghost use Rattle.std.specs.Prelude.{Some};
-    ghost use Rattle.crash_model.specs.Script.{path_text};
+    ghost use Rattle.crash_model.specs.PathTexts.{path_text};
 
     ghost output = { λ path. Some (path_text path) };
 

@@ -101,7 +101,7 @@ impl Op {
 
 impl fmt::Display for Op {
     ghost use Rattle.std.specs.Prelude.{Some};
-    ghost use Rattle.crash_model.specs.Texts.{op_text};
+    ghost use Rattle.crash_model.specs.PatchTexts.{op_text};
 
     ghost output = { λ op. Some (op_text op) };
 

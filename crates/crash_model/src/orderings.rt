@@ -1,7 +1,8 @@
 //! Orderings: how operations become patches, and the rules that order these.
 
 ghost use Rattle.std.specs.Prelude.{◌≡◌, ◌≤◌, ◌+◌, ◌++◌, length, false};
-ghost use Rattle.crash_model.specs.Rules.{rules_of, rules_taken_out, kept_rules, rules_put_in, rules_under};
+ghost use Rattle.crash_model.specs.Rules.{rules_of};
+ghost use Rattle.crash_model.specs.ChosenRules.{rules_taken_out, kept_rules, rules_put_in, rules_under};
 
 use crate::modules::Module;
 use crate::plans::Role::{

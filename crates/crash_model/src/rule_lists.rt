@@ -1,7 +1,7 @@
 //! Lists of rules.
 
 ghost use Rattle.std.specs.Prelude.{◌≡◌, ◌≤◌, length};
-ghost use Rattle.crash_model.specs.Rules.{rules_in_both, rules_in_first, has_rule};
+ghost use Rattle.crash_model.specs.ChosenRules.{rules_in_both, rules_in_first, has_rule};
 
 use crate::rules::Rule;
 use arrayvec::ArrayVec;

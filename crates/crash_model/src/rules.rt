@@ -1,7 +1,10 @@
 //! Rules that order patches.
 
 ghost use Rattle.std.specs.Prelude.{◌≡◌, ◌++◌, MatchOption, bytes_eq};
-ghost use Rattle.crash_model.specs.Rules.{has_part, are_scoped, part_text, rule_part_text, scope_text, is_same_rule};
+ghost use Rattle.crash_model.specs.Rules.{has_part, are_scoped};
+ghost use Rattle.crash_model.specs.PatchTexts.{part_text};
+ghost use Rattle.crash_model.specs.RuleTexts.{rule_part_text, scope_text};
+ghost use Rattle.crash_model.specs.ChosenRules.{is_same_rule};
 ghost use Rattle.crash_model.specs.RuleFacts.{IsNoRulePart, HasNoScope};
 ghost use Rattle.crash_model.specs.declared.rules.Scope.TheVariants.{Same};
 
@@ -174,7 +177,7 @@ pub struct Rule {
 }
 
 impl Rule {
-    ghost use Rattle.crash_model.specs.Rules.{rule_text};
+    ghost use Rattle.crash_model.specs.RuleTexts.{rule_text};
     ghost use Rattle.crash_model.specs.RuleFacts.{IsNoRule};
 
     /// The rule that this text writes, as `LATER:EARLIER`, `LATER:previous-EARLIER` or `LATER:before-EARLIER`. `None`
@@ -203,7 +206,7 @@ impl Rule {
 
 impl fmt::Display for Rule {
     ghost use Rattle.std.specs.Prelude.{Some};
-    ghost use Rattle.crash_model.specs.Rules.{rule_text};
+    ghost use Rattle.crash_model.specs.RuleTexts.{rule_text};
 
     ghost output = { λ rule. Some (rule_text rule) };
 

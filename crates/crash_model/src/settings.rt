@@ -1,7 +1,7 @@
 //! What a run is asked for besides its script and its question.
 
 ghost use Rattle.std.specs.Prelude.{◌≡◌};
-ghost use Rattle.crash_model.specs.Rules.{rules_under, rules_taken_out, rules_put_in};
+ghost use Rattle.crash_model.specs.ChosenRules.{rules_under, rules_taken_out, rules_put_in};
 
 use crate::modules::Module;
 use crate::orderings::Ordering;

@@ -39,7 +39,7 @@ pub struct Step {
 
 impl fmt::Display for Target {
     ghost use Rattle.std.specs.Prelude.{Some};
-    ghost use Rattle.crash_model.specs.Script.{target_text};
+    ghost use Rattle.crash_model.specs.Targets.{target_text};
 
     ghost output = { λ target. Some (target_text target) };
 
@@ -60,7 +60,7 @@ struct PathWords<'a> {
 impl fmt::Display for PathWords<'_> {
     ghost use Rattle.std.specs.Prelude.{Some, ◌∷◌};
     ghost use Rattle.std.specs.List.{flat_map};
-    ghost use Rattle.crash_model.specs.Script.{path_text};
+    ghost use Rattle.crash_model.specs.PathTexts.{path_text};
 
     ghost output = { λ words. Some (flat_map (λ path. 32 ∷ path_text path) words.paths.now) };
 
@@ -74,7 +74,7 @@ impl fmt::Display for PathWords<'_> {
 
 impl fmt::Display for Act {
     ghost use Rattle.std.specs.Prelude.{Some};
-    ghost use Rattle.crash_model.specs.Texts.{act_text};
+    ghost use Rattle.crash_model.specs.PatchTexts.{act_text};
 
     ghost output = { λ act. Some (act_text act) };
 

@@ -1,13 +1,17 @@
 -- What the parts of a run find makes its answer.
 use Rattle.std.proofs.Common.{◌≡◌, ℕ, ◌≤◌, List, length, Ok, Err, Some, ap, subst, sym, inl, inr, ◌∙◌}
 use Rattle.std.specs.Prelude.{slice_get}
-use Rattle.report_model.specs.Answer.{Refused, Reported, HasBase, HasGraph, IsReport, IsReported, IsUntraced, untraced}
-use Rattle.report_model.specs.Answer.{asked_by, bad_script, bad_geometry, bad_base, bad_trace, too_many, reported}
+use Rattle.report_model.specs.Answer.{Refused, Reported, IsReport, IsReported, untraced, too_many, reported}
+use Rattle.report_model.specs.ScriptGraph.{HasBase, HasGraph, asked_by}
+use Rattle.report_model.specs.Untraced.{IsUntraced, bad_script, bad_geometry, bad_base, bad_trace}
 use Rattle.crash_model.specs.Checker.{Demands}
-use Rattle.crash_model.specs.Disk.{Disk, IsGeometry, new_disk}
+use Rattle.crash_model.specs.Disk.{Disk, IsGeometry}
+use Rattle.crash_model.specs.Generations.{new_disk}
 use Rattle.crash_model.specs.Refusals.{run_of_script, run_of_trace}
-use Rattle.crash_model.specs.Script.{IsScript, IsScriptRefusal}
-use Rattle.crash_model.specs.Trace.{Tracing, base_from, trace_start, trace_from}
+use Rattle.crash_model.specs.Script.{IsScript}
+use Rattle.crash_model.specs.ScriptRefusals.{IsScriptRefusal}
+use Rattle.crash_model.specs.Trace.{base_from, trace_from}
+use Rattle.crash_model.specs.Tracing.{Tracing, trace_start}
 use Rattle.crash_model.specs.ChosenWaits.{up_to_wait}
 use Rattle.crash_model.specs.Waiting.{Wait}
 use Rattle.crash_model.specs.Patches.{ExceedsLimit}

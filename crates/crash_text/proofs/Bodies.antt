@@ -7,17 +7,20 @@ use Rattle.std.proofs.lemmas.List.Elements.{All-map}
 use Rattle.patch_sets.specs.Closed.{IsClosed}
 use Rattle.patch_sets.specs.Sets.{AreAllInOrder}
 use Rattle.patch_sets.proofs.Canonical.{one_list}
-use Rattle.report_model.specs.Answer.{detail_of, ordering_rules, IsBody, IsReport}
+use Rattle.report_model.specs.Answer.{detail_of, IsBody, IsReport}
+use Rattle.report_model.specs.ScriptGraph.{ordering_rules}
 use Rattle.crash_model.specs.Disk.{Disk}
 use Rattle.crash_model.specs.Reasons.{Explanation, explanation}
 use Rattle.crash_model.specs.Checker.{Demands, IsFailingUnder}
 use Rattle.report_model.specs.Needs.{ToldRule, AreToldRules}
 use Rattle.crash_model.specs.Patches.{deps_of}
 use Rattle.report_model.specs.Report.{Section, AreSections, IsLed}
-use Rattle.crash_model.specs.FaultRows.{HasFault, AreRows}
+use Rattle.crash_model.specs.FaultRows.{AreRows}
+use Rattle.crash_model.specs.FirstSets.{HasFault}
 use Rattle.report_model.specs.Summary.{ToldFault, AreToldFaults}
-use Rattle.crash_model.specs.Trace.{Tracing}
-use Rattle.report_model.specs.Whole.{Body, Sets, Faults, Rules, report}
+use Rattle.crash_model.specs.Tracing.{Tracing}
+use Rattle.report_model.specs.Whole.{Body, Sets, Faults, Rules}
+use Rattle.report_model.specs.WholeText.{report}
 use Rattle.crash_model.specs.declared.fault.FaultRow.{FaultRow}
 use Rattle.crash_model.specs.declared.patches.Patch.{Patch}
 use Rattle.crash_model.specs.declared.settings.Settings.{Settings}

@@ -12,13 +12,14 @@ use Rattle.crash_model.specs.Reasons.{Explanation}
 use Rattle.crash_model.specs.Lists.{when}
 use Rattle.crash_model.specs.Patches.{deps_of, CountsClosed}
 use Rattle.report_model.specs.Report.{AreSections, IsLed}
-use Rattle.crash_model.specs.FaultRows.{HasFault}
-use Rattle.crash_model.specs.Trace.{Tracing}
+use Rattle.crash_model.specs.FirstSets.{HasFault}
+use Rattle.crash_model.specs.Tracing.{Tracing}
 use Rattle.crash_model.specs.declared.patches.Patch.{Patch}
 use Rattle.crash_model.specs.declared.settings.Settings.{Settings}
 use Rattle.report_model.proofs.Leading.{sections_lead}
 use Rattle.question_model.specs.Decided.{AreDecided}
-use Rattle.question_model.specs.Decision.{IsDecision, ToldDecided, AreToldDecided, decision_bytes}
+use Rattle.question_model.specs.Decision.{IsDecision, AreToldDecided, decision_bytes}
+use Rattle.question_model.specs.ToldDecided.{ToldDecided}
 use Rattle.question_model.specs.declared.decided_fault.DecidedFault.{DecidedFault}
 use Rattle.traced_patches.specs.Traced.{TracedPatches}
 use Rattle.report_sections.specs.Bodies.{AreClosed, explanation_by}

@@ -9,8 +9,10 @@ use Rattle.crash_model.specs.ChosenWaits.{up_to_wait, waits}
 use Rattle.crash_model.specs.Paths.{is_same_path}
 use Rattle.crash_model.specs.Disk.{Disk}
 use Rattle.crash_model.specs.Plan.{then_ok, unless, with_found, plan_of, with_changes}
-use Rattle.crash_model.specs.Trace.{Emitted, origin_at, Tracing, trace_from, trace_of_plan, step, when_found}
-use Rattle.crash_model.specs.Trace.{target_found, with_wait, is_among, is_same_group, patches_by, journal_blocks}
+use Rattle.crash_model.specs.Trace.{Emitted, origin_at, trace_from, trace_of_plan, step, is_among, is_same_group}
+use Rattle.crash_model.specs.Trace.{patches_by, journal_blocks}
+use Rattle.crash_model.specs.Tracing.{Tracing}
+use Rattle.crash_model.specs.WaitSteps.{when_found, target_found, with_wait}
 use Rattle.crash_model.specs.Waiting.{Wait, forced_by_sync, forced_by_fsync}
 use Rattle.crash_model.specs.declared.disk_bytes.TheConstants.{JOURNAL_AT}
 use Rattle.crash_model.specs.declared.patches.TheConstants.{MAX_PATCHES}

@@ -11,13 +11,14 @@ use Rattle.patch_sets.specs.Ends.{IsDifference}
 use Rattle.patch_sets.specs.Sets.{AreAllInOrder}
 use Rattle.crash_model.specs.ChosenWaits.{tracing_waiting, demands_waiting}
 use Rattle.crash_model.specs.Checker.{Demands}
-use Rattle.report_model.specs.Answer.{detail_of, ordering_rules}
+use Rattle.report_model.specs.Answer.{detail_of}
+use Rattle.report_model.specs.ScriptGraph.{ordering_rules}
 use Rattle.crash_model.specs.Disk.{Disk}
 use Rattle.crash_model.specs.Reasons.{Explanation}
 use Rattle.crash_model.specs.Lists.{when}
 use Rattle.crash_model.specs.Patches.{CountsClosed}
-use Rattle.crash_model.specs.RuleUse.{HasGraphBy}
-use Rattle.crash_model.specs.Trace.{Tracing}
+use Rattle.crash_model.specs.OtherRules.{HasGraphBy}
+use Rattle.crash_model.specs.Tracing.{Tracing}
 use Rattle.crash_model.specs.Waiting.{Wait}
 use Rattle.crash_model.specs.declared.refusals.RunFault.TheVariants.{TooManySyncs}
 use Rattle.crash_model.specs.declared.rules.Rule.{Rule}

@@ -15,8 +15,9 @@ use Rattle.report_model.specs.Needs.{Used, ToldRule}
 use Rattle.crash_model.specs.RuleUse.{pairs_of}
 use Rattle.crash_model.specs.Patches.{deps_of}
 use Rattle.report_model.specs.Report.{Detail, AreSections, IsLed}
-use Rattle.crash_model.specs.Rules.{rules_in_first}
-use Rattle.crash_model.specs.Trace.{Tracing, IsGraphOf}
+use Rattle.crash_model.specs.ChosenRules.{rules_in_first}
+use Rattle.crash_model.specs.Trace.{IsGraphOf}
+use Rattle.crash_model.specs.Tracing.{Tracing}
 use Rattle.crash_model.specs.declared.patches.Patch.{Patch}
 use Rattle.crash_model.specs.declared.rules.Rule.{Rule}
 use Rattle.report_model.proofs.Leading.{failing_closed, sections_lead}

@@ -6,7 +6,7 @@ use Rattle.std.proofs.lemmas.List.Elements.{All-push}
 use Rattle.std.specs.Prelude.{All, not, if◌then◌else◌}
 use Rattle.std.specs.Int.{from_bool}
 use Rattle.crash_model.specs.Disk.{Disk}
-use Rattle.report_model.specs.Answer.{ordering_rules}
+use Rattle.report_model.specs.ScriptGraph.{ordering_rules}
 use Rattle.crash_model.specs.declared.modules.Module.{Module}
 use Rattle.crash_model.specs.declared.rules.Rule.{Rule}
 use Rattle.crash_model.specs.declared.settings.Asked.{Asked}

@@ -8,7 +8,7 @@ use Rattle.crash_model.specs.Sound.{IsSound, HasZeroJournal}
 use Rattle.crash_model.specs.declared.modules.Module.TheVariants.{Full}
 use Rattle.crash_model.specs.declared.settings.Settings.{Settings}
 use Rattle.crash_model.specs.declared.steps.Step.{Step}
-use Rattle.report_model.specs.Answer.{ordering_rules}
+use Rattle.report_model.specs.ScriptGraph.{ordering_rules}
 use Rattle.question_model.specs.Found.{AreFound}
 use Rattle.question_model.specs.SearchReport.{search_of}
 use Rattle.question_model.specs.Workloads.{Search, is_place}

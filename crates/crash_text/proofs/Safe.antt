@@ -2,12 +2,13 @@
 use Rattle.std.proofs.Common.{◌≡◌, ℕ, List, [], ◌∷◌, length, arith, refl, sym, subst, ap, ◌∙◌}
 use Rattle.std.proofs.lemmas.List.Elements.{Contains-get_or}
 use Rattle.patch_sets.specs.Sets.{AreAllInOrder}
-use Rattle.report_model.specs.Answer.{ordering_rules}
+use Rattle.report_model.specs.ScriptGraph.{ordering_rules}
 use Rattle.crash_model.specs.Disk.{Disk}
 use Rattle.crash_model.specs.RuleFacts.{AreAmong}
-use Rattle.crash_model.specs.Rules.{rules_of, rules_under}
+use Rattle.crash_model.specs.Rules.{rules_of}
+use Rattle.crash_model.specs.ChosenRules.{rules_under}
 use Rattle.crash_model.specs.Checker.{Demands, IsFailingUnder}
-use Rattle.crash_model.specs.FaultRows.{HasFault}
+use Rattle.crash_model.specs.FirstSets.{HasFault}
 use Rattle.crash_model.specs.declared.modules.Module.{Module}
 use Rattle.crash_model.specs.declared.modules.Module.TheVariants.{Full}
 use Rattle.crash_model.specs.declared.patches.Patch.{Patch}

@@ -3,8 +3,8 @@ use Rattle.std.proofs.Common.{◌≡◌, ℕ, ◌<◌, ◌≤◌, List, ◌++◌
 use Rattle.std.proofs.Common.{sym, subst, ap, ◌∙◌, append-nil, arith}
 use Rattle.std.specs.Prelude.{◌≢◌, Result, Ok, Err, IfErr}
 use Rattle.std.specs.Io.KnownBytes.{Consumes, IsAtEnd}
-use Rattle.report_model.specs.Answer.{Answer, Refused, Reported, IsUntraced, bad_script, bad_geometry, bad_base}
-use Rattle.report_model.specs.Answer.{bad_trace, IsVisited, untraced, too_many, reported}
+use Rattle.report_model.specs.Answer.{Answer, Refused, Reported, IsVisited, untraced, too_many, reported}
+use Rattle.report_model.specs.Untraced.{IsUntraced, bad_script, bad_geometry, bad_base, bad_trace}
 use Rattle.crash_model.specs.Refusals.{run_of_script, run_of_trace}
 use Rattle.crash_model.specs.declared.refusals.RunFault.{RunFault}
 use Rattle.crash_model.specs.declared.refusals.RunFault.TheVariants.{CannotRead, CannotWrite, ScriptTooLong}

@@ -5,12 +5,13 @@ use Rattle.std.specs.Prelude.{Some, None, is_some, option_map, option_to_list, i
 use Rattle.std.proofs.lemmas.Simd.{map-map}
 use Rattle.patch_sets.specs.Sets.{AreAllInOrder}
 use Rattle.crash_model.specs.Checker.{Demands}
-use Rattle.report_model.specs.Answer.{detail_of, ordering_rules}
+use Rattle.report_model.specs.Answer.{detail_of}
+use Rattle.report_model.specs.ScriptGraph.{ordering_rules}
 use Rattle.crash_model.specs.Disk.{Disk}
 use Rattle.crash_model.specs.Reasons.{Explanation}
 use Rattle.crash_model.specs.Lists.{when}
 use Rattle.crash_model.specs.Patches.{CountsClosed}
-use Rattle.crash_model.specs.Trace.{Tracing}
+use Rattle.crash_model.specs.Tracing.{Tracing}
 use Rattle.crash_model.specs.declared.rules.Rule.{Rule}
 use Rattle.crash_model.specs.declared.settings.Settings.{Settings}
 use Rattle.question_model.specs.Enough.{IsMinimalEnough, IsNeeded}

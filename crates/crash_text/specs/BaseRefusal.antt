@@ -1,6 +1,7 @@
 -- Why there is no disk at the start line.
 use Rattle.std.specs.Prelude.{◌≡◌, ◌⊎◌, List, Err}
-use Rattle.crash_model.specs.Disk.{new_disk, IsGeometry}
+use Rattle.crash_model.specs.Disk.{IsGeometry}
+use Rattle.crash_model.specs.Generations.{new_disk}
 use Rattle.crash_model.specs.Refusals.{run_of_trace}
 use Rattle.crash_model.specs.Trace.{base_from}
 use Rattle.crash_model.specs.declared.refusals.TraceFault.{TraceFault}

@@ -8,8 +8,9 @@ use Rattle.crash_model.specs.Patches.{ExceedsLimit}
 use Rattle.crash_model.specs.Lists.{when}
 use Rattle.crash_model.specs.Promises.{Promise}
 use Rattle.report_model.specs.Needs.{IsWithout, RuleUsage, Unused, TooMany as PastLimit, Used}
-use Rattle.crash_model.specs.Trace.{Tracing}
-use Rattle.report_model.specs.Whole.{Body, Report, report}
+use Rattle.crash_model.specs.Tracing.{Tracing}
+use Rattle.report_model.specs.Whole.{Body, Report}
+use Rattle.report_model.specs.WholeText.{report}
 use Rattle.crash_model.specs.declared.patches.Patch.{Patch}
 use Rattle.crash_model.specs.declared.settings.Settings.{Settings}
 use Rattle.traced_patches.specs.Traced.{TracedPatches}

@@ -1,10 +1,11 @@
 -- Traced scripts, and the reports on them.
 use Rattle.std.specs.Prelude.{◌≡◌, ℕ, List, Ok, Err}
-use Rattle.report_model.specs.Answer.{HasBase, asked_by, ordering_rules}
+use Rattle.report_model.specs.ScriptGraph.{HasBase, asked_by, ordering_rules}
 use Rattle.crash_model.specs.Checker.{Demands, AreDemands, IsFailingUnder}
 use Rattle.crash_model.specs.Disk.{Disk}
 use Rattle.crash_model.specs.Refusals.{run_of_trace}
-use Rattle.crash_model.specs.Trace.{Tracing, trace_start, trace_from, IsGraphOf}
+use Rattle.crash_model.specs.Trace.{trace_from, IsGraphOf}
+use Rattle.crash_model.specs.Tracing.{Tracing, trace_start}
 use Rattle.crash_model.specs.declared.orderings.Ordering.{Ordering}
 use Rattle.crash_model.specs.declared.patches.Patch.{Patch}
 use Rattle.crash_model.specs.declared.refusals.RunFault.{RunFault}

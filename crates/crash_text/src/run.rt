@@ -1,7 +1,8 @@
 //! The whole product as a function.
 
 ghost use Rattle.std.specs.Prelude.{◌≡◌, ◌≢◌, ◌≤◌, [], Ok, OnOk, IfOk, IfErr, string_bytes};
-ghost use Rattle.crash_model.specs.Disk.{new_disk, IsGeometry};
+ghost use Rattle.crash_model.specs.Disk.{IsGeometry};
+ghost use Rattle.crash_model.specs.Generations.{new_disk};
 ghost use Rattle.crash_model.specs.Sound.{IsSound, HasZeroJournal};
 ghost use Rattle.crash_model.specs.Trace.{base_from};
 ghost use Rattle.crash_model.specs.declared.modules.Module.TheVariants.{Full};

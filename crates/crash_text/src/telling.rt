@@ -2,13 +2,16 @@
 
 ghost use Rattle.std.specs.Prelude.{◌≡◌, map, IfOk, string_bytes};
 ghost use Rattle.patch_sets.specs.Sets.{AreAllInOrder};
-ghost use Rattle.report_model.specs.Answer.{detail_of, ordering_rules};
+ghost use Rattle.report_model.specs.Answer.{detail_of};
+ghost use Rattle.report_model.specs.ScriptGraph.{ordering_rules};
 ghost use Rattle.crash_model.specs.Checker.{IsFailingUnder};
 ghost use Rattle.report_model.specs.Needs.{AreToldRules};
-ghost use Rattle.crash_model.specs.FaultRows.{HasFault, AreRows};
-ghost use Rattle.crash_model.specs.Trace.{Tracing};
+ghost use Rattle.crash_model.specs.FaultRows.{AreRows};
+ghost use Rattle.crash_model.specs.FirstSets.{HasFault};
+ghost use Rattle.crash_model.specs.Tracing.{Tracing};
 ghost use Rattle.crash_model.specs.declared.visit.ReportBy.TheVariants.{BySet, ByFault, ByRule};
-ghost use Rattle.report_model.specs.Whole.{Body as WholeBody, report as report_bytes};
+ghost use Rattle.report_model.specs.Whole.{Body as WholeBody};
+ghost use Rattle.report_model.specs.WholeText.{report as report_bytes};
 ghost use Rattle.report_sections.specs.Bodies.{AreClosed, AreOnBase, CanTell, detail_by, TellsBody, sets_of, whole_of};
 ghost use Rattle.report_sections.specs.ToldRules.{told_rule};
 ghost use Rattle.crash_text.specs.Telling.{AreFindings, IsReportOf, Tells};

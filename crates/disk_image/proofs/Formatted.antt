@@ -3,8 +3,8 @@ use Rattle.std.proofs.Common.{◌≡◌, ℕ, ◌+◌, ◌-◌, ◌*◌, ◌<◌
 use Rattle.std.proofs.Common.{arith, ap, sym, refl, ◌∙◌, Bool, true, false}
 use Rattle.std.proofs.lemmas.Bool.{cases_lt}
 use Rattle.std.proofs.lemmas.List.{get_or-replicate, length-replicate, get_or_past}
-use Rattle.crash_model.specs.Disk.{IsGeometry, overwrite, new_disk}
-use Rattle.crash_model.specs.Layout.{generation_of, mark_generation}
+use Rattle.crash_model.specs.Disk.{IsGeometry, overwrite}
+use Rattle.crash_model.specs.Generations.{new_disk, generation_of, mark_generation}
 use Rattle.crash_model.specs.Sound.{IsSound, HasZeroJournal}
 use Rattle.crash_model.proofs.Bytes.{length-overwrite, overwrite-inside, overwrite-below, overwrite-above}
 use Rattle.disk_image.proofs.RootAlone.{HasRootAlone, sound-root}

@@ -7,7 +7,8 @@ use Rattle.std.specs.Prelude.{option_to_list}
 use Rattle.crash_model.specs.Lists.{each_below, some_below, when}
 use Rattle.crash_model.specs.Disk.{Disk, IsDisk, byte}
 use Rattle.crash_model.specs.Layout.{kind_of, links_of, pointer_of, map_of, is_live, is_data, counts, is_entry}
-use Rattle.crash_model.specs.Layout.{entry_of, is_pointer, is_owned, generation_of, mark_generation}
+use Rattle.crash_model.specs.Layout.{entry_of, is_pointer, is_owned}
+use Rattle.crash_model.specs.Generations.{generation_of, mark_generation}
 use Rattle.crash_model.specs.Faults.{IsClean, is_tame, is_wild, is_unwritten, is_right_mark, is_marked_free}
 use Rattle.crash_model.specs.Faults.{names_block, namers, leads_to, each_slot, each_entry, entries_to}
 use Rattle.crash_model.specs.View.{HasPointer}

@@ -1,7 +1,8 @@
 //! The disk that a format leaves, or why there is none.
 
 ghost use Rattle.std.specs.Prelude.{◌≡◌, ◌≤◌, ◌↔◌, IfOk, IsErrOf, OnOk, replicate};
-ghost use Rattle.crash_model.specs.Disk.{with_bytes, empty_disk, new_disk, IsGeometry};
+ghost use Rattle.crash_model.specs.Disk.{with_bytes, empty_disk, IsGeometry};
+ghost use Rattle.crash_model.specs.Generations.{new_disk};
 ghost use Rattle.crash_model.specs.Sound.{IsSound, HasZeroJournal};
 
 use crate::image::Image;

@@ -6,8 +6,8 @@
 
 ghost use Rattle.std.specs.Prelude.{◌≡◌, ◌<◌, IsTrue, IfSome, bytes_eq};
 ghost use Rattle.crash_model.specs.Layout.{kind_of, links_of, pointer_of, map_of, is_live, is_data, counts, entry_of};
-ghost use Rattle.crash_model.specs.Layout.{spelling_of, inode_block, inode_offset, entry_offset, generation_of};
-ghost use Rattle.crash_model.specs.Layout.{mark_generation, is_owned};
+ghost use Rattle.crash_model.specs.Layout.{spelling_of, inode_block, inode_offset, entry_offset, is_owned};
+ghost use Rattle.crash_model.specs.Generations.{generation_of, mark_generation};
 ghost use Rattle.crash_model.specs.Plan.{free_entry, touched_of};
 
 use crate::image::Image;
@@ -71,7 +71,7 @@ impl<A: Allocator + Copy> Image<A> {
     }
 
     /// An inode's generation; 0 on a disk without generations.
-    #[tactic(auto, unfolding(crash_model::specs::Layout::generation_of))]
+    #[tactic(auto, unfolding(crash_model::specs::Generations::generation_of))]
     pub fn generation(&self, inode: u8) -> u8
         requires { inode < INODES }
         ensures { result ≡ generation_of self.now inode }
@@ -83,7 +83,7 @@ impl<A: Allocator + Copy> Image<A> {
     }
 
     /// The generation of a block's mark; 0 on a disk without generations.
-    #[tactic(auto, unfolding(crash_model::specs::Layout::mark_generation))]
+    #[tactic(auto, unfolding(crash_model::specs::Generations::mark_generation))]
     pub fn mark_generation(&self, block: u8) -> u8
         requires { block < self.now.blocks }
         ensures { result ≡ mark_generation self.now block }

@@ -5,7 +5,8 @@ use Rattle.patch_sets.specs.Sets.{Has}
 use Rattle.crash_model.specs.Checker.{Demands}
 use Rattle.crash_model.specs.Disk.{Disk}
 use Rattle.crash_model.specs.Patches.{deps_of}
-use Rattle.crash_model.specs.Trace.{Emitted, Tracing, IsGraphOf, depends}
+use Rattle.crash_model.specs.Trace.{Emitted, IsGraphOf, depends}
+use Rattle.crash_model.specs.Tracing.{Tracing}
 use Rattle.crash_model.specs.declared.patches.Patch.{Patch}
 use Rattle.crash_model.specs.declared.rules.Rule.{Rule}
 use Rattle.question_model.specs.Enough.{AreEnough, IsMinimalEnough, IsNeeded, rules_in, rules_but}

@@ -6,7 +6,8 @@ use Rattle.patch_sets.specs.Sets.{IsSubset}
 use Rattle.crash_model.specs.ChosenWaits.{emitted_waiting, tracing_waiting, demands_waiting}
 use Rattle.crash_model.specs.Checker.{Demands, IsFailingUnder}
 use Rattle.crash_model.specs.Disk.{Disk}
-use Rattle.crash_model.specs.Trace.{Emitted, Tracing}
+use Rattle.crash_model.specs.Trace.{Emitted}
+use Rattle.crash_model.specs.Tracing.{Tracing}
 use Rattle.crash_model.specs.Waiting.{Wait}
 use Rattle.crash_model.specs.declared.rules.Rule.{Rule}
 use Rattle.question_model.specs.EnoughLines.{all_waits, AreEnoughLines, IsMinimalLines, IsNeededLines}

@@ -4,7 +4,8 @@ use Rattle.std.specs.List.{All}
 use Rattle.crash_model.specs.ChosenWaits.{tracing_waiting, demands_waiting}
 use Rattle.crash_model.specs.Checker.{Demands}
 use Rattle.crash_model.specs.Disk.{Disk}
-use Rattle.crash_model.specs.Trace.{Tracing, IsGraphOf}
+use Rattle.crash_model.specs.Trace.{IsGraphOf}
+use Rattle.crash_model.specs.Tracing.{Tracing}
 use Rattle.traced_patches.specs.Traced.{TracedPatches}
 use Rattle.enough_deciding.specs.Rules.{IsTracingOf, tracing_of}
 use Rattle.enough_deciding.specs.declared.lines.Waiting.{Waiting}

@@ -2,9 +2,10 @@
 use Rattle.std.specs.Prelude.{◌≡◌, List, Option}
 use Rattle.crash_model.specs.Checker.{Demands}
 use Rattle.crash_model.specs.Disk.{Disk}
-use Rattle.crash_model.specs.RuleUse.{HasGraphBy}
-use Rattle.crash_model.specs.FaultRows.{HasFault}
-use Rattle.crash_model.specs.Trace.{Tracing, IsGraphOf, trace_start}
+use Rattle.crash_model.specs.OtherRules.{HasGraphBy}
+use Rattle.crash_model.specs.FirstSets.{HasFault}
+use Rattle.crash_model.specs.Trace.{IsGraphOf}
+use Rattle.crash_model.specs.Tracing.{Tracing, trace_start}
 use Rattle.crash_model.specs.declared.patches.Patch.{Patch}
 use Rattle.crash_model.specs.declared.rules.Rule.{Rule}
 use Rattle.question_model.specs.declared.decided_fault.DecidedFault.{DecidedFault}

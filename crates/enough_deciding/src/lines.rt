@@ -4,7 +4,7 @@ ghost use Rattle.std.specs.Prelude.{◌≡◌, ◌<◌, ◌≤◌, ℕ, length, 
 ghost use Rattle.std.specs.List.{All};
 ghost use Rattle.patch_sets.specs.Ends.{IsDifference};
 ghost use Rattle.patch_sets.specs.Sets.{AreAllInOrder};
-ghost use Rattle.crash_model.specs.Trace.{Tracing};
+ghost use Rattle.crash_model.specs.Tracing.{Tracing};
 ghost use Rattle.question_model.specs.EnoughLines.{all_waits, IsMinimalLines, IsNeededLines};
 ghost use Rattle.enough_deciding.specs.Lines.{IsScriptWaiting, HasWaits};
 

@@ -3,7 +3,7 @@
 ghost use Rattle.std.specs.Prelude.{◌<◌, IfOk};
 ghost use Rattle.std.specs.List.{All};
 ghost use Rattle.patch_sets.specs.Sets.{AreAllInOrder};
-ghost use Rattle.crash_model.specs.Trace.{Tracing};
+ghost use Rattle.crash_model.specs.Tracing.{Tracing};
 ghost use Rattle.question_model.specs.Enough.{rules_in, rules_but, IsMinimalEnough, IsNeeded};
 ghost use Rattle.enough_deciding.specs.Rules.{IsFirstBy, IsGraphBy, IsTracingOf};
 

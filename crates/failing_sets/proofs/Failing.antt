@@ -9,7 +9,9 @@ use Rattle.crash_model.specs.Disk.{Disk, with_bytes}
 use Rattle.crash_model.specs.Patches.{Place, places_of, image_from, image_of}
 use Rattle.crash_model.specs.Replay.{image_after_replay}
 use Rattle.crash_model.specs.Checker.{Demands, faults_under, IsFailingUnder}
-use Rattle.crash_model.specs.FaultRows.{IsFaultBefore, HasFault, AreRows}
+use Rattle.crash_model.specs.FaultRows.{AreRows}
+use Rattle.crash_model.specs.FaultOrder.{IsFaultBefore}
+use Rattle.crash_model.specs.FirstSets.{HasFault}
 use Rattle.crash_model.specs.declared.fault.Fault.{Fault}
 use Rattle.crash_model.specs.declared.fault.FaultRow.{FaultRow}
 use Rattle.crash_model.specs.declared.patches.Patch.{Patch}

@@ -8,7 +8,9 @@ use Rattle.set_sweep.specs.Sweeps.{IsAscendingListOf}
 use Rattle.crash_model.specs.Disk.{Disk}
 use Rattle.crash_model.specs.Patches.{CountsClosed, deps_of}
 use Rattle.crash_model.specs.Checker.{Demands, IsFailingUnder}
-use Rattle.crash_model.specs.FaultRows.{IsFaultBefore, HasFault, AreRows}
+use Rattle.crash_model.specs.FaultRows.{AreRows}
+use Rattle.crash_model.specs.FaultOrder.{IsFaultBefore}
+use Rattle.crash_model.specs.FirstSets.{HasFault}
 use Rattle.crash_model.specs.declared.fault.Fault.{Fault}
 use Rattle.crash_model.specs.declared.fault.FaultRow.{FaultRow}
 use Rattle.crash_model.specs.declared.patches.Patch.{Patch}

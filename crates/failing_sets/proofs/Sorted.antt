@@ -13,7 +13,8 @@ use Rattle.std.proofs.lemmas.List.Sorted.{IsPermutation-map, All-permutation, Co
 use Rattle.std.proofs.lemmas.List.Sorted.{sorted_far}
 use Rattle.std.proofs.lemmas.Map.Keys.{IsDistinct-IsPermutation}
 use Rattle.std.proofs.lemmas.Map.Made.{AllPairs-from_IsDistinct, IsDistinct-from_AllPairs}
-use Rattle.crash_model.specs.FaultRows.{numbers_of, IsFaultBefore, IsRow, AreRows}
+use Rattle.crash_model.specs.FaultRows.{IsRow, AreRows}
+use Rattle.crash_model.specs.FaultOrder.{numbers_of, IsFaultBefore}
 use Rattle.crash_model.specs.declared.fault.Fault.{Fault}
 use Rattle.crash_model.specs.declared.fault.FaultRow.{FaultRow}
 use Rattle.crash_model.proofs.FaultNumbers.{same_fault}

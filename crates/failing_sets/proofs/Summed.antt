@@ -17,7 +17,8 @@ use Rattle.patch_sets.specs.Sets.{IsBefore}
 use Rattle.patch_sets.proofs.Bits.{eq_or_not}
 use Rattle.patch_sets.proofs.Canonical.{before_trans, before_self}
 use Rattle.patch_sets.proofs.Lists.{front_or_rest, in_front, in_rest, in_none}
-use Rattle.crash_model.specs.FaultRows.{IsFirst, IsRow}
+use Rattle.crash_model.specs.FaultRows.{IsRow}
+use Rattle.crash_model.specs.FirstSets.{IsFirst}
 use Rattle.crash_model.specs.declared.fault.Fault.{Fault}
 use Rattle.crash_model.specs.declared.fault.FaultRow.{FaultRow}
 use Rattle.failing_sets.specs.Summed.{fault_of, TellsOnce, AreSummed, IsEarlier, IsNewRow, IsWiderRow, AddsRow}

@@ -5,7 +5,8 @@ use Rattle.patch_sets.specs.Sets.{AreAllInOrder}
 use Rattle.crash_model.specs.Disk.{Disk}
 use Rattle.crash_model.specs.Patches.{CountsClosed, deps_of}
 use Rattle.crash_model.specs.Checker.{Demands, IsFailingUnder}
-use Rattle.crash_model.specs.FaultRows.{HasFault, AreRows}
+use Rattle.crash_model.specs.FaultRows.{AreRows}
+use Rattle.crash_model.specs.FirstSets.{HasFault}
 use Rattle.crash_model.specs.declared.patches.Patch.{Patch}
 use Rattle.crash_model.specs.declared.visit.ReportBy.{ReportBy}
 use Rattle.crash_model.specs.declared.visit.ReportBy.TheVariants.{BySet, ByFault, ByRule}

@@ -4,7 +4,8 @@ ghost use Rattle.std.specs.Prelude.{◌<◌, IfOk};
 ghost use Rattle.std.specs.List.{All};
 ghost use Rattle.patch_sets.specs.Sets.{AreAllInOrder};
 ghost use Rattle.crash_model.specs.Checker.{IsFailingUnder};
-ghost use Rattle.crash_model.specs.FaultRows.{HasFault, AreRows};
+ghost use Rattle.crash_model.specs.FaultRows.{AreRows};
+ghost use Rattle.crash_model.specs.FirstSets.{HasFault};
 
 use crate::summary::Summary;
 use crash_image::rebuild;

@@ -3,7 +3,7 @@
 ghost use Rattle.std.specs.Prelude.{◌≡◌, ◌≢◌, ◌<◌, [], length, slice_index_or, IsPermutation, MatchOption};
 ghost use Rattle.std.specs.Prelude.{MatchBool, OnOk};
 ghost use Rattle.std.specs.List.{All, AllPairs, Contains};
-ghost use Rattle.crash_model.specs.FaultRows.{IsFaultBefore, numbers_of};
+ghost use Rattle.crash_model.specs.FaultOrder.{IsFaultBefore, numbers_of};
 ghost use Rattle.crash_model.specs.declared.fault.FaultRow.{FaultRow};
 
 use crash_model::fault::{Fault, FaultRow};

@@ -4,7 +4,8 @@ ghost use Rattle.std.specs.Prelude.{◌≡◌, ◌<◌, ◌≤◌, length, IfOk,
 ghost use Rattle.std.specs.List.{All};
 ghost use Rattle.patch_sets.specs.Closed.{AreEarlier};
 ghost use Rattle.crash_model.specs.Patches.{CountsClosed, ExceedsLimit, AreUndo, deps_of};
-ghost use Rattle.crash_model.specs.FaultRows.{HasFault, AreRows};
+ghost use Rattle.crash_model.specs.FaultRows.{AreRows};
+ghost use Rattle.crash_model.specs.FirstSets.{HasFault};
 ghost use Rattle.failing_sets.specs.Counted.{CountsFailing};
 
 use crate::summary::Summary;

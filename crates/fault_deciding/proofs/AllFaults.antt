@@ -10,7 +10,8 @@ use Rattle.crash_model.specs.Disk.{Disk}
 use Rattle.crash_model.specs.Layout.{target_of, links_of, pointer_of, is_data, is_live}
 use Rattle.crash_model.specs.Faults.{entries_to}
 use Rattle.crash_model.specs.Checker.{Demands, promised, all_faults, faults_under, counted_among}
-use Rattle.crash_model.specs.Promises.{Promise, broken_lines, breaks_line, is_broken}
+use Rattle.crash_model.specs.Promises.{Promise, breaks_line, is_broken}
+use Rattle.crash_model.specs.BrokenLines.{broken_lines}
 use Rattle.crash_model.specs.Faults.{is_dangling, has_low_links}
 use Rattle.crash_model.specs.declared.fault.Fault.{Fault}
 use Rattle.crash_model.specs.declared.fault.Fault.TheVariants.{Dangling, Twice, Unwritten, LowLinks, MarkedFree, Wild}

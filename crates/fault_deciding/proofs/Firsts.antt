@@ -10,7 +10,7 @@ use Rattle.patch_sets.proofs.Lists.{in_front, in_none}
 use Rattle.crash_model.specs.Patches.{deps_of, image_of}
 use Rattle.crash_model.specs.Replay.{image_after_replay}
 use Rattle.crash_model.specs.Checker.{Demands, faults_under, IsFailingUnder}
-use Rattle.crash_model.specs.FaultRows.{IsFirst}
+use Rattle.crash_model.specs.FirstSets.{IsFirst}
 use Rattle.crash_model.specs.declared.fault.Fault.{Fault}
 use Rattle.known_bytes.specs.Chains.{Change}
 use Rattle.known_bytes.proofs.ToldSets.{all_told}

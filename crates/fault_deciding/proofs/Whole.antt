@@ -7,7 +7,7 @@ use Rattle.std.proofs.lemmas.List.{length-map, take-append-le, take_all}
 use Rattle.std.proofs.Math.ListN.{get_or-map}
 use Rattle.std.proofs.lemmas.List.Elements.{All-weaker, All-contains, Contains-get_or}
 use Rattle.std.proofs.lemmas.List.Sorted.{IsPermutation-map, All-permutation, Contains-permutation}
-use Rattle.crash_model.specs.FaultRows.{IsFirst}
+use Rattle.crash_model.specs.FirstSets.{IsFirst}
 use Rattle.crash_model.specs.declared.fault.Fault.{Fault}
 use Rattle.question_model.specs.Decided.{AreDecided}
 use Rattle.question_model.specs.declared.decided_fault.DecidedFault.{DecidedFault}

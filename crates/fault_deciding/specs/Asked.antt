@@ -4,7 +4,8 @@ use Rattle.std.specs.List.{Contains}
 use Rattle.crash_model.specs.Checker.{Demands}
 use Rattle.crash_model.specs.Patches.{image_of}
 use Rattle.crash_model.specs.Replay.{image_after_replay}
-use Rattle.crash_model.specs.FaultRows.{IsFaultBefore, HasFault, IsFirst}
+use Rattle.crash_model.specs.FaultOrder.{IsFaultBefore}
+use Rattle.crash_model.specs.FirstSets.{HasFault, IsFirst}
 use Rattle.crash_model.specs.declared.fault.Fault.{Fault}
 use Rattle.question_model.specs.declared.decided_fault.DecidedFault.{DecidedFault}
 use Rattle.known_bytes.specs.Chains.{Change}

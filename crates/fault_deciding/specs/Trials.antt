@@ -1,7 +1,7 @@
 -- Faults that are tried, and what is taken of them.
 use Rattle.std.specs.Prelude.{◌≡◌, ◌≢◌, ℕ, ◌+◌, ◌<◌, ◌⊎◌, List, [], ◌∷◌, ◌++◌, length, map, slice_index_or, Some}
 use Rattle.std.specs.List.{All, AllPairs, Contains}
-use Rattle.crash_model.specs.FaultRows.{IsFaultBefore}
+use Rattle.crash_model.specs.FaultOrder.{IsFaultBefore}
 use Rattle.crash_model.specs.declared.fault.Fault.{Fault}
 use Rattle.question_model.specs.declared.decided_fault.DecidedFault.{DecidedFault}
 use Rattle.fault_deciding.specs.Asked.{IsFirstWith}

@@ -3,7 +3,7 @@
 ghost use Rattle.std.specs.Prelude.{◌<◌, ◌≤◌, ◌↔◌, ℕ, IfOk, IsTrue};
 ghost use Rattle.std.specs.List.{All};
 ghost use Rattle.crash_model.specs.Checker.{IsFailingUnder};
-ghost use Rattle.crash_model.specs.FaultRows.{HasFault};
+ghost use Rattle.crash_model.specs.FirstSets.{HasFault};
 ghost use Rattle.question_model.specs.Decided.{AreDecided};
 ghost use Rattle.fault_deciding.specs.Asked.{IsFirstFault};
 

@@ -10,8 +10,8 @@ use Rattle.crash_model.specs.Disk.{Disk}
 use Rattle.crash_model.specs.Patches.{deps_of}
 use Rattle.report_model.specs.Report.{Detail, AreSections, IsLed}
 use Rattle.crash_model.specs.Checker.{Demands, IsFailingUnder}
-use Rattle.crash_model.specs.FaultRows.{HasFault}
-use Rattle.crash_model.specs.Trace.{Tracing}
+use Rattle.crash_model.specs.FirstSets.{HasFault}
+use Rattle.crash_model.specs.Tracing.{Tracing}
 use Rattle.crash_model.specs.declared.patches.Patch.{Patch}
 use Rattle.crash_model.specs.declared.rules.Rule.{Rule}
 use Rattle.report_model.proofs.Leading.{sections_lead}

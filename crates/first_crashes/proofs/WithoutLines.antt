@@ -5,7 +5,8 @@ use Rattle.patch_sets.specs.Ends.{IsDifference}
 use Rattle.crash_model.specs.ChosenWaits.{tracing_waiting, demands_waiting}
 use Rattle.crash_model.specs.Checker.{Demands}
 use Rattle.crash_model.specs.Disk.{Disk}
-use Rattle.crash_model.specs.Trace.{Tracing, IsGraphOf}
+use Rattle.crash_model.specs.Trace.{IsGraphOf}
+use Rattle.crash_model.specs.Tracing.{Tracing}
 use Rattle.crash_model.specs.Waiting.{Wait}
 use Rattle.fault_deciding.proofs.Firsts.{some_fault}
 use Rattle.question_model.specs.EnoughLines.{all_waits, AreEnoughLines}

@@ -1,6 +1,7 @@
 -- A kind of fault, in the form of the report's definition.
 use Rattle.std.specs.Prelude.{◌≡◌, List, Ok}
-use Rattle.crash_model.specs.Trace.{Tracing, trace_start, trace_from, IsGraphOf}
+use Rattle.crash_model.specs.Trace.{trace_from, IsGraphOf}
+use Rattle.crash_model.specs.Tracing.{Tracing, trace_start}
 use Rattle.crash_model.specs.declared.patches.Patch.{Patch}
 use Rattle.crash_model.specs.declared.steps.Step.{Step}
 use Rattle.report_sections.specs.Sections.{section_of}

@@ -2,8 +2,8 @@
 use Rattle.std.specs.Prelude.{ℕ, Bool}
 use Rattle.patch_sets.specs.Ends.{IsDifference}
 use Rattle.crash_model.specs.ChosenWaits.{tracing_waiting, demands_waiting}
-use Rattle.crash_model.specs.RuleUse.{HasGraphBy}
-use Rattle.crash_model.specs.Trace.{Tracing}
+use Rattle.crash_model.specs.OtherRules.{HasGraphBy}
+use Rattle.crash_model.specs.Tracing.{Tracing}
 use Rattle.question_model.specs.EnoughLines.{all_waits, AreEnoughLines}
 use Rattle.question_model.specs.EnoughReport.{IsToldFirst, ToldGroup}
 use Rattle.enough_deciding.specs.Lines.{waits_of}

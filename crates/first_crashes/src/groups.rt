@@ -2,7 +2,7 @@
 
 ghost use Rattle.std.specs.Prelude.{◌≡◌, map, IfOk};
 ghost use Rattle.std.specs.List.{All};
-ghost use Rattle.crash_model.specs.Trace.{Tracing};
+ghost use Rattle.crash_model.specs.Tracing.{Tracing};
 ghost use Rattle.question_model.specs.EnoughReport.{IsToldGroup};
 ghost use Rattle.enough_deciding.specs.Rules.{IsTracingOf};
 ghost use Rattle.question_reports.specs.EnoughFindings.{told_first, told_group};

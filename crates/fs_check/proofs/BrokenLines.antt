@@ -9,7 +9,8 @@ use Rattle.std.proofs.lemmas.List.Folds.{list_any_more}
 use Rattle.patch_sets.proofs.Ids.{eq_from_true}
 use Rattle.crash_model.specs.Disk.{Disk}
 use Rattle.crash_model.specs.Lists.{some_below, when}
-use Rattle.crash_model.specs.Promises.{Promise, is_broken, breaks_line, lines_end, broken_lines}
+use Rattle.crash_model.specs.Promises.{Promise, is_broken, breaks_line}
+use Rattle.crash_model.specs.BrokenLines.{lines_end, broken_lines}
 use Rattle.crash_model.specs.declared.fault.Fault.{Fault}
 use Rattle.crash_model.specs.declared.fault.Fault.TheVariants.{BrokenPromise}
 use Rattle.crash_model.proofs.Clean.{some_none}

@@ -15,7 +15,8 @@ use Rattle.crash_model.specs.Faults.{faults, each_slot, is_dangling, is_twice, h
 use Rattle.crash_model.specs.Faults.{is_wild, entries_to, each_entry}
 use Rattle.crash_model.specs.Strict.{strict_faults, is_lost, lacks_block}
 use Rattle.crash_model.specs.Atomic.{ShowsSome, atomic_faults, is_half_done}
-use Rattle.crash_model.specs.Promises.{broken_lines, breaks_line, lines_end}
+use Rattle.crash_model.specs.Promises.{breaks_line}
+use Rattle.crash_model.specs.BrokenLines.{broken_lines, lines_end}
 use Rattle.crash_model.specs.Checker.{Demands, IsCleanUnder, faults_keeping, faults_showing, promised, counted_among}
 use Rattle.crash_model.specs.FaultKinds.{fault_number}
 use Rattle.crash_model.specs.declared.fault.Fault.{Fault}

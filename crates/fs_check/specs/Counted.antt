@@ -6,7 +6,7 @@ use Rattle.crash_model.specs.Disk.{Disk}
 use Rattle.crash_model.specs.Faults.{is_dangling, is_twice, is_unwritten, has_low_links, is_marked_free, is_wild}
 use Rattle.crash_model.specs.Strict.{is_lost, lacks_block}
 use Rattle.crash_model.specs.Atomic.{ShowsSome}
-use Rattle.crash_model.specs.Promises.{broken_lines}
+use Rattle.crash_model.specs.BrokenLines.{broken_lines}
 use Rattle.crash_model.specs.Checker.{Demands, IsCleanKeeping, promised}
 use Rattle.fs_check.specs.declared.list.Test.{Test}
 use Rattle.fs_check.specs.declared.list.Test.TheVariants.{IsUnwritten, IsMarkedFree, IsWild}

@@ -2,7 +2,8 @@
 
 ghost use Rattle.std.specs.Prelude.{◌≡◌, ◌<◌, ◌≤◌, ◌==◌, ◌&&◌, ◌++◌, ◌↔◌, [], None, Some, IsTrue, IfSome, OnOk, MatchOption};
 ghost use Rattle.std.specs.List.{list_any, find};
-ghost use Rattle.crash_model.specs.Promises.{is_broken, is_allowed, is_spared, broken_lines, paths_show};
+ghost use Rattle.crash_model.specs.Promises.{is_broken, is_allowed, is_spared, paths_show};
+ghost use Rattle.crash_model.specs.BrokenLines.{broken_lines};
 ghost use Rattle.fs_check.specs.Broken.{line_behind, IsNextBroken};
 
 use crash_model::fault::Fault;

@@ -10,7 +10,8 @@ use Rattle.crash_model.specs.Patches.{Place, place, overlap}
 use Rattle.crash_model.specs.Plan.{with_changes}
 use Rattle.crash_model.specs.Rules.{has_part, are_scoped, journal_rules}
 use Rattle.crash_model.specs.Trace.{Emitted, Origin, part_of, in_place_patch, copies, journal_patches, touched_blocks}
-use Rattle.crash_model.specs.Trace.{applies, depends, shares_block, groups_depend, waits_for}
+use Rattle.crash_model.specs.Trace.{applies, depends, groups_depend, waits_for}
+use Rattle.crash_model.specs.WholeBlocks.{shares_block}
 use Rattle.crash_model.specs.declared.rules.Part.{Part}
 use Rattle.crash_model.specs.declared.rules.Part.TheVariants.{InPlace, Copy, Commit, Done}
 use Rattle.crash_model.specs.declared.rules.Rule.{Rule}

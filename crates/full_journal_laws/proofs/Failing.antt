@@ -9,13 +9,13 @@ use Rattle.crash_model.specs.Lists.{when, some_below}
 use Rattle.crash_model.specs.Sound.{HasZeroJournal}
 use Rattle.crash_model.specs.Patches.{image_of}
 use Rattle.crash_model.specs.Replay.{image_after_replay}
-use Rattle.crash_model.specs.Checker.{Demands, Asked, AreDemands, IsCleanKeeping, IsFailingUnder}
-use Rattle.crash_model.specs.Checker.{faults_keeping, faults_showing, all_faults, counted_among, promised}
+use Rattle.crash_model.specs.Checker.{Demands, Asked, AreDemands, IsCleanKeeping, IsFailingUnder, faults_keeping}
+use Rattle.crash_model.specs.Checker.{faults_showing, all_faults, counted_among, promised, IsToldKept}
 use Rattle.crash_model.specs.Atomic.{ShowsSome}
 use Rattle.crash_model.specs.FaultKinds.{fault_number}
-use Rattle.crash_model.specs.Promises.{Promise, breaks_line, lines_end, broken_lines}
-use Rattle.crash_model.specs.Strict.{IsToldKept}
-use Rattle.crash_model.specs.Trace.{Tracing}
+use Rattle.crash_model.specs.Promises.{Promise, breaks_line}
+use Rattle.crash_model.specs.BrokenLines.{lines_end, broken_lines}
+use Rattle.crash_model.specs.Tracing.{Tracing}
 use Rattle.crash_model.specs.declared.fault.Fault.{Fault}
 use Rattle.crash_model.specs.declared.fault.Fault.TheVariants.{BrokenPromise}
 use Rattle.crash_model.specs.declared.patches.Patch.{Patch}

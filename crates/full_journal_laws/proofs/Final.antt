@@ -11,14 +11,16 @@ use Rattle.crash_model.specs.Sound.{IsSound, HasZeroJournal}
 use Rattle.patch_sets.specs.Sets.{Has, has}
 use Rattle.patch_sets.specs.Closed.{IsClosed}
 use Rattle.crash_model.specs.Patches.{Place, place, image_from, image_of, deps_of}
-use Rattle.crash_model.specs.Plan.{with_changes, with_plan}
+use Rattle.crash_model.specs.Plan.{with_changes}
+use Rattle.crash_model.specs.StepDisks.{with_plan}
 use Rattle.crash_model.specs.declared.operations.Op.{Op}
 use Rattle.crash_model.specs.declared.refusals.FsFault.{FsFault}
 use Rattle.inode_fs.specs.Inside.{GivesName}
 use Rattle.crash_model.specs.Replay.{is_header, headers_from, headers, copy_in, copy_after, count_of, targets_of}
 use Rattle.crash_model.specs.Replay.{image_after_replay}
-use Rattle.crash_model.specs.Trace.{Emitted, Origin, Tracing, trace_start, trace_from, journal_patches, copies}
-use Rattle.crash_model.specs.Trace.{in_place_patch, part_of, touched_blocks, IsGraphOf}
+use Rattle.crash_model.specs.Trace.{Emitted, Origin, trace_from, journal_patches, copies, in_place_patch, part_of}
+use Rattle.crash_model.specs.Trace.{touched_blocks, IsGraphOf}
+use Rattle.crash_model.specs.Tracing.{Tracing, trace_start}
 use Rattle.crash_model.specs.Rules.{journal_rules}
 use Rattle.crash_model.specs.RuleFacts.{AreAmong}
 use Rattle.crash_model.specs.declared.rules.Part.TheVariants.{Commit, Done}

@@ -13,11 +13,12 @@ use Rattle.crash_model.specs.Layout.{kind_of, pointer_of, is_live, is_data, is_e
 use Rattle.crash_model.specs.Faults.{leads_to}
 use Rattle.crash_model.specs.Sound.{IsSound, ReachedIn}
 use Rattle.crash_model.specs.Patches.{image_of}
-use Rattle.crash_model.specs.Plan.{plan_of, with_plan}
+use Rattle.crash_model.specs.Plan.{plan_of}
+use Rattle.crash_model.specs.StepDisks.{with_plan, disk_after}
 use Rattle.crash_model.specs.Replay.{image_after_replay}
-use Rattle.crash_model.specs.Strict.{disk_after, stays_live, IsKept, has_entry_to, is_reached, LosesNothing}
+use Rattle.crash_model.specs.Strict.{stays_live, IsKept, has_entry_to, is_reached, LosesNothing}
 use Rattle.crash_model.specs.Checker.{IsCleanKeeping}
-use Rattle.crash_model.specs.Trace.{Tracing}
+use Rattle.crash_model.specs.Tracing.{Tracing}
 use Rattle.crash_model.specs.declared.patches.Patch.{Patch}
 use Rattle.crash_model.specs.declared.steps.Act.{Act}
 use Rattle.crash_model.specs.declared.steps.Act.TheVariants.{Do, Group, End, Depend, Sync, Fsync, Keep, Hold, Spare}

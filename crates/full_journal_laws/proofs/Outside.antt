@@ -5,7 +5,8 @@ use mathlib.Core.Path.{fun_ext}
 use Rattle.std.proofs.lemmas.Bool.{cases_lt}
 use Rattle.std.proofs.lemmas.Grind.{elements, same_number_lists}
 use Rattle.crash_model.specs.Disk.{Disk, IsDisk, byte, block_of}
-use Rattle.crash_model.specs.Layout.{kind_of, links_of, pointer_of, map_of, is_data, generation_of}
+use Rattle.crash_model.specs.Layout.{kind_of, links_of, pointer_of, map_of, is_data}
+use Rattle.crash_model.specs.Generations.{generation_of}
 use Rattle.crash_model.specs.Sound.{IsSound}
 use Rattle.soundness_laws.specs.Tables.{tables_of, place_of, within, Sound}
 use Rattle.soundness_laws.specs.Tables.Place.{Free}

@@ -12,9 +12,9 @@ use Rattle.patch_sets.proofs.Ids.{eq_from_true}
 use Rattle.crash_model.specs.Disk.{Disk, IsDisk, block_of}
 use Rattle.crash_model.specs.Layout.{pointer_of, is_pointer, is_data}
 use Rattle.crash_model.specs.Lists.{when}
-use Rattle.crash_model.specs.Plan.{plan_of, with_plan}
+use Rattle.crash_model.specs.Plan.{plan_of}
+use Rattle.crash_model.specs.StepDisks.{with_plan, disk_after}
 use Rattle.crash_model.specs.Sound.{IsSound}
-use Rattle.crash_model.specs.Strict.{disk_after}
 use Rattle.crash_model.specs.Atomic.{is_same_disk, with_disk, disks_from, disks_of, shows, ShowsSome}
 use Rattle.crash_model.specs.declared.steps.Act.{Act}
 use Rattle.crash_model.specs.declared.steps.Act.TheVariants.{Do, Group, End, Depend, Sync, Fsync, Keep, Hold, Spare}

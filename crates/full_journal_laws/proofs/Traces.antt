@@ -7,8 +7,9 @@ use Rattle.std.specs.List.{list_any}
 use Rattle.std.proofs.lemmas.List.Elements.{All-nil, All-cons, All-head, All-tail}
 use Rattle.crash_model.specs.Disk.{Disk}
 use Rattle.crash_model.specs.Plan.{then_ok, unless, with_found, plan_of, with_changes}
-use Rattle.crash_model.specs.Trace.{Emitted, Origin, origin_at, Tracing, trace_from, step, trace_of_plan}
-use Rattle.crash_model.specs.Trace.{journal_patches, touched_blocks, is_among, is_same_group}
+use Rattle.crash_model.specs.Trace.{Emitted, Origin, origin_at, trace_from, step, trace_of_plan, journal_patches}
+use Rattle.crash_model.specs.Trace.{touched_blocks, is_among, is_same_group}
+use Rattle.crash_model.specs.Tracing.{Tracing}
 use Rattle.crash_model.specs.Refusals.{trace_fault}
 use Rattle.crash_model.specs.declared.operations.Op.{Op}
 use Rattle.crash_model.specs.declared.refusals.FsFault.{FsFault}
@@ -17,7 +18,7 @@ use Rattle.crash_model.specs.declared.refusals.TraceFault.TheVariants as fault
 use Rattle.crash_model.specs.declared.plans.Change.{Change}
 use Rattle.crash_model.specs.declared.modules.Module.TheVariants.{Full}
 use Rattle.crash_model.specs.Paths.{is_same_path}
-use Rattle.crash_model.specs.Trace.{with_wait, when_found, target_found}
+use Rattle.crash_model.specs.WaitSteps.{with_wait, when_found, target_found}
 use Rattle.crash_model.specs.Waiting.{forced_by_sync, forced_by_fsync}
 use Rattle.crash_model.specs.declared.steps.Act.TheVariants.{Do, Group, End, Depend, Sync, Fsync, Keep, Hold, Spare}
 use Rattle.crash_model.specs.declared.steps.Target.TheVariants.{At}

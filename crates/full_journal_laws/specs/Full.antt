@@ -7,11 +7,13 @@ use Rattle.patch_sets.specs.Closed.{IsClosed}
 use Rattle.crash_model.specs.Disk.{Disk, block_of}
 use Rattle.crash_model.specs.Atomic.{shows}
 use Rattle.crash_model.specs.Checker.{Demands, promised}
-use Rattle.crash_model.specs.Plan.{plan_of, with_plan}
+use Rattle.crash_model.specs.Plan.{plan_of}
+use Rattle.crash_model.specs.StepDisks.{with_plan}
 use Rattle.crash_model.specs.Sound.{IsSound}
 use Rattle.crash_model.specs.Patches.{deps_of, image_of}
 use Rattle.crash_model.specs.Replay.{image_after_replay}
-use Rattle.crash_model.specs.Trace.{Emitted, Tracing, trace_start, trace_from}
+use Rattle.crash_model.specs.Trace.{Emitted, trace_from}
+use Rattle.crash_model.specs.Tracing.{Tracing, trace_start}
 use Rattle.crash_model.specs.declared.rules.Part.{Part}
 use Rattle.crash_model.specs.declared.rules.Part.TheVariants.{Commit}
 use Rattle.crash_model.specs.declared.operations.Op.{Op}

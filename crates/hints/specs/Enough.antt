@@ -1,7 +1,9 @@
 -- Disks that are large enough for a script.
 use Rattle.std.specs.Prelude.{◌≡◌, ℕ, List, Bool, Option, None, Ok}
-use Rattle.crash_model.specs.Disk.{Disk, new_disk}
-use Rattle.crash_model.specs.Trace.{Tracing, base_from, trace_start, trace_from}
+use Rattle.crash_model.specs.Disk.{Disk}
+use Rattle.crash_model.specs.Generations.{new_disk}
+use Rattle.crash_model.specs.Trace.{base_from, trace_from}
+use Rattle.crash_model.specs.Tracing.{Tracing, trace_start}
 use Rattle.crash_model.specs.declared.modules.Module.{Module}
 use Rattle.crash_model.specs.declared.steps.Step.{Step}
 use Rattle.hints.specs.declared.room.Enough.{Enough}

@@ -1,7 +1,7 @@
 //! Scripts on disks of several sizes: which is enough, and how many closed sets there are.
 
 ghost use Rattle.std.specs.Prelude.{◌≡◌, ◌≤◌, Ok, IfOk, IfSome, OnOk};
-ghost use Rattle.crash_model.specs.Disk.{new_disk};
+ghost use Rattle.crash_model.specs.Generations.{new_disk};
 ghost use Rattle.crash_model.specs.Trace.{base_from};
 ghost use Rattle.hints.specs.Enough.{FitsOn, IsEnough};
 

@@ -5,7 +5,8 @@ use Rattle.std.proofs.lemmas.Bool.{cases_eq, cases_lt, lt-ltb, le-ltb, false≢t
 use Rattle.crash_model.specs.Disk.{Disk, IsDisk}
 use Rattle.crash_model.specs.Names.{IsName}
 use Rattle.crash_model.specs.Lists.{some_below}
-use Rattle.crash_model.specs.Layout.{kind_of, links_of, pointer_of, is_data, target_of, is_entry, generation_of}
+use Rattle.crash_model.specs.Layout.{kind_of, links_of, pointer_of, is_data, target_of, is_entry}
+use Rattle.crash_model.specs.Generations.{generation_of}
 use Rattle.crash_model.specs.Plan.{name_spelling, inode_init, inode_free, map_set, map_clears, map_clear_at, init_block}
 use Rattle.crash_model.specs.Plan.{pointer_set, entry_set, entry_clear, link_count, has_entries, with_changes}
 use Rattle.crash_model.specs.declared.names.Path.{Path}

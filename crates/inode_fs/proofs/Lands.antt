@@ -11,11 +11,11 @@ use Rattle.crash_model.specs.Lists.{some_below, when}
 use Rattle.crash_model.specs.Layout.{links_of, pointer_of, counts, is_data, target_of, entry_offset}
 use Rattle.crash_model.specs.Plan.{name_spelling, is_named, is_free_entry, is_free_block, is_free_slot, is_free_inode}
 use Rattle.crash_model.specs.Plan.{change, at_inode, inode_free, link_count, entry_set, map_clear, init_block}
-use Rattle.crash_model.specs.Plan.{next_generation, name_dropped, new_data, new_data_at, new_data_in, touch, touched_of}
-use Rattle.crash_model.specs.Layout.{generation_of}
+use Rattle.crash_model.specs.Plan.{name_dropped, new_data, new_data_at, new_data_in, touch, touched_of, map_clear_at}
+use Rattle.crash_model.specs.Plan.{map_clears, plan_of, with_changes}
+use Rattle.crash_model.specs.Generations.{next_generation, generation_of}
 use Rattle.crash_model.specs.Slots.{slot_number}
 use Rattle.crash_model.specs.declared.operations.Slot.{Slot}
-use Rattle.crash_model.specs.Plan.{map_clear_at, map_clears, plan_of, with_changes}
 use Rattle.crash_model.specs.declared.names.Path.{Path}
 use Rattle.crash_model.specs.declared.operations.Op.{Op}
 use Rattle.crash_model.specs.declared.operations.Op.TheVariants.{Create, Write, Link, Unlink, Rename, Mkdir, Rmdir}

@@ -7,7 +7,9 @@ use Rattle.crash_model.specs.Disk.{Disk}
 use Rattle.crash_model.specs.Layout.{is_live}
 use Rattle.crash_model.specs.Lists.{when}
 use Rattle.crash_model.specs.Atomic.{with_disk, disks_from, disks_of}
-use Rattle.crash_model.specs.Strict.{disk_after, stays_live, IsToldKept}
+use Rattle.crash_model.specs.Strict.{stays_live}
+use Rattle.crash_model.specs.StepDisks.{disk_after}
+use Rattle.crash_model.specs.Checker.{IsToldKept}
 use Rattle.crash_model.specs.declared.steps.Step.{Step}
 use Rattle.inode_fs.specs.Demanding.{disk_after_all, SoFar, IsSoFar, TakesStep, AreStillKept}
 

@@ -5,8 +5,8 @@ use Rattle.crash_model.specs.Disk.{Disk}
 use Rattle.crash_model.specs.Layout.{is_live}
 use Rattle.crash_model.specs.Lists.{when}
 use Rattle.crash_model.specs.Atomic.{disks_of}
-use Rattle.crash_model.specs.Checker.{Demands}
-use Rattle.crash_model.specs.Strict.{disk_after, IsToldKept}
+use Rattle.crash_model.specs.Checker.{Demands, IsToldKept}
+use Rattle.crash_model.specs.StepDisks.{disk_after}
 use Rattle.crash_model.specs.declared.steps.Step.{Step}
 
 -- the disk after all of the steps

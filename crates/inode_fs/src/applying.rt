@@ -2,7 +2,7 @@
 
 ghost use Rattle.std.specs.Prelude.{◌≡◌, ◌≤◌, All};
 ghost use Rattle.crash_model.specs.Plan.{with_changes};
-ghost use Rattle.crash_model.specs.Strict.{disk_after};
+ghost use Rattle.crash_model.specs.StepDisks.{disk_after};
 ghost use Rattle.inode_fs.specs.Inside.{LiesInside};
 
 use crate::planning::plan;

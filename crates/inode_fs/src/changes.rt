@@ -3,8 +3,8 @@
 ghost use Rattle.std.specs.Prelude.{◌≡◌, ◌<◌, ◌≤◌, ◌+◌, ◌-◌, ◌*◌, ◌++◌, length, replicate};
 ghost use Rattle.crash_model.specs.Names.{IsName};
 ghost use Rattle.crash_model.specs.Plan.{at_inode, inode_init, inode_free, link_count, pointer_set, entry_set};
-ghost use Rattle.crash_model.specs.Plan.{entry_clear, map_set, map_clear, init_block, next_generation, new_data, touch};
-ghost use Rattle.crash_model.specs.Plan.{pointers_clear};
+ghost use Rattle.crash_model.specs.Plan.{entry_clear, map_set, map_clear, init_block, new_data, touch, pointers_clear};
+ghost use Rattle.crash_model.specs.Generations.{next_generation};
 
 use arrayvec::ArrayVec;
 use crash_model::disk_bytes::{
@@ -89,7 +89,7 @@ pub fn inode_free<A: Allocator + Copy>(image: &Image<A>, inode: u8) -> Change
 }
 
 /// The generation after that of an inode; 0 on a disk without generations.
-#[tactic(auto, unfolding(crash_model::specs::Plan::next_generation))]
+#[tactic(auto, unfolding(crash_model::specs::Generations::next_generation))]
 fn next_generation<A: Allocator + Copy>(image: &Image<A>, inode: u8) -> u8
     requires { inode < INODES }
     ensures { result ≡ next_generation image.now inode }

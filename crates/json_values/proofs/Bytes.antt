@@ -13,7 +13,7 @@ use Rattle.serde_json.specs.Data.{Data, string, array}
 use Rattle.serde_json.specs.View.{items_of}
 use Rattle.serde_json.specs.Written.{compact_text, items_text, has_float, items_have_float}
 use Rattle.crash_model.specs.Lists.{join_of}
-use Rattle.report_model.specs.Report.{json_string, json_array}
+use Rattle.report_model.specs.JsonParts.{json_string, json_array}
 use Rattle.json_values.specs.Patches.{hex_data}
 
 -- ---- text that needs no escapes

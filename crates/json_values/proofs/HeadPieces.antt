@@ -2,7 +2,8 @@
 use Rattle.std.proofs.Common.{◌≡◌, ℕ, List, ◌++◌, map, codes, Bool, true, ap, ◌∙◌, append_assoc}
 use Rattle.crash_model.specs.Lists.{join_of}
 use Rattle.crash_model.specs.declared.fault.Fault.{Fault}
-use Rattle.report_model.specs.FaultKeys.{all_numbers_key, fault_numbers, faults_head}
+use Rattle.report_model.specs.FaultKeys.{faults_head}
+use Rattle.report_model.specs.FaultNumbers.{all_numbers_key, fault_numbers}
 use Rattle.json_values.specs.Known.{fault_json}
 use Rattle.json_values.proofs.SectionPieces.{three_pieces}
 

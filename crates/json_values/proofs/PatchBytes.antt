@@ -14,12 +14,14 @@ use Rattle.serde_json.specs.Data.{Data, string}
 use Rattle.serde_json.specs.declared.value.Value.{Value}
 use Rattle.crash_model.specs.Reasons.{Dependency, ToldPatch, reasons}
 use Rattle.report_model.specs.Explain.{told_json, dependency_json}
-use Rattle.crash_model.specs.Texts.{op_text}
+use Rattle.crash_model.specs.PatchTexts.{op_text, part_text}
 use Rattle.crash_model.specs.Lists.{some_below, when}
 use Rattle.crash_model.specs.Names.{is_name_byte, IsName}
-use Rattle.report_model.specs.Report.{json_string, json_array}
-use Rattle.crash_model.specs.Rules.{role_text, part_text, rule_part_text, scope_text, rule_text}
-use Rattle.crash_model.specs.Script.{IsPath, IsAct, path_text}
+use Rattle.report_model.specs.JsonParts.{json_string, json_array}
+use Rattle.crash_model.specs.Rules.{role_text}
+use Rattle.crash_model.specs.RuleTexts.{rule_part_text, scope_text, rule_text}
+use Rattle.crash_model.specs.Script.{IsAct}
+use Rattle.crash_model.specs.PathTexts.{IsPath, path_text}
 use Rattle.crash_model.specs.Trace.{Emitted, depends}
 use Rattle.crash_model.specs.declared.operations.Op.{Op}
 use Rattle.crash_model.specs.declared.operations.Op.TheVariants.{Create, Write, Link, Unlink, Rename, Mkdir, Rmdir}

@@ -1,8 +1,8 @@
 -- The entry of a rule, written piece by piece.
 use Rattle.std.proofs.Common.{◌≡◌, ℕ, List, ◌++◌, codes, decimal, ap, ◌∙◌, append_assoc}
-use Rattle.crash_model.specs.Rules.{rule_text}
+use Rattle.crash_model.specs.RuleTexts.{rule_text}
 use Rattle.crash_model.specs.declared.rules.Rule.{Rule}
-use Rattle.report_model.specs.Parts.{Form}
+use Rattle.report_model.specs.JsonParts.{Form}
 use Rattle.report_model.specs.Needs as needs
 use Rattle.report_model.specs.Needs.{Without, first_json, told_rule_json}
 

@@ -4,9 +4,10 @@ use Rattle.crash_model.specs.Lists.{join_of}
 use Rattle.crash_model.specs.declared.fault.Fault.{Fault}
 use Rattle.crash_model.specs.declared.fault.FaultRow.{FaultRow}
 use Rattle.report_model.specs.FaultKeys.{fault_head, faults_head}
-use Rattle.report_model.specs.Report.{Form, Section, ReplayedBlock, ids_json, replayed_json, replay_json, section_json}
-use Rattle.report_model.specs.Report.{write_json, writes_json}
-use Rattle.report_model.specs.Shows.{shows_json}
+use Rattle.report_model.specs.Report.{Section}
+use Rattle.report_model.specs.JsonParts.{Form, ids_json}
+use Rattle.report_model.specs.Replayed.{ReplayedBlock, replayed_json}
+use Rattle.report_model.specs.SectionJson.{replay_json, section_json, write_json, writes_json, shows_json}
 use Rattle.report_model.specs.Summary.{told_fault_json}
 use Rattle.json_values.specs.Items.{crash_json, fault_shows_json, last_json, leading_json}
 

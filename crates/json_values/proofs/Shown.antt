@@ -6,8 +6,10 @@ use Rattle.std.proofs.lemmas.List.{append-nil, take_more}
 use Rattle.crash_model.specs.Lists.{join_of}
 use Rattle.crash_model.specs.ShownTexts.{shown_text}
 use Rattle.crash_model.specs.declared.showing.Shown.{Shown}
-use Rattle.report_model.specs.Report.{json_string}
-use Rattle.report_model.specs.Shows.{together, shows_if, shows_json}
+use Rattle.report_model.specs.JsonParts.{json_string}
+use Rattle.report_model.specs.Shows.{together}
+use Rattle.report_model.specs.FaultLines.{shows_if}
+use Rattle.report_model.specs.SectionJson.{shows_json}
 use Rattle.report_sections.proofs.Pieces.{array_pieces}
 use Rattle.json_values.specs.Items.{bar_before}
 

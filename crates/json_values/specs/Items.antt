@@ -1,8 +1,10 @@
 -- The items of an array, one at a time, and the last keys of an object.
 use Rattle.std.specs.Prelude.{ℕ, zero, suc, List, [], ◌++◌, option_map, codes}
 use Rattle.crash_model.specs.declared.fault.Fault.{Fault}
-use Rattle.report_model.specs.Report.{Section, ids_json, replay_json, writes_json}
-use Rattle.report_model.specs.Shows.{shown_of, shows_json}
+use Rattle.report_model.specs.Report.{Section}
+use Rattle.report_model.specs.JsonParts.{ids_json}
+use Rattle.report_model.specs.SectionJson.{replay_json, writes_json, shows_json}
+use Rattle.report_model.specs.Shows.{shown_of}
 
 -- the comma before the item at a place
 abbrev pub comma_before : ℕ → List ℕ

@@ -3,7 +3,8 @@ use Rattle.std.specs.Prelude.{◌≡◌, ℕ, List, length, Option, IfSome, stri
 use Rattle.std.specs.List.{All}
 use Rattle.crash_model.specs.Texts.{fault_text}
 use Rattle.crash_model.specs.declared.fault.Fault.{Fault}
-use Rattle.report_model.specs.Report.{json_string, write_json}
+use Rattle.report_model.specs.JsonParts.{json_string}
+use Rattle.report_model.specs.SectionJson.{write_json}
 use Rattle.json_values.specs.declared.known.KnownWrite.{KnownWrite}
 use Rattle.json_values.specs.declared.known.KnownFault.{KnownFault}
 

@@ -4,9 +4,8 @@ use Rattle.hex.specs.Hex.{encode_lower, IsBytes}
 use Rattle.serde_json.specs.Data.{Data, Members, number, unsigned, string, array, object, member, no_members, put}
 use Rattle.serde_json.specs.View.{items_of}
 use Rattle.crash_model.specs.Reasons.{Dependency, ToldPatch}
-use Rattle.crash_model.specs.Texts.{op_text}
+use Rattle.crash_model.specs.PatchTexts.{op_text, part_text}
 use Rattle.crash_model.specs.Patches.{Place}
-use Rattle.crash_model.specs.Rules.{part_text}
 use Rattle.crash_model.specs.Script.{IsAct}
 use Rattle.crash_model.specs.Trace.{Emitted}
 use Rattle.crash_model.specs.declared.steps.Act.TheVariants.{Do}

@@ -3,7 +3,7 @@
 
 ghost use Rattle.std.specs.Prelude.{◌≡◌, ◌++◌, ℕ, length, string_bytes, IfOk, IfSome, None, OnOk};
 ghost use Rattle.std.specs.List.{All};
-ghost use Rattle.report_model.specs.Report.{write_json};
+ghost use Rattle.report_model.specs.SectionJson.{write_json};
 ghost use Rattle.json_values.specs.Known.{fault_json};
 
 use crate::sections::push_set;
@@ -45,7 +45,7 @@ pub struct KnownTexts {
 }
 
 impl Model for KnownTexts {
-    ghost use Rattle.report_model.specs.Parts.{Form};
+    ghost use Rattle.report_model.specs.JsonParts.{Form};
     ghost use Rattle.json_values.specs.Known.{AreKnown};
 
     ghost Value = { Form };

@@ -2,8 +2,8 @@
 
 ghost use Rattle.std.specs.Prelude.{◌≡◌, ◌++◌, map, string_bytes, OnOk};
 ghost use Rattle.crash_model.specs.Lists.{join_of};
-ghost use Rattle.report_model.specs.FaultKeys.{all_numbers_key, fault_head, fault_numbers, faults_head};
-ghost use Rattle.report_model.specs.FaultKeys.{numbers_key, pointer_json};
+ghost use Rattle.report_model.specs.FaultKeys.{fault_head, faults_head};
+ghost use Rattle.report_model.specs.FaultNumbers.{all_numbers_key, fault_numbers, numbers_key, pointer_json};
 
 use crate::items::write_comma;
 use crate::known::KnownTexts;

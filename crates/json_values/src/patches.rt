@@ -4,7 +4,7 @@ ghost use Rattle.std.specs.Prelude.{◌≡◌, ◌++◌, ◌<◌, length, map, I
 ghost use Rattle.std.specs.Prelude.{option_map, option_to_list, slice_get};
 ghost use Rattle.crash_model.specs.Reasons.{ToldPatch};
 ghost use Rattle.report_model.specs.Explain.{told_json};
-ghost use Rattle.crash_model.specs.Texts.{op_text};
+ghost use Rattle.crash_model.specs.PatchTexts.{op_text};
 ghost use Rattle.crash_model.specs.Lists.{some_below};
 ghost use Rattle.crash_model.specs.Patches.{place};
 ghost use Rattle.crash_model.specs.Script.{IsAct};

@@ -4,9 +4,10 @@ ghost use Rattle.std.specs.Prelude.{◌≡◌, ◌++◌, decimal, map, string_by
 ghost use Rattle.crash_model.specs.Lists.{join_of};
 ghost use Rattle.hex.specs.Hex.{encode_lower};
 ghost use Rattle.patch_sets.specs.Sets.{ids_of};
-ghost use Rattle.report_model.specs.Report.{ids_json, json_string, replay_json, replayed_json, section_json};
-ghost use Rattle.report_model.specs.Report.{write_json, writes_json};
-ghost use Rattle.report_model.specs.Shows.{shows_json, together};
+ghost use Rattle.report_model.specs.JsonParts.{ids_json, json_string};
+ghost use Rattle.report_model.specs.SectionJson.{replay_json, section_json, write_json, writes_json, shows_json};
+ghost use Rattle.report_model.specs.Replayed.{replayed_json};
+ghost use Rattle.report_model.specs.Shows.{together};
 ghost use Rattle.json_values.specs.Known.{fault_json};
 ghost use Rattle.json_values.specs.Items.{bar_before, crash_json, fault_shows_json, leading_json, last_json};
 ghost use Rattle.report_sections.specs.Replay.{told_block, told_replay};

@@ -5,7 +5,7 @@ use Rattle.std.specs.List.{All}
 use Rattle.std.proofs.lemmas.List.{map-append}
 use Rattle.std.proofs.lemmas.List.Elements.{All-nil, All-cons, All-head, All-tail, All-append}
 use Rattle.crash_model.specs.Promises.{Promise}
-use Rattle.crash_model.specs.Trace.{Tracing}
+use Rattle.crash_model.specs.Tracing.{Tracing}
 use Rattle.promise_steps.specs.Underway.{Under, all_ended}
 use Rattle.kept_promises.specs.Watched.{IsAt, under_of}
 use Rattle.kept_promises.specs.declared.underway.Underway.{Underway}

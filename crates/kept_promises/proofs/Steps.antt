@@ -7,7 +7,8 @@ use Rattle.crash_model.specs.Disk.{Disk}
 use Rattle.crash_model.specs.Patches.{Place, place, places_of}
 use Rattle.crash_model.specs.Plan.{then_ok}
 use Rattle.crash_model.specs.Promises.{promises_of}
-use Rattle.crash_model.specs.Trace.{Emitted, Tracing, trace_start, trace_from, step}
+use Rattle.crash_model.specs.Trace.{Emitted, trace_from, step}
+use Rattle.crash_model.specs.Tracing.{Tracing, trace_start}
 use Rattle.crash_model.specs.declared.modules.Module.{Module}
 use Rattle.crash_model.specs.declared.patches.Patch.{Patch}
 use Rattle.crash_model.specs.declared.refusals.TraceFault.{TraceFault}

@@ -7,7 +7,8 @@ use Rattle.std.proofs.lemmas.List.{drop-map, length-map}
 use Rattle.crash_model.specs.Patches.{Place}
 use Rattle.crash_model.specs.Paths.{names_of, are_same_shown}
 use Rattle.crash_model.specs.Promises.{way_shows, touches, ids_between}
-use Rattle.crash_model.specs.Trace.{Emitted, Tracing}
+use Rattle.crash_model.specs.Trace.{Emitted}
+use Rattle.crash_model.specs.Tracing.{Tracing}
 use Rattle.crash_model.specs.Waiting.{meets, meets_range}
 use Rattle.crash_model.specs.declared.names.Path.{Path}
 use Rattle.crash_model.specs.declared.ranges.Range.{Range}

@@ -1,8 +1,10 @@
 -- What a script is asked for.
 use Rattle.std.specs.Prelude.{◌≡◌, List, Ok}
-use Rattle.crash_model.specs.Checker.{Asked, has_promises}
+use Rattle.crash_model.specs.Checker.{Asked}
+use Rattle.crash_model.specs.PromiseLines.{has_promises}
 use Rattle.crash_model.specs.Disk.{Disk}
-use Rattle.crash_model.specs.Trace.{Tracing, trace_start, trace_from}
+use Rattle.crash_model.specs.Trace.{trace_from}
+use Rattle.crash_model.specs.Tracing.{Tracing, trace_start}
 use Rattle.crash_model.specs.declared.modules.Module.{Module}
 use Rattle.crash_model.specs.declared.orderings.Ordering.{Ordering}
 use Rattle.crash_model.specs.declared.settings.Asked as settings

@@ -6,7 +6,7 @@ use Rattle.crash_model.specs.Disk.{Disk}
 use Rattle.crash_model.specs.Patches.{places_of}
 use Rattle.crash_model.specs.Paths.{names_of, is_same_path, path_shows}
 use Rattle.crash_model.specs.Promises.{way_shows, touches, ids_between}
-use Rattle.crash_model.specs.Trace.{Tracing}
+use Rattle.crash_model.specs.Tracing.{Tracing}
 use Rattle.crash_model.specs.declared.names.Path.{Path}
 use Rattle.crash_model.specs.declared.ranges.Range.{Range}
 use Rattle.promise_steps.specs.Underway.{Under, ended}

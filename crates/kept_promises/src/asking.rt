@@ -1,9 +1,11 @@
 //! What a script demands, with its promises.
 
 ghost use Rattle.std.specs.Prelude.{◌≡◌, ◌<◌, ◌^◌, Ok, IfOk, OnOk};
-ghost use Rattle.crash_model.specs.Checker.{AreDemands, has_promises};
-ghost use Rattle.crash_model.specs.Promises.{promises_of, waits_or_promises};
-ghost use Rattle.crash_model.specs.Trace.{Tracing, step as step_of};
+ghost use Rattle.crash_model.specs.Checker.{AreDemands};
+ghost use Rattle.crash_model.specs.PromiseLines.{has_promises, waits_or_promises};
+ghost use Rattle.crash_model.specs.Promises.{promises_of};
+ghost use Rattle.crash_model.specs.Trace.{step as step_of};
+ghost use Rattle.crash_model.specs.Tracing.{Tracing};
 ghost use Rattle.order_modules.specs.Tracer.{GivesNameIfAny, Moves};
 ghost use Rattle.kept_promises.specs.Asking.{asked_of, AreAccepted};
 ghost use Rattle.kept_promises.specs.Watched.{IsPlaceOf};

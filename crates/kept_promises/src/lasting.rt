@@ -5,7 +5,7 @@ ghost use Rattle.std.specs.List.{list_any};
 ghost use Rattle.crash_model.specs.Paths.{names_of, are_same_shown};
 ghost use Rattle.crash_model.specs.Patches.{places_of};
 ghost use Rattle.crash_model.specs.Promises.{way_shows, touched_ranges, ids_between};
-ghost use Rattle.crash_model.specs.Trace.{Tracing};
+ghost use Rattle.crash_model.specs.Tracing.{Tracing};
 ghost use Rattle.crash_model.specs.Waiting.{meets_range};
 ghost use Rattle.kept_promises.specs.Watched.{IsPlaceOf, IsWatchedAt, ends_by};
 

@@ -1,7 +1,8 @@
 //! The promises of the steps of a script so far.
 
 ghost use Rattle.std.specs.Prelude.{◌≡◌, [], ◌∷◌, ◌++◌, Ok, length, option_map, option_to_list, IfOk, MatchOption};
-ghost use Rattle.crash_model.specs.Trace.{Tracing, step as step_of};
+ghost use Rattle.crash_model.specs.Trace.{step as step_of};
+ghost use Rattle.crash_model.specs.Tracing.{Tracing};
 ghost use Rattle.crash_model.specs.declared.modules.Module.{Module};
 ghost use Rattle.promise_steps.specs.Underway.{begun_by, all_advanced, all_ended, rested};
 ghost use Rattle.kept_promises.specs.Watched.{IsPlaceOf, IsAt, AreAt, under_of, unders_of};

@@ -3,7 +3,8 @@
 ghost use Rattle.std.specs.Prelude.{◌≡◌, ◌+◌, [], ◌∷◌, false, None, Some, Ok, ℕ, length, IfOk};
 ghost use Rattle.std.specs.List.{list_any};
 ghost use Rattle.crash_model.specs.Paths.{are_same_shown};
-ghost use Rattle.crash_model.specs.Trace.{Tracing, step as step_of};
+ghost use Rattle.crash_model.specs.Trace.{step as step_of};
+ghost use Rattle.crash_model.specs.Tracing.{Tracing};
 ghost use Rattle.crash_model.specs.declared.modules.Module.{Module};
 ghost use Rattle.promise_steps.specs.Underway.{begun, advanced, with_rest};
 ghost use Rattle.kept_promises.specs.Watched.{IsPlaceOf, IsAt, under_of, with_ends, with_spares, is_only};

@@ -2,7 +2,8 @@
 use Rattle.std.proofs.Common.{◌≡◌, ℕ, Bool, true, false, ◌&&◌, Ok, Err, Result, refl, ap, ◌∙◌}
 use Rattle.std.specs.Prelude.{◌==◌}
 use Rattle.crash_model.specs.Disk.{Disk, byte}
-use Rattle.crash_model.specs.Layout.{is_owned, generation_of, mark_generation}
+use Rattle.crash_model.specs.Layout.{is_owned}
+use Rattle.crash_model.specs.Generations.{generation_of, mark_generation}
 use Rattle.crash_model.specs.Patches.{image_of}
 use Rattle.known_bytes.specs.Family.{IsLike}
 use Rattle.known_bytes.specs.Generations.{generation_byte}

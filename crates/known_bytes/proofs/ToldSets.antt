@@ -10,7 +10,8 @@ use Rattle.crash_model.specs.Disk.{Disk}
 use Rattle.crash_model.specs.Lists.{when}
 use Rattle.crash_model.specs.Checker.{Demands, promised, all_faults, counted_among, faults_under}
 use Rattle.crash_model.specs.FaultKinds.{fault_number}
-use Rattle.crash_model.specs.Promises.{Promise, broken_lines, breaks_line, lines_end}
+use Rattle.crash_model.specs.Promises.{Promise, breaks_line}
+use Rattle.crash_model.specs.BrokenLines.{broken_lines, lines_end}
 use Rattle.crash_model.specs.declared.fault.Fault.{Fault}
 use Rattle.crash_model.specs.declared.fault.Fault.TheVariants.{Dangling, Twice, Unwritten, LowLinks, MarkedFree, Wild}
 use Rattle.crash_model.specs.declared.fault.Fault.TheVariants.{Lost, NoBlock, HalfDone, BrokenPromise}

@@ -17,9 +17,10 @@ use Rattle.crash_model.specs.Patches.{Place, places_of, deps_of, image_from}
 use Rattle.crash_model.specs.Replay.{image_after_replay}
 use Rattle.report_model.specs.Report.{Detail, Section}
 use Rattle.crash_model.specs.RuleFacts.{AreAmong}
-use Rattle.crash_model.specs.Rules.{rules_in_first, has_rule}
+use Rattle.crash_model.specs.ChosenRules.{rules_in_first, has_rule}
 use Rattle.crash_model.specs.Checker.{IsCleanUnder, IsFailingUnder}
-use Rattle.crash_model.specs.Trace.{Tracing, IsGraphOf}
+use Rattle.crash_model.specs.Trace.{IsGraphOf}
+use Rattle.crash_model.specs.Tracing.{Tracing}
 use Rattle.crash_model.specs.declared.patches.Patch.{Patch}
 use Rattle.crash_model.specs.declared.rules.Rule.{Rule}
 use Rattle.rule_laws.proofs.Closed.{failing_under_more}

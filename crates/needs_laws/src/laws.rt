@@ -6,7 +6,8 @@ ghost use Rattle.crash_model.specs.Disk.{Disk};
 ghost use Rattle.report_model.specs.Needs.{IsRuleUsage, Used, Without};
 ghost use Rattle.report_model.specs.Report.{Detail};
 ghost use Rattle.crash_model.specs.Checker.{IsFailingUnder};
-ghost use Rattle.crash_model.specs.Trace.{Tracing, IsGraphOf};
+ghost use Rattle.crash_model.specs.Trace.{IsGraphOf};
+ghost use Rattle.crash_model.specs.Tracing.{Tracing};
 ghost use Rattle.crash_model.specs.declared.patches.Patch.{Patch};
 ghost use Rattle.crash_model.specs.declared.rules.Rule.{Rule};
 

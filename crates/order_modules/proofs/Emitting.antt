@@ -15,7 +15,8 @@ use Rattle.patch_sets.specs.Sets.{Has}
 use Rattle.patch_sets.proofs.Bits.{eq_or_not, none_in_empty, in_or_cases, in_or_left, in_or_right}
 use Rattle.crash_model.specs.Disk.{Disk, block_of, with_bytes}
 use Rattle.crash_model.specs.Patches.{Place, place, places_of, deps_of, overlap, AreUndo}
-use Rattle.crash_model.specs.Trace.{Emitted, is_same_group, shares_block, groups_depend, waits_for, applies, depends}
+use Rattle.crash_model.specs.Trace.{Emitted, is_same_group, groups_depend, waits_for, applies, depends}
+use Rattle.crash_model.specs.WholeBlocks.{shares_block}
 use Rattle.crash_model.specs.declared.patches.Patch.{Patch}
 use Rattle.crash_model.specs.declared.rules.Rule.{Rule}
 use Rattle.crash_model.specs.declared.modules.Module.{Module}

@@ -4,7 +4,8 @@ use Rattle.std.specs.Prelude.{◌↔◌, Some, slice_get, slice_index, IsTrue}
 use Rattle.patch_sets.specs.Sets.{Has}
 use Rattle.crash_model.specs.Disk.{Disk}
 use Rattle.crash_model.specs.Patches.{AreUndo, deps_of}
-use Rattle.crash_model.specs.Trace.{Emitted, Tracing, IsGraphOf, depends}
+use Rattle.crash_model.specs.Trace.{Emitted, IsGraphOf, depends}
+use Rattle.crash_model.specs.Tracing.{Tracing}
 use Rattle.crash_model.specs.declared.rules.Rule.{Rule}
 use Rattle.order_modules.specs.Log.{Log, IsLog}
 

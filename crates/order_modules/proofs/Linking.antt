@@ -8,7 +8,8 @@ use Rattle.std.proofs.lemmas.List.Folds.{list_any-append}
 use Rattle.patch_sets.specs.Sets.{Has}
 use Rattle.crash_model.specs.Disk.{Disk}
 use Rattle.crash_model.specs.Patches.{places_of, deps_of, overlap}
-use Rattle.crash_model.specs.Trace.{Emitted, is_same_group, shares_block, groups_depend, waits_for, applies, depends}
+use Rattle.crash_model.specs.Trace.{Emitted, is_same_group, groups_depend, waits_for, applies, depends}
+use Rattle.crash_model.specs.WholeBlocks.{shares_block}
 use Rattle.crash_model.specs.declared.patches.Patch.{Patch}
 use Rattle.crash_model.specs.declared.rules.Rule.{Rule}
 use Rattle.crash_model.specs.declared.modules.Module.{Module}

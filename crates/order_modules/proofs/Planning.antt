@@ -12,8 +12,9 @@ use Rattle.inode_fs.specs.Inside.{LiesInside}
 use Rattle.crash_model.specs.Plan.{with_changes}
 use Rattle.crash_model.specs.declared.operations.Op.{Op}
 use Rattle.crash_model.specs.declared.rules.Part.TheVariants.{Commit, Done}
-use Rattle.crash_model.specs.Trace.{Emitted, Origin, origin_at, Tracing, trace_of_plan, patches_by, journal_blocks}
+use Rattle.crash_model.specs.Trace.{Emitted, Origin, origin_at, trace_of_plan, patches_by, journal_blocks}
 use Rattle.crash_model.specs.Trace.{in_place_patch, part_of, copies, touched_blocks}
+use Rattle.crash_model.specs.Tracing.{Tracing}
 use Rattle.crash_model.specs.declared.plans.Change.{Change}
 use Rattle.crash_model.specs.declared.refusals.TraceFault.TheVariants as fault
 use Rattle.crash_model.specs.declared.modules.Module.{Module}

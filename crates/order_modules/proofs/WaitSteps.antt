@@ -6,7 +6,9 @@ use Rattle.crash_model.specs.Disk.{Disk}
 use Rattle.crash_model.specs.Layout.{target_of}
 use Rattle.crash_model.specs.Plan.{then_ok, with_found, at_entry, walk_end, entry_named}
 use Rattle.crash_model.specs.Refusals.{trace_fault}
-use Rattle.crash_model.specs.Trace.{Tracing, step, target_found, when_found, with_wait}
+use Rattle.crash_model.specs.Trace.{step}
+use Rattle.crash_model.specs.Tracing.{Tracing}
+use Rattle.crash_model.specs.WaitSteps.{target_found, when_found, with_wait}
 use Rattle.crash_model.specs.Waiting.{ranges_of, fsync_forces, ids_from, forced_by_fsync, forced_by_sync}
 use Rattle.crash_model.specs.declared.names.Path.{Path}
 use Rattle.crash_model.specs.declared.plans.Change.{Change}

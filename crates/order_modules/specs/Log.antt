@@ -4,7 +4,8 @@ use Rattle.std.specs.Prelude.{IsTrue}
 use Rattle.std.specs.List.{list_any}
 use Rattle.crash_model.specs.Disk.{Disk, with_bytes}
 use Rattle.crash_model.specs.Patches.{Place, places_of}
-use Rattle.crash_model.specs.Trace.{Emitted, trace_start, IsGraphOf, groups_depend, waits_for, applies}
+use Rattle.crash_model.specs.Trace.{Emitted, IsGraphOf, groups_depend, waits_for, applies}
+use Rattle.crash_model.specs.Tracing.{trace_start}
 use Rattle.crash_model.specs.declared.patches.Patch.{Patch}
 use Rattle.crash_model.specs.declared.rules.Rule.{Rule}
 use Rattle.crash_model.specs.declared.modules.Module.{Module}

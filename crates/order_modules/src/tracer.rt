@@ -1,7 +1,8 @@
 //! The trace of a script: its operations, in order, turned into patches.
 
 ghost use Rattle.std.specs.Prelude.{◌≡◌, ◌<◌, ◌^◌, Ok, IfOk, OnOk, All};
-ghost use Rattle.crash_model.specs.Trace.{Tracing, trace_start, trace_of_plan, trace_from, IsGraphOf};
+ghost use Rattle.crash_model.specs.Trace.{trace_of_plan, trace_from, IsGraphOf};
+ghost use Rattle.crash_model.specs.Tracing.{Tracing, trace_start};
 ghost use Rattle.crash_model.specs.Disk.{IsDisk};
 ghost use Rattle.crash_model.specs.Plan.{plan_of};
 ghost use Rattle.inode_fs.specs.Inside.{LiesInside, GivesName};

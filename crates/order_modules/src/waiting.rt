@@ -2,7 +2,9 @@
 
 ghost use Rattle.std.specs.Prelude.{◌≡◌, Ok, Err, IfOk, IfErr, OnOk, is_some, map};
 ghost use Rattle.crash_model.specs.Patches.{places_of};
-ghost use Rattle.crash_model.specs.Trace.{Tracing, step as step_of, target_found, when_found, with_wait};
+ghost use Rattle.crash_model.specs.Trace.{step as step_of};
+ghost use Rattle.crash_model.specs.Tracing.{Tracing};
+ghost use Rattle.crash_model.specs.WaitSteps.{target_found, when_found, with_wait};
 ghost use Rattle.crash_model.specs.declared.steps.Act.TheVariants.{Fsync, Spare, Sync};
 ghost use Rattle.crash_model.specs.declared.steps.Target.TheVariants.{At};
 ghost use Rattle.order_modules.specs.Tracer.{Moves, RefusesAs};

@@ -3,8 +3,9 @@
 ghost use Rattle.std.specs.Prelude.{◌≡◌, ◌<◌, ◌≤◌, [], ◌∷◌, ◌++◌, length, map, IfOk, OnOk, All};
 ghost use Rattle.crash_model.specs.ChosenWaits.{emitted_waiting, tracing_waiting};
 ghost use Rattle.crash_model.specs.Patches.{places_of};
-ghost use Rattle.crash_model.specs.Rules.{rules_in_first};
-ghost use Rattle.crash_model.specs.Trace.{Tracing, IsGraphOf};
+ghost use Rattle.crash_model.specs.ChosenRules.{rules_in_first};
+ghost use Rattle.crash_model.specs.Trace.{IsGraphOf};
+ghost use Rattle.crash_model.specs.Tracing.{Tracing};
 ghost use Rattle.order_modules.specs.Log.{Adds};
 ghost use Rattle.traced_patches.specs.Labels.{emitted_by, links_by};
 

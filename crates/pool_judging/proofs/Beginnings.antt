@@ -8,7 +8,8 @@ use Rattle.std.proofs.lemmas.List.Elements.{All-nil, All-cons, All-append}
 use Rattle.crash_model.specs.Checker.{Demands, AreDemands}
 use Rattle.crash_model.specs.Disk.{Disk}
 use Rattle.crash_model.specs.Promises.{promises_of}
-use Rattle.crash_model.specs.Trace.{Tracing, IsGraphOf, trace_start, trace_from, step}
+use Rattle.crash_model.specs.Trace.{IsGraphOf, trace_from, step}
+use Rattle.crash_model.specs.Tracing.{Tracing, trace_start}
 use Rattle.crash_model.specs.declared.modules.Module.{Module}
 use Rattle.crash_model.specs.declared.patches.Patch.{Patch}
 use Rattle.crash_model.specs.declared.rules.Rule.{Rule}

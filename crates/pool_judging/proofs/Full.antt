@@ -8,7 +8,8 @@ use Rattle.patch_sets.proofs.Lists.{in_front}
 use Rattle.crash_model.specs.Disk.{IsDisk}
 use Rattle.crash_model.specs.Script.{IsAct}
 use Rattle.crash_model.specs.Sound.{IsSound, HasZeroJournal}
-use Rattle.crash_model.specs.Trace.{trace_start, trace_from}
+use Rattle.crash_model.specs.Trace.{trace_from}
+use Rattle.crash_model.specs.Tracing.{trace_start}
 use Rattle.crash_model.specs.declared.modules.Module.{Module}
 use Rattle.crash_model.specs.declared.modules.Module.TheVariants.{Full}
 use Rattle.crash_model.specs.declared.operations.Op.{Op}

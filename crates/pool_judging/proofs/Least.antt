@@ -11,7 +11,7 @@ use Rattle.patch_sets.proofs.Canonical.{before_trans}
 use Rattle.patch_sets.proofs.Lists.{in_none, in_front, in_rest, front_or_rest}
 use Rattle.crash_model.specs.Checker.{Demands}
 use Rattle.crash_model.specs.Disk.{Disk}
-use Rattle.crash_model.specs.FaultRows.{HasFault, IsFirst}
+use Rattle.crash_model.specs.FirstSets.{HasFault, IsFirst}
 use Rattle.crash_model.specs.declared.fault.Fault.{Fault}
 use Rattle.crash_model.specs.declared.patches.Patch.{Patch}
 use Rattle.question_model.specs.Decided.{AreDecided}

@@ -9,8 +9,7 @@ use Rattle.std.proofs.lemmas.List.Elements.{All-head, All-tail, All-nil, All-con
 use Rattle.std.proofs.lemmas.List.Concat.{flat_map-append}
 use Rattle.std.proofs.lemmas.List.Folds.{list_any-append}
 use Rattle.std.proofs.lemmas.Option.{slice_get-get_or}
-use Rattle.crash_model.specs.Checker.{has_promises}
-use Rattle.crash_model.specs.Promises.{waits_or_promises}
+use Rattle.crash_model.specs.PromiseLines.{has_promises, waits_or_promises}
 use Rattle.crash_model.specs.declared.steps.Act.{Act}
 use Rattle.crash_model.specs.declared.steps.Act.TheVariants.{Do, Group, End, Depend, Sync, Fsync, Keep, Hold, Spare}
 use Rattle.crash_model.specs.declared.steps.Step.{Step}

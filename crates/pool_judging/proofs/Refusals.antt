@@ -6,7 +6,9 @@ use Rattle.std.proofs.lemmas.Bool.{false≢true}
 use Rattle.std.proofs.lemmas.List.Elements.{All-head, All-tail}
 use Rattle.crash_model.specs.Plan.{then_ok, unless, plan_of}
 use Rattle.crash_model.specs.Refusals.{trace_fault}
-use Rattle.crash_model.specs.Trace.{Tracing, step, trace_of_plan, trace_from, with_wait, when_found, target_found}
+use Rattle.crash_model.specs.Trace.{step, trace_of_plan, trace_from}
+use Rattle.crash_model.specs.Tracing.{Tracing}
+use Rattle.crash_model.specs.WaitSteps.{with_wait, when_found, target_found}
 use Rattle.crash_model.specs.Waiting.{forced_by_sync, forced_by_fsync}
 use Rattle.crash_model.specs.declared.modules.Module.{Module}
 use Rattle.crash_model.specs.declared.operations.Op.{Op}

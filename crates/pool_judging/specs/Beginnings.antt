@@ -3,7 +3,8 @@ use Rattle.std.specs.Prelude.{◌≡◌, ℕ, ◌+◌, ◌<◌, ◌≤◌, List,
 use Rattle.std.specs.List.{All}
 use Rattle.crash_model.specs.Checker.{Demands, AreDemands}
 use Rattle.crash_model.specs.Promises.{promises_of}
-use Rattle.crash_model.specs.Trace.{Tracing, trace_start, trace_from}
+use Rattle.crash_model.specs.Trace.{trace_from}
+use Rattle.crash_model.specs.Tracing.{Tracing, trace_start}
 use Rattle.crash_model.specs.declared.steps.Step.{Step}
 use Rattle.inode_fs.specs.Demanding.{IsSoFar}
 use Rattle.order_modules.specs.Tracer.{Trace, GivesNames}

@@ -5,7 +5,8 @@ use Rattle.std.proofs.Common.{refl, ap, ◌∙◌}
 use Rattle.std.proofs.lemmas.Bool.{false≢true}
 use Rattle.std.proofs.lemmas.List.Elements.{All-head, All-tail}
 use Rattle.crash_model.specs.Plan.{then_ok}
-use Rattle.crash_model.specs.Trace.{Tracing, trace_start, trace_from, step}
+use Rattle.crash_model.specs.Trace.{trace_from, step}
+use Rattle.crash_model.specs.Tracing.{Tracing, trace_start}
 use Rattle.crash_model.specs.declared.modules.Module.{Module}
 use Rattle.crash_model.specs.declared.refusals.TraceFault.{TraceFault}
 use Rattle.crash_model.specs.declared.steps.Act.{Act}

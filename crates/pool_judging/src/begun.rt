@@ -2,7 +2,8 @@
 
 ghost use Rattle.std.specs.Prelude.{◌≡◌, ◌<◌, ◌^◌, ◌++◌, ◌∷◌, [], List, length, Ok, IfOk};
 ghost use Rattle.std.specs.List.{All};
-ghost use Rattle.crash_model.specs.Trace.{Tracing, step as step_of};
+ghost use Rattle.crash_model.specs.Trace.{step as step_of};
+ghost use Rattle.crash_model.specs.Tracing.{Tracing};
 ghost use Rattle.crash_model.specs.declared.steps.Step.{Step as AStep};
 ghost use Rattle.order_modules.specs.Tracer.{Moves};
 ghost use Rattle.question_model.specs.Verdict.{IsAccepted};

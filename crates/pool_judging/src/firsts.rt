@@ -4,7 +4,7 @@ ghost use Rattle.std.specs.Prelude.{◌≡◌, ◌⊎◌, ℕ, Option, Some, Lis
 ghost use Rattle.patch_sets.specs.Sets.{IsBefore};
 ghost use Rattle.crash_model.specs.Checker.{Demands};
 ghost use Rattle.crash_model.specs.Disk.{Disk};
-ghost use Rattle.crash_model.specs.FaultRows.{HasFault};
+ghost use Rattle.crash_model.specs.FirstSets.{HasFault};
 ghost use Rattle.crash_model.specs.declared.patches.Patch.{Patch};
 ghost use Rattle.question_model.specs.Decided.{AreDecided};
 ghost use Rattle.pool_judging.specs.Firsts.{AreFirstOfKinds, IsLeastOfKind};

@@ -2,7 +2,8 @@
 
 ghost use Rattle.std.specs.Prelude.{◌≡◌, ◌≢◌, ◌<◌, ◌++◌, ◌∷◌, ℕ, [], Err, IfOk, None, List, length};
 ghost use Rattle.std.specs.List.{All, list_any};
-ghost use Rattle.crash_model.specs.Checker.{AreDemands, has_promises};
+ghost use Rattle.crash_model.specs.Checker.{AreDemands};
+ghost use Rattle.crash_model.specs.PromiseLines.{has_promises};
 ghost use Rattle.crash_model.specs.Promises.{promises_of};
 ghost use Rattle.crash_model.specs.Trace.{step as step_of};
 ghost use Rattle.crash_model.specs.declared.steps.Step.{Step as AStep};

@@ -8,9 +8,11 @@ use Rattle.patch_sets.specs.Sets.{IsSubset}
 use Rattle.patch_sets.proofs.Ids.{has_true}
 use Rattle.crash_model.specs.Disk.{Disk, IsDisk}
 use Rattle.crash_model.specs.Paths.{names_of, names_show}
-use Rattle.crash_model.specs.Plan.{with_plan, with_changes}
+use Rattle.crash_model.specs.Plan.{with_changes}
+use Rattle.crash_model.specs.StepDisks.{with_plan}
 use Rattle.crash_model.specs.Sound.{IsSound}
-use Rattle.crash_model.specs.Trace.{Emitted, Tracing, trace_start, trace_from}
+use Rattle.crash_model.specs.Trace.{Emitted, trace_from}
+use Rattle.crash_model.specs.Tracing.{Tracing, trace_start}
 use Rattle.crash_model.specs.Waiting.{ranges_from, ranges_of, meets, is_file_data_patch, last_turn, fsync_forces}
 use Rattle.crash_model.specs.Waiting.{forced_by_fsync, ids_from}
 use Rattle.crash_model.specs.Waiting as Waiting

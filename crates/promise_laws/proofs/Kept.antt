@@ -19,7 +19,8 @@ use Rattle.crash_model.specs.Replay.{image_after_replay}
 use Rattle.crash_model.specs.Rules.{journal_rules}
 use Rattle.crash_model.specs.RuleFacts.{AreAmong}
 use Rattle.crash_model.specs.Sound.{IsSound, HasZeroJournal}
-use Rattle.crash_model.specs.Trace.{Emitted, Tracing, trace_start, trace_from, IsGraphOf}
+use Rattle.crash_model.specs.Trace.{Emitted, trace_from, IsGraphOf}
+use Rattle.crash_model.specs.Tracing.{Tracing, trace_start}
 use Rattle.crash_model.specs.Waiting.{forced_by_sync, forced_by_fsync, sync_forces, ids_from, is_file_data_patch}
 use Rattle.crash_model.specs.Waiting as Waiting
 use Rattle.crash_model.specs.declared.modules.Module.TheVariants.{Full}

@@ -15,7 +15,8 @@ use Rattle.crash_model.specs.Disk.{Disk}
 use Rattle.crash_model.specs.Paths.{is_same_slot, are_same_slots, is_same_shown, are_same_shown, names_of, names_show}
 use Rattle.crash_model.specs.Plan.{with_changes}
 use Rattle.crash_model.specs.Promises.{has_none, way_shows, touches, ids_between, touching_from}
-use Rattle.crash_model.specs.Trace.{Emitted, Tracing, trace_from, step, journal_patches, touched_blocks}
+use Rattle.crash_model.specs.Trace.{Emitted, trace_from, step, journal_patches, touched_blocks}
+use Rattle.crash_model.specs.Tracing.{Tracing}
 use Rattle.crash_model.specs.Waiting.{meets}
 use Rattle.crash_model.specs.declared.modules.Module.TheVariants.{Full}
 use Rattle.crash_model.specs.declared.names.Path.{Path}

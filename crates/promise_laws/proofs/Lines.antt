@@ -9,13 +9,15 @@ use Rattle.crash_model.specs.Checker.{Asked, Demands, AreDemands, IsFailingUnder
 use Rattle.crash_model.specs.Disk.{Disk, IsDisk}
 use Rattle.crash_model.specs.Lists.{when, some_below}
 use Rattle.crash_model.specs.Patches.{deps_of, image_of}
-use Rattle.crash_model.specs.Promises.{Promise, is_broken, breaks_line, broken_lines, lines_end, kept, durable}
-use Rattle.crash_model.specs.Promises.{promise_of, promises_from, promises_of}
+use Rattle.crash_model.specs.Promises.{Promise, is_broken, breaks_line, kept, durable, promise_of, promises_from}
+use Rattle.crash_model.specs.Promises.{promises_of}
+use Rattle.crash_model.specs.BrokenLines.{broken_lines, lines_end}
 use Rattle.crash_model.specs.Replay.{image_after_replay}
 use Rattle.crash_model.specs.Rules.{journal_rules}
 use Rattle.crash_model.specs.RuleFacts.{AreAmong}
 use Rattle.crash_model.specs.Sound.{IsSound, HasZeroJournal}
-use Rattle.crash_model.specs.Trace.{Tracing, trace_start, trace_from, step, IsGraphOf}
+use Rattle.crash_model.specs.Trace.{trace_from, step, IsGraphOf}
+use Rattle.crash_model.specs.Tracing.{Tracing, trace_start}
 use Rattle.crash_model.specs.declared.fault.Fault.TheVariants.{BrokenPromise}
 use Rattle.crash_model.specs.declared.modules.Module.{Module}
 use Rattle.crash_model.specs.declared.modules.Module.TheVariants.{Full}

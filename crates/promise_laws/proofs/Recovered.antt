@@ -11,13 +11,15 @@ use Rattle.crash_model.specs.Disk.{Disk, IsDisk, block_of, with_bytes}
 use Rattle.crash_model.specs.Layout.{pointer_of}
 use Rattle.crash_model.specs.Paths.{names_of, child_of, names_show, path_shows}
 use Rattle.crash_model.specs.Patches.{Place, deps_of, image_from, image_of, places_of}
-use Rattle.crash_model.specs.Plan.{plan_of, with_plan, with_changes}
+use Rattle.crash_model.specs.Plan.{plan_of, with_changes}
+use Rattle.crash_model.specs.StepDisks.{with_plan}
 use Rattle.crash_model.specs.Promises.{paths_show}
 use Rattle.crash_model.specs.Replay.{image_after_replay}
 use Rattle.crash_model.specs.Rules.{journal_rules}
 use Rattle.crash_model.specs.RuleFacts.{AreAmong}
 use Rattle.crash_model.specs.Sound.{IsSound, HasZeroJournal}
-use Rattle.crash_model.specs.Trace.{Tracing, trace_start, trace_from, IsGraphOf}
+use Rattle.crash_model.specs.Trace.{trace_from, IsGraphOf}
+use Rattle.crash_model.specs.Tracing.{Tracing, trace_start}
 use Rattle.crash_model.specs.declared.modules.Module.TheVariants.{Full}
 use Rattle.crash_model.specs.declared.names.Path.{Path}
 use Rattle.crash_model.specs.declared.operations.Op.{Op}

@@ -14,7 +14,8 @@ use Rattle.crash_model.specs.Disk.{Disk}
 use Rattle.crash_model.specs.Paths.{is_same_slot, are_same_slots, is_same_shown, are_same_shown}
 use Rattle.crash_model.specs.Promises.{paths_show, allowance, is_allowed, with_allowance, with_rests, rests_of}
 use Rattle.crash_model.specs.Promises.{places_from}
-use Rattle.crash_model.specs.Trace.{Emitted, Tracing, trace_from, step}
+use Rattle.crash_model.specs.Trace.{Emitted, trace_from, step}
+use Rattle.crash_model.specs.Tracing.{Tracing}
 use Rattle.crash_model.specs.declared.modules.Module.TheVariants.{Full}
 use Rattle.crash_model.specs.declared.names.Path.{Path}
 use Rattle.crash_model.specs.declared.operations.Op.{Op}

@@ -6,7 +6,8 @@ use Rattle.std.proofs.lemmas.Bool.{cases_Bool, false≢true}
 use Rattle.std.proofs.lemmas.List.{drop-drop, drop-take, take-take}
 use Rattle.crash_model.specs.Disk.{Disk, byte, block_of}
 use Rattle.crash_model.specs.Layout.{kind_of, pointer_of, is_data, is_owned, is_live, is_entry, entry_of, target_of}
-use Rattle.crash_model.specs.Layout.{counts, generation_of, mark_generation, spelling_of, entry_offset}
+use Rattle.crash_model.specs.Layout.{counts, spelling_of, entry_offset}
+use Rattle.crash_model.specs.Generations.{generation_of, mark_generation}
 use Rattle.crash_model.specs.Sound.{IsSound}
 use Rattle.crash_model.proofs.Clean.{clean_no_fault}
 use Rattle.crash_model.specs.Lists.{first_below}

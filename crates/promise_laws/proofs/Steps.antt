@@ -9,11 +9,13 @@ use Rattle.patch_sets.specs.Sets.{Has, IsSubset}
 use Rattle.patch_sets.proofs.Bits.{in_or_left, in_or_right}
 use Rattle.crash_model.specs.Disk.{Disk}
 use Rattle.crash_model.specs.Paths.{is_same_path}
-use Rattle.crash_model.specs.Plan.{then_ok, unless, with_found, plan_of, with_plan, with_changes}
+use Rattle.crash_model.specs.Plan.{then_ok, unless, with_found, plan_of, with_changes}
+use Rattle.crash_model.specs.StepDisks.{with_plan}
 use Rattle.crash_model.specs.Refusals.{trace_fault}
-use Rattle.crash_model.specs.Trace.{Emitted, Origin, origin_at, Tracing, trace_from, step, trace_of_plan}
-use Rattle.crash_model.specs.Trace.{journal_patches, touched_blocks, is_among, is_same_group, with_wait, when_found}
-use Rattle.crash_model.specs.Trace.{target_found}
+use Rattle.crash_model.specs.Trace.{Emitted, Origin, origin_at, trace_from, step, trace_of_plan, journal_patches}
+use Rattle.crash_model.specs.Trace.{touched_blocks, is_among, is_same_group}
+use Rattle.crash_model.specs.Tracing.{Tracing}
+use Rattle.crash_model.specs.WaitSteps.{with_wait, when_found, target_found}
 use Rattle.crash_model.specs.Waiting.{forced_by_sync, forced_by_fsync}
 use Rattle.crash_model.specs.declared.modules.Module.TheVariants.{Full}
 use Rattle.crash_model.specs.declared.operations.Op.{Op}

@@ -10,7 +10,8 @@ ghost use Rattle.crash_model.specs.Promises.{kept, durable, is_broken, breaks_li
 ghost use Rattle.crash_model.specs.Replay.{image_after_replay};
 ghost use Rattle.crash_model.specs.Rules.{rules_of};
 ghost use Rattle.crash_model.specs.RuleFacts.{AreAmong};
-ghost use Rattle.crash_model.specs.Trace.{Tracing, trace_start, trace_from, IsGraphOf};
+ghost use Rattle.crash_model.specs.Trace.{trace_from, IsGraphOf};
+ghost use Rattle.crash_model.specs.Tracing.{Tracing, trace_start};
 ghost use Rattle.crash_model.specs.declared.modules.Module.TheVariants.{Full};
 ghost use Rattle.crash_model.specs.declared.names.Path.{Path};
 ghost use Rattle.crash_model.specs.declared.patches.Patch.{Patch};

@@ -11,7 +11,8 @@ use Rattle.crash_model.specs.Paths.{names_of}
 use Rattle.crash_model.specs.Promises.{Promise, paths_show, allowance, with_rests, rests_of, places_from, spare_at}
 use Rattle.crash_model.specs.Promises.{spares_from, spares_of, touched_ranges, touches, ids_between, touching_from}
 use Rattle.crash_model.specs.Promises.{kept, held, durable, promise_of, promises_from}
-use Rattle.crash_model.specs.Trace.{Tracing, step}
+use Rattle.crash_model.specs.Trace.{step}
+use Rattle.crash_model.specs.Tracing.{Tracing}
 use Rattle.crash_model.specs.declared.modules.Module.{Module}
 use Rattle.crash_model.specs.declared.names.Path.{Path}
 use Rattle.crash_model.specs.declared.promises.Allowance.{Allowance}

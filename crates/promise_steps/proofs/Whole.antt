@@ -8,8 +8,9 @@ use Rattle.crash_model.specs.Promises.{Promise, allowance, paths_show, with_allo
 use Rattle.crash_model.specs.Promises.{spares_from, spares_of, touches, touching_from, ids_between}
 use Rattle.crash_model.specs.Promises.{kept, held, durable, promise_of, promises_from, promises_of}
 use Rattle.crash_model.specs.Paths.{is_same_path}
-use Rattle.crash_model.specs.Trace.{Emitted, Tracing, origin_at, trace_start, journal_blocks, patches_by, trace_of_plan}
-use Rattle.crash_model.specs.Trace.{target_found, when_found, step}
+use Rattle.crash_model.specs.Trace.{Emitted, origin_at, journal_blocks, patches_by, trace_of_plan, step}
+use Rattle.crash_model.specs.Tracing.{Tracing, trace_start}
+use Rattle.crash_model.specs.WaitSteps.{target_found, when_found}
 use Rattle.crash_model.specs.declared.modules.Module.{Module}
 use Rattle.crash_model.specs.declared.names.Path.{Path}
 use Rattle.crash_model.specs.declared.operations.Op.{Op}

@@ -6,7 +6,8 @@ use Rattle.crash_model.specs.Promises.{Promise, allowance, paths_show, with_allo
 use Rattle.crash_model.specs.Promises.{spare_at, spares_of, touched_ranges, touches, ids_between, touching_from}
 use Rattle.crash_model.specs.Promises.{promises_from}
 use Rattle.crash_model.specs.Lists.{when}
-use Rattle.crash_model.specs.Trace.{Tracing, step}
+use Rattle.crash_model.specs.Trace.{step}
+use Rattle.crash_model.specs.Tracing.{Tracing}
 use Rattle.crash_model.specs.declared.modules.Module.{Module}
 use Rattle.crash_model.specs.declared.names.Path.{Path}
 use Rattle.crash_model.specs.declared.promises.Spare.{Spare as StandIn}

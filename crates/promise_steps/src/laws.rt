@@ -3,7 +3,8 @@
 ghost use Rattle.std.specs.Prelude.{◌≡◌, List, [], ◌∷◌, Bool, Ok, Err};
 ghost use Rattle.crash_model.specs.Disk.{Disk};
 ghost use Rattle.crash_model.specs.Promises.{promises_of};
-ghost use Rattle.crash_model.specs.Trace.{Tracing, trace_start, step};
+ghost use Rattle.crash_model.specs.Trace.{step};
+ghost use Rattle.crash_model.specs.Tracing.{Tracing, trace_start};
 ghost use Rattle.crash_model.specs.declared.modules.Module.{Module};
 ghost use Rattle.crash_model.specs.declared.refusals.TraceFault.{TraceFault};
 ghost use Rattle.crash_model.specs.declared.steps.Step.{Step};

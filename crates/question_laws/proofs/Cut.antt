@@ -8,8 +8,10 @@ use Rattle.crash_model.specs.Disk.{Disk}
 use Rattle.crash_model.specs.Emitted.{Emitted, origin_at}
 use Rattle.crash_model.specs.Paths.{is_same_path}
 use Rattle.crash_model.specs.Plan.{then_ok, unless, with_found, plan_of, with_changes}
-use Rattle.crash_model.specs.Trace.{Tracing, trace_start, trace_from, trace_of_plan, step, when_found, target_found}
-use Rattle.crash_model.specs.Trace.{with_wait, is_among, is_same_group, patches_by, journal_blocks}
+use Rattle.crash_model.specs.Trace.{trace_from, trace_of_plan, step, is_among, is_same_group, patches_by}
+use Rattle.crash_model.specs.Trace.{journal_blocks}
+use Rattle.crash_model.specs.Tracing.{Tracing, trace_start}
+use Rattle.crash_model.specs.WaitSteps.{when_found, target_found, with_wait}
 use Rattle.crash_model.specs.Waiting.{Wait, forced_by_sync, forced_by_fsync}
 use Rattle.crash_model.specs.declared.disk_bytes.TheConstants.{JOURNAL_AT}
 use Rattle.crash_model.specs.declared.patches.TheConstants.{MAX_PATCHES}

@@ -16,14 +16,16 @@ use Rattle.report_model.specs.Report.{Detail, Section, AreSections, IsLed}
 use Rattle.report_model.proofs.Leading.{sections_lead}
 use Rattle.crash_model.specs.Disk.{Disk}
 use Rattle.crash_model.specs.Checker.{faults_under, IsFailingUnder}
-use Rattle.crash_model.specs.FaultRows.{numbers_of, IsFaultBefore, HasFault, IsFirst}
+use Rattle.crash_model.specs.FaultOrder.{numbers_of, IsFaultBefore}
+use Rattle.crash_model.specs.FirstSets.{HasFault, IsFirst}
 use Rattle.crash_model.specs.Patches.{deps_of, image_of}
 use Rattle.crash_model.specs.Replay.{image_after_replay}
 use Rattle.crash_model.specs.declared.fault.Fault.{Fault}
 use Rattle.crash_model.specs.declared.patches.Patch.{Patch}
 use Rattle.crash_model.proofs.FaultNumbers.{same_fault}
 use Rattle.question_model.specs.Decided.{AreDecided}
-use Rattle.question_model.specs.Decision.{ToldDecided, AreToldDecided}
+use Rattle.question_model.specs.Decision.{AreToldDecided}
+use Rattle.question_model.specs.ToldDecided.{ToldDecided}
 use Rattle.question_model.specs.declared.decided_fault.DecidedFault.{DecidedFault}
 use Rattle.worked_example_laws.specs.Computed.{are_in_order, have_runs, section_of}
 use Rattle.worked_example_laws.proofs.FailingSets.{all_under, failing_quickly_under, failing_under_are}

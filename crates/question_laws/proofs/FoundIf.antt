@@ -12,9 +12,9 @@ use Rattle.patch_sets.proofs.Lists.{in_front, in_rest}
 use Rattle.report_model.specs.Report.{Detail, AreSections, IsLed}
 use Rattle.report_model.proofs.Leading.{sections_lead}
 use Rattle.crash_model.specs.Checker.{IsFailingUnder}
-use Rattle.crash_model.specs.FaultRows.{IsFirst}
+use Rattle.crash_model.specs.FirstSets.{IsFirst}
 use Rattle.crash_model.specs.Patches.{deps_of}
-use Rattle.crash_model.specs.Trace.{Tracing}
+use Rattle.crash_model.specs.Tracing.{Tracing}
 use Rattle.crash_model.specs.declared.refusals.TraceFault.{TraceFault}
 use Rattle.question_model.specs.Found.{IsCounted, AreCounted, IsShown, AreShown, AreFound}
 use Rattle.question_model.specs.Kinds.{kind_number}

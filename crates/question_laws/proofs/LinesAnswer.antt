@@ -2,11 +2,13 @@
 use Rattle.std.proofs.Common.{◌≡◌, ℕ, ◌<◌, ◌≤◌, List, length, get_or, arith, refl, sym, subst, ap, ◌∙◌, inl, inr}
 use Rattle.std.specs.Prelude.{◌⊎◌, Result, Ok, Err, Some, slice_get}
 use Rattle.std.proofs.lemmas.Option.{slice_get_within, slice_get-get_or}
-use Rattle.report_model.specs.Answer.{Answer, Refused, Reported, HasBase, IsReported, ordering_rules}
+use Rattle.report_model.specs.Answer.{Answer, Refused, Reported, IsReported}
+use Rattle.report_model.specs.ScriptGraph.{HasBase, ordering_rules}
 use Rattle.crash_model.specs.ChosenWaits.{up_to_wait}
 use Rattle.crash_model.specs.Disk.{Disk}
 use Rattle.crash_model.specs.Refusals.{run_of_trace}
-use Rattle.crash_model.specs.Trace.{Tracing, trace_start, trace_from}
+use Rattle.crash_model.specs.Trace.{trace_from}
+use Rattle.crash_model.specs.Tracing.{Tracing, trace_start}
 use Rattle.crash_model.specs.Waiting.{Wait}
 use Rattle.crash_model.specs.declared.refusals.RunFault.{RunFault}
 use Rattle.crash_model.specs.declared.refusals.RunFault.TheVariants.{TooManySyncs}

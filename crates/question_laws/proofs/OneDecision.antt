@@ -3,20 +3,24 @@ use Rattle.std.proofs.Common.{◌≡◌, ℕ, List, length, map, sym, subst, ap,
 use Rattle.std.specs.Prelude.{None, if◌then◌else◌}
 use Rattle.state_space.proofs.Counting.{one_number}
 use Rattle.patch_sets.specs.Closed.{IsClosed}
-use Rattle.report_model.specs.Answer.{detail_of, ordering_rules}
+use Rattle.report_model.specs.Answer.{detail_of}
+use Rattle.report_model.specs.ScriptGraph.{ordering_rules}
 use Rattle.report_model.specs.Report.{Detail, AreSections}
 use Rattle.crash_model.specs.Disk.{Disk}
 use Rattle.crash_model.specs.Checker.{Demands}
-use Rattle.crash_model.specs.FaultRows.{IsFaultBefore, HasFault, IsFirst}
+use Rattle.crash_model.specs.FaultOrder.{IsFaultBefore}
+use Rattle.crash_model.specs.FirstSets.{HasFault, IsFirst}
 use Rattle.crash_model.specs.Lists.{when}
 use Rattle.crash_model.specs.Patches.{deps_of}
 use Rattle.crash_model.specs.Reasons.{explanation}
-use Rattle.crash_model.specs.Trace.{Tracing, IsGraphOf}
+use Rattle.crash_model.specs.Trace.{IsGraphOf}
+use Rattle.crash_model.specs.Tracing.{Tracing}
 use Rattle.crash_model.specs.declared.fault.Fault.{Fault}
 use Rattle.crash_model.specs.declared.patches.Patch.{Patch}
 use Rattle.crash_model.specs.declared.settings.Settings.{Settings}
 use Rattle.question_model.specs.Decided.{AreDecided}
-use Rattle.question_model.specs.Decision.{ToldDecided, AreToldDecided, IsDecision, decision_bytes}
+use Rattle.question_model.specs.Decision.{AreToldDecided, IsDecision, decision_bytes}
+use Rattle.question_model.specs.ToldDecided.{ToldDecided}
 use Rattle.question_model.specs.declared.decided_fault.DecidedFault.{DecidedFault}
 use Rattle.worked_example_laws.proofs.OneBody.{sections_one, not_both, first_one}
 use Rattle.worked_example_laws.proofs.Orders.{one_keyed, same_parts, same_told}

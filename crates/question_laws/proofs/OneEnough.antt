@@ -4,16 +4,18 @@ use Rattle.std.specs.Prelude.{Option, None, option_to_list, if◌then◌else◌}
 use Rattle.state_space.proofs.Counting.{one_number}
 use Rattle.patch_sets.specs.Closed.{IsClosed}
 use Rattle.patch_sets.proofs.Canonical.{one_list}
-use Rattle.report_model.specs.Answer.{detail_of, ordering_rules}
+use Rattle.report_model.specs.Answer.{detail_of}
+use Rattle.report_model.specs.ScriptGraph.{ordering_rules}
 use Rattle.crash_model.specs.Disk.{Disk}
 use Rattle.crash_model.specs.Checker.{Demands}
 use Rattle.crash_model.specs.Lists.{when}
 use Rattle.crash_model.specs.Patches.{deps_of}
 use Rattle.crash_model.specs.Reasons.{explanation}
-use Rattle.crash_model.specs.Trace.{Tracing, IsGraphOf}
+use Rattle.crash_model.specs.Trace.{IsGraphOf}
+use Rattle.crash_model.specs.Tracing.{Tracing}
 use Rattle.crash_model.specs.declared.patches.Patch.{Patch}
 use Rattle.crash_model.specs.declared.settings.Settings.{Settings}
-use Rattle.question_model.specs.Decision.{ToldDecided}
+use Rattle.question_model.specs.ToldDecided.{ToldDecided}
 use Rattle.question_model.specs.Enough.{IsMinimalEnough, IsNeeded}
 use Rattle.question_model.specs.EnoughReport.{IsEnoughReport, IsToldGroup, rules_report_bytes}
 use Rattle.question_laws.proofs.OneFirst.{told_any_one, told_group_one}

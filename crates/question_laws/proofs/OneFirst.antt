@@ -3,13 +3,13 @@ use Rattle.std.proofs.Common.{◌≡◌, ◌≢◌, ℕ, List, [], ◌∷◌, re
 use Rattle.std.specs.Prelude.{◌⊎◌, Option, Some, None}
 use Rattle.report_model.specs.Report.{Detail, AreSections}
 use Rattle.crash_model.specs.Disk.{Disk}
-use Rattle.crash_model.specs.FaultRows.{HasFault}
-use Rattle.crash_model.specs.RuleUse.{HasGraphBy}
-use Rattle.crash_model.specs.Trace.{Tracing}
+use Rattle.crash_model.specs.FirstSets.{HasFault}
+use Rattle.crash_model.specs.OtherRules.{HasGraphBy}
+use Rattle.crash_model.specs.Tracing.{Tracing}
 use Rattle.crash_model.specs.declared.fault.Fault.{Fault}
 use Rattle.crash_model.specs.declared.patches.Patch.{Patch}
 use Rattle.crash_model.specs.declared.rules.Rule.{Rule}
-use Rattle.question_model.specs.Decision.{ToldDecided}
+use Rattle.question_model.specs.ToldDecided.{ToldDecided}
 use Rattle.question_model.specs.Enough.{rules_but}
 use Rattle.question_model.specs.EnoughReport.{IsFirstFault, IsToldFirst, IsToldAny, ToldGroup, IsToldGroup}
 use Rattle.question_model.specs.declared.decided_fault.DecidedFault.{DecidedFault}

@@ -5,17 +5,19 @@ use Rattle.state_space.proofs.Counting.{one_number}
 use Rattle.patch_sets.specs.Closed.{IsClosed}
 use Rattle.patch_sets.proofs.Canonical.{one_list}
 use Rattle.enough_rules.proofs.Groups.{difference_of}
-use Rattle.report_model.specs.Answer.{detail_of, ordering_rules}
+use Rattle.report_model.specs.Answer.{detail_of}
+use Rattle.report_model.specs.ScriptGraph.{ordering_rules}
 use Rattle.crash_model.specs.ChosenWaits.{tracing_waiting, demands_waiting}
 use Rattle.crash_model.specs.Disk.{Disk}
 use Rattle.crash_model.specs.Checker.{Demands}
 use Rattle.crash_model.specs.Lists.{when}
 use Rattle.crash_model.specs.Patches.{deps_of}
 use Rattle.crash_model.specs.Reasons.{explanation}
-use Rattle.crash_model.specs.Trace.{Tracing, IsGraphOf}
+use Rattle.crash_model.specs.Trace.{IsGraphOf}
+use Rattle.crash_model.specs.Tracing.{Tracing}
 use Rattle.crash_model.specs.declared.patches.Patch.{Patch}
 use Rattle.crash_model.specs.declared.settings.Settings.{Settings}
-use Rattle.question_model.specs.Decision.{ToldDecided}
+use Rattle.question_model.specs.ToldDecided.{ToldDecided}
 use Rattle.question_model.specs.EnoughLines.{all_waits, IsMinimalLines, IsNeededLines}
 use Rattle.question_model.specs.EnoughReport.{ToldGroup, enough_bytes}
 use Rattle.question_model.specs.LinesReport.{IsToldLines, line_choices, IsLinesReport}

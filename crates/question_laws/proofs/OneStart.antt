@@ -1,11 +1,14 @@
 -- A script has at most one base and one graph, and none where it is refused.
 use Rattle.std.proofs.Common.{◌≡◌, ℕ, List, subst, ap}
 use Rattle.std.specs.Prelude.{Result, Ok, Err}
-use Rattle.report_model.specs.Answer.{Answer, Refused, Reported, HasBase, HasGraph, IsReported, IsUntraced}
-use Rattle.report_model.specs.Answer.{bad_script, bad_geometry, bad_base, bad_trace, untraced, ordering_rules, asked_by}
-use Rattle.crash_model.specs.Disk.{Disk, new_disk}
+use Rattle.report_model.specs.Answer.{Answer, Refused, Reported, IsReported, untraced}
+use Rattle.report_model.specs.ScriptGraph.{HasBase, HasGraph, ordering_rules, asked_by}
+use Rattle.report_model.specs.Untraced.{IsUntraced, bad_script, bad_geometry, bad_base, bad_trace}
+use Rattle.crash_model.specs.Disk.{Disk}
+use Rattle.crash_model.specs.Generations.{new_disk}
 use Rattle.crash_model.specs.Checker.{Demands, AreDemands}
-use Rattle.crash_model.specs.Trace.{Tracing, trace_start, trace_from, base_from, IsGraphOf}
+use Rattle.crash_model.specs.Trace.{trace_from, base_from, IsGraphOf}
+use Rattle.crash_model.specs.Tracing.{Tracing, trace_start}
 use Rattle.crash_model.specs.declared.patches.Patch.{Patch}
 use Rattle.crash_model.specs.declared.refusals.RunFault.{RunFault}
 use Rattle.crash_model.specs.declared.refusals.RunFault.TheVariants.{OutOfMemory}

@@ -4,7 +4,8 @@ use Rattle.std.proofs.Common.{◌≡◌, ℕ, ◌^◌, ◌<◌, List, length, Bo
 use Rattle.patch_sets.specs.Sets.{AreAllInOrder}
 use Rattle.patch_sets.proofs.Bits.{below_from_small}
 use Rattle.crash_model.specs.declared.rules.Rule.{Rule}
-use Rattle.question_model.specs.Enough.{ArePlaces, rules_in, rules_but, IsMinimalFor, IsNeededFor}
+use Rattle.question_model.specs.Enough.{ArePlaces, rules_in, rules_but}
+use Rattle.question_model.specs.MinimalRules.{IsMinimalFor, IsNeededFor}
 use Rattle.question_laws.proofs.ChoicesIf as choice
 use Rattle.question_laws.proofs.SomeRules.{small_part, minimal_rules, needed_rules}
 

@@ -7,22 +7,24 @@ use Rattle.std.proofs.lemmas.List.{length-map}
 use Rattle.std.proofs.lemmas.List.Elements.{All-nil, All-cons}
 use Rattle.patch_sets.specs.Sets.{AreAllInOrder}
 use Rattle.patch_sets.proofs.Lists.{in_front, in_none}
-use Rattle.report_model.specs.Answer.{Reported, ordering_rules}
+use Rattle.report_model.specs.Answer.{Reported}
+use Rattle.report_model.specs.ScriptGraph.{ordering_rules}
 use Rattle.report_model.specs.Report.{Detail}
 use Rattle.crash_model.specs.Disk.{Disk}
 use Rattle.crash_model.specs.Checker.{Demands, IsFailingUnder}
 use Rattle.crash_model.specs.Lists.{when}
 use Rattle.crash_model.specs.Patches.{deps_of}
 use Rattle.crash_model.specs.Reasons.{explanation}
-use Rattle.crash_model.specs.RuleUse.{HasGraphBy}
-use Rattle.crash_model.specs.Trace.{Tracing}
+use Rattle.crash_model.specs.OtherRules.{HasGraphBy}
+use Rattle.crash_model.specs.Tracing.{Tracing}
 use Rattle.crash_model.specs.declared.patches.Patch.{Patch}
 use Rattle.crash_model.specs.declared.rules.Rule.{Rule}
 use Rattle.crash_model.specs.declared.settings.Settings.{Settings}
 use Rattle.crash_model.specs.declared.steps.Act.{Act}
 use Rattle.question_model.specs.Answers.{IsAnswerTo}
 use Rattle.question_model.specs.Decision.{decision_bytes}
-use Rattle.question_model.specs.Enough.{rules_but, IsMinimalFor, IsNeededFor, AreEnough, IsMinimalEnough, IsNeeded}
+use Rattle.question_model.specs.Enough.{rules_but, AreEnough, IsMinimalEnough, IsNeeded}
+use Rattle.question_model.specs.MinimalRules.{IsMinimalFor, IsNeededFor}
 use Rattle.question_model.specs.EnoughReport.{ToldGroup, IsToldFirst, IsToldGroup, rules_report_bytes}
 use Rattle.question_model.specs.declared.decided_fault.DecidedFault.{DecidedFault}
 use Rattle.question_model.specs.declared.question.Question.TheVariants.{Decide, Enough}

@@ -12,7 +12,8 @@ use Rattle.patch_sets.proofs.Bits.{below_from_small}
 use Rattle.patch_sets.proofs.Ids.{false_from_ne, ne_from_false}
 use Rattle.patch_sets.proofs.Lists.{in_none}
 use Rattle.enough_rules.proofs.Groups.{difference_of}
-use Rattle.report_model.specs.Answer.{Reported, ordering_rules, detail_of}
+use Rattle.report_model.specs.Answer.{Reported, detail_of}
+use Rattle.report_model.specs.ScriptGraph.{ordering_rules}
 use Rattle.report_model.specs.Report.{Detail}
 use Rattle.crash_model.specs.ChosenWaits.{tracing_waiting, demands_waiting}
 use Rattle.crash_model.specs.Disk.{Disk}
@@ -20,8 +21,8 @@ use Rattle.crash_model.specs.Checker.{Demands}
 use Rattle.crash_model.specs.Lists.{when}
 use Rattle.crash_model.specs.Patches.{deps_of}
 use Rattle.crash_model.specs.Reasons.{explanation}
-use Rattle.crash_model.specs.RuleUse.{HasGraphBy}
-use Rattle.crash_model.specs.Trace.{Tracing}
+use Rattle.crash_model.specs.OtherRules.{HasGraphBy}
+use Rattle.crash_model.specs.Tracing.{Tracing}
 use Rattle.crash_model.specs.declared.patches.Patch.{Patch}
 use Rattle.crash_model.specs.declared.rules.Rule.{Rule}
 use Rattle.crash_model.specs.declared.settings.Settings.{Settings}

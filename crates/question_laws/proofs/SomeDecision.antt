@@ -1,13 +1,14 @@
 -- There is a decision.
 use Rattle.std.proofs.Common.{ℕ, List, length, refl}
 use Rattle.std.specs.Prelude.{None, if◌then◌else◌}
-use Rattle.report_model.specs.Answer.{ordering_rules}
+use Rattle.report_model.specs.ScriptGraph.{ordering_rules}
 use Rattle.crash_model.specs.Disk.{Disk}
 use Rattle.crash_model.specs.Checker.{Demands}
 use Rattle.crash_model.specs.Lists.{when}
 use Rattle.crash_model.specs.Patches.{deps_of}
 use Rattle.crash_model.specs.Reasons.{explanation}
-use Rattle.crash_model.specs.Trace.{Tracing, IsGraphOf}
+use Rattle.crash_model.specs.Trace.{IsGraphOf}
+use Rattle.crash_model.specs.Tracing.{Tracing}
 use Rattle.crash_model.specs.declared.patches.Patch.{Patch}
 use Rattle.crash_model.specs.declared.settings.Settings.{Settings}
 use Rattle.question_model.specs.Decision.{Decision, IsDecision, decision_bytes}

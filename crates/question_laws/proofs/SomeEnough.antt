@@ -5,19 +5,22 @@ use Rattle.std.specs.List.{Contains}
 use Rattle.std.proofs.lemmas.List.Elements.{All-nil, All-cons}
 use Rattle.patch_sets.specs.Sets.{AreAllInOrder}
 use Rattle.patch_sets.proofs.Lists.{in_front, in_rest}
-use Rattle.report_model.specs.Answer.{detail_of, ordering_rules}
+use Rattle.report_model.specs.Answer.{detail_of}
+use Rattle.report_model.specs.ScriptGraph.{ordering_rules}
 use Rattle.crash_model.specs.Disk.{Disk}
 use Rattle.crash_model.specs.Checker.{Demands, IsFailingUnder}
 use Rattle.crash_model.specs.Lists.{when}
 use Rattle.crash_model.specs.Patches.{deps_of}
 use Rattle.crash_model.specs.Reasons.{explanation}
-use Rattle.crash_model.specs.RuleUse.{HasGraphBy}
-use Rattle.crash_model.specs.Trace.{Tracing, IsGraphOf}
+use Rattle.crash_model.specs.OtherRules.{HasGraphBy}
+use Rattle.crash_model.specs.Trace.{IsGraphOf}
+use Rattle.crash_model.specs.Tracing.{Tracing}
 use Rattle.crash_model.specs.declared.patches.Patch.{Patch}
 use Rattle.crash_model.specs.declared.rules.Rule.{Rule}
 use Rattle.crash_model.specs.declared.settings.Settings.{Settings}
-use Rattle.question_model.specs.Enough.{rules_but, IsMinimalFor, IsNeededFor, AreEnough, IsMinimalEnough, IsNeeded}
-use Rattle.question_model.specs.Decision.{ToldDecided}
+use Rattle.question_model.specs.Enough.{rules_but, AreEnough, IsMinimalEnough, IsNeeded}
+use Rattle.question_model.specs.MinimalRules.{IsMinimalFor, IsNeededFor}
+use Rattle.question_model.specs.ToldDecided.{ToldDecided}
 use Rattle.question_model.specs.EnoughReport.{ToldGroup, IsToldFirst, IsToldGroup, EnoughFound, rules_report_bytes}
 use Rattle.question_model.specs.EnoughReport.{IsEnoughReport}
 use Rattle.uniqueness_laws.proofs.OneGraph.{graph_one}

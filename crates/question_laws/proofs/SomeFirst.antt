@@ -14,15 +14,18 @@ use Rattle.crash_model.specs.Disk.{Disk}
 use Rattle.crash_model.specs.Patches.{deps_of, image_of}
 use Rattle.crash_model.specs.Replay.{image_after_replay}
 use Rattle.crash_model.specs.Checker.{Demands, faults_under, IsFailingUnder}
-use Rattle.crash_model.specs.FaultRows.{IsFaultBefore, HasFault, IsFirst, IsRow, AreRows}
-use Rattle.crash_model.specs.Trace.{trace_start}
+use Rattle.crash_model.specs.FaultRows.{IsRow, AreRows}
+use Rattle.crash_model.specs.FaultOrder.{IsFaultBefore}
+use Rattle.crash_model.specs.FirstSets.{HasFault, IsFirst}
+use Rattle.crash_model.specs.Tracing.{trace_start}
 use Rattle.crash_model.specs.declared.fault.Fault.{Fault}
 use Rattle.crash_model.specs.declared.fault.FaultRow.{FaultRow}
 use Rattle.crash_model.specs.declared.patches.Patch.{Patch}
 use Rattle.crash_model.specs.declared.settings.Settings.{Settings}
 use Rattle.crash_model.specs.declared.visit.ReportBy.TheVariants.{BySet, ByFault, ByRule}
 use Rattle.question_model.specs.Decided.{AreDecided}
-use Rattle.question_model.specs.Decision.{ToldDecided, AreToldDecided}
+use Rattle.question_model.specs.Decision.{AreToldDecided}
+use Rattle.question_model.specs.ToldDecided.{ToldDecided}
 use Rattle.question_model.specs.EnoughReport.{IsToldFirst, IsToldAny}
 use Rattle.question_model.specs.declared.decided_fault.DecidedFault.{DecidedFault}
 use Rattle.uniqueness_laws.proofs.OneGraph.{heads}

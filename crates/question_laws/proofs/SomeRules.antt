@@ -4,7 +4,8 @@ use Rattle.std.proofs.Common.{ℕ, ◌^◌, ◌<◌, List, length}
 use Rattle.patch_sets.specs.Sets.{IsSubset, AreAllInOrder}
 use Rattle.patch_sets.proofs.Bits.{below_from_small, small_from_below}
 use Rattle.crash_model.specs.declared.rules.Rule.{Rule}
-use Rattle.question_model.specs.Enough.{ArePlaces, rules_in, rules_but, IsMinimalFor, IsNeededFor}
+use Rattle.question_model.specs.Enough.{ArePlaces, rules_in, rules_but}
+use Rattle.question_model.specs.MinimalRules.{IsMinimalFor, IsNeededFor}
 use Rattle.question_laws.proofs.Deciding.{like, less_number}
 use Rattle.question_laws.proofs.SomeChoices.{IsMinimalSet, IsNeededGroup, minimal_sets, needed_groups}
 use Rattle.question_laws.proofs.SomeSets.{all_like}

@@ -6,7 +6,7 @@ use Rattle.patch_sets.specs.Sets.{IsSubset, IsBefore, AreAllInOrder}
 use Rattle.patch_sets.proofs.Bits.{eq_or_not, subset_from_and, and_from_subset}
 use Rattle.patch_sets.proofs.Canonical.{before_trans, before_self}
 use Rattle.patch_sets.proofs.Lists.{front_or_rest, in_front, in_rest, in_none}
-use Rattle.crash_model.specs.FaultRows.{IsFirst}
+use Rattle.crash_model.specs.FirstSets.{IsFirst}
 use Rattle.worked_example_laws.proofs.Sets.{order}
 use Rattle.question_laws.proofs.Deciding.{like, same_number}
 use Rattle.question_laws.proofs.Listing.{all_listed}

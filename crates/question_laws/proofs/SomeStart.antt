@@ -1,13 +1,17 @@
 -- A script has a base and a graph, or is refused.
 use Rattle.std.proofs.Common.{◌≡◌, ℕ, List, Bool, true, false, refl, subst, inl, inr}
 use Rattle.std.specs.Prelude.{◌⊎◌, Result, Ok, Err}
-use Rattle.report_model.specs.Answer.{Answer, Refused, Reported, HasBase, IsReported, IsUntraced}
-use Rattle.report_model.specs.Answer.{bad_script, bad_geometry, bad_base, bad_trace, ordering_rules, asked_by}
-use Rattle.crash_model.specs.Disk.{Disk, new_disk, IsGeometry}
+use Rattle.report_model.specs.Answer.{Answer, Refused, Reported, IsReported}
+use Rattle.report_model.specs.ScriptGraph.{HasBase, ordering_rules, asked_by}
+use Rattle.report_model.specs.Untraced.{IsUntraced, bad_script, bad_geometry, bad_base, bad_trace}
+use Rattle.crash_model.specs.Disk.{Disk, IsGeometry}
+use Rattle.crash_model.specs.Generations.{new_disk}
 use Rattle.crash_model.specs.Checker.{Demands}
 use Rattle.crash_model.specs.Refusals.{run_of_script, run_of_trace}
-use Rattle.crash_model.specs.Script.{IsScript, IsScriptRefusal}
-use Rattle.crash_model.specs.Trace.{Tracing, trace_start, trace_from, base_from, IsGraphOf}
+use Rattle.crash_model.specs.Script.{IsScript}
+use Rattle.crash_model.specs.ScriptRefusals.{IsScriptRefusal}
+use Rattle.crash_model.specs.Trace.{trace_from, base_from, IsGraphOf}
+use Rattle.crash_model.specs.Tracing.{Tracing, trace_start}
 use Rattle.crash_model.specs.declared.patches.Patch.{Patch}
 use Rattle.crash_model.specs.declared.refusals.RunFault.{RunFault}
 use Rattle.crash_model.specs.declared.refusals.RunFault.TheVariants.{BadGeometry}

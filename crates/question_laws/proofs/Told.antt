@@ -3,11 +3,12 @@ use Rattle.std.proofs.Common.{◌≡◌, ℕ, List, length, Bool, true, ◌&&◌
 use Rattle.std.specs.Prelude.{◌==◌, Ok}
 use Rattle.std.proofs.lemmas.Bool.{and_parts}
 use Rattle.patch_sets.proofs.Ids.{eq_from_true}
-use Rattle.report_model.specs.Answer.{HasBase, HasGraph, ordering_rules, asked_by}
-use Rattle.crash_model.specs.Disk.{new_disk}
+use Rattle.report_model.specs.ScriptGraph.{HasBase, HasGraph, ordering_rules, asked_by}
+use Rattle.crash_model.specs.Generations.{new_disk}
 use Rattle.crash_model.specs.Checker.{Demands, AreDemands}
 use Rattle.crash_model.specs.Patches.{deps_of, CountsClosed}
-use Rattle.crash_model.specs.Trace.{Tracing, trace_start, trace_from, base_from}
+use Rattle.crash_model.specs.Trace.{trace_from, base_from}
+use Rattle.crash_model.specs.Tracing.{Tracing, trace_start}
 use Rattle.crash_model.specs.declared.settings.Settings.{Settings}
 use Rattle.crash_model.specs.declared.steps.Act.{Act}
 use Rattle.worked_example_laws.specs.Computed.{closed_sets, trace_of, is_accepted}

@@ -10,7 +10,7 @@ use Rattle.patch_sets.proofs.Ids.{eq_from_true, true_from_eq}
 use Rattle.patch_sets.proofs.Lists.{front_or_rest, in_front, in_rest, in_none}
 use Rattle.report_model.specs.Report.{Detail}
 use Rattle.crash_model.specs.Checker.{Demands, IsFailingUnder}
-use Rattle.crash_model.specs.Trace.{Tracing}
+use Rattle.crash_model.specs.Tracing.{Tracing}
 use Rattle.crash_model.specs.declared.fault.Fault.{Fault}
 use Rattle.crash_model.specs.declared.patches.Patch.{Patch}
 use Rattle.crash_model.specs.declared.refusals.TraceFault.{TraceFault}

@@ -1,30 +1,19 @@
 -- The answer to a question, from a script's bytes and the settings. No worker, no explorer and no order of discovery is in
 -- it.
 use Rattle.std.specs.Prelude.{ℕ, List}
-use Rattle.std.specs.List.{All}
-use Rattle.report_model.specs.Answer.{Answer, Refused, Reported, HasBase, IsReported, IsUntraced, IsVisited}
-use Rattle.crash_model.specs.Disk.{Disk}
+use Rattle.report_model.specs.Answer.{Answer, Refused, Reported, IsReported, IsVisited}
+use Rattle.report_model.specs.Untraced.{IsUntraced}
 use Rattle.crash_model.specs.declared.settings.Settings.{Settings}
-use Rattle.crash_model.specs.declared.steps.Step.{Step}
 use Rattle.question_model.specs.Decision.{IsDecision}
 use Rattle.question_model.specs.EnoughReport.{IsEnoughReport}
 use Rattle.question_model.specs.Lengths.{operations_of}
 use Rattle.question_model.specs.LinesReport.{IsLinesReport, IsLinesRefusal}
 use Rattle.question_model.specs.SearchReport.{IsSearchReport, IsSearchRefusal}
 use Rattle.question_model.specs.SearchRulesReport.{IsSearchRulesReport}
-use Rattle.question_model.specs.Workloads.{IsOfPool}
 use Rattle.question_model.specs.declared.question.Question.{Question}
 use Rattle.question_model.specs.declared.question.Question.TheVariants.{Visit, Decide, Enough, EnoughLines, Search}
 use Rattle.question_model.specs.declared.question.Question.TheVariants.{SearchRules}
-
--- the text and the number are those of such a report on the script's steps after the start line, which are a pool
-pub record IsReportedOfPool (IsOn : Disk → List Step → List ℕ → ℕ → Type 0) (bytes : List ℕ) (settings : Settings)
-    (text : List ℕ) (number : ℕ) : Type 0 where
-  pub base : Disk
-  pub pool : List Step
-  pub start : HasBase bytes settings base pool
-  pub operations : All IsOfPool pool
-  pub report : IsOn base pool text number
+use Rattle.question_model.specs.PoolAnswer.{IsReportedOfPool}
 
 abbrev pub IsAnswerTo : Question → List ℕ → Settings → Answer → Type 0
 IsAnswerTo (Visit visit) bytes settings answer = IsVisited bytes settings visit.report visit.limit answer

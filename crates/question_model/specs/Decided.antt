@@ -1,7 +1,8 @@
 -- The faults that some sets have, each with the first set that has it.
 use Rattle.std.specs.Prelude.{ℕ, List, map}
 use Rattle.std.specs.List.{All, AllPairs, Contains}
-use Rattle.crash_model.specs.FaultRows.{IsFaultBefore, IsFirst}
+use Rattle.crash_model.specs.FaultOrder.{IsFaultBefore}
+use Rattle.crash_model.specs.FirstSets.{IsFirst}
 use Rattle.crash_model.specs.declared.fault.Fault.{Fault}
 use Rattle.question_model.specs.declared.decided_fault.DecidedFault.{DecidedFault}
 

@@ -4,9 +4,9 @@ use Rattle.std.specs.Prelude.{◌≢◌, ℕ, ◌<◌, List, length, Bool, not, 
 use Rattle.patch_sets.specs.Sets.{Has, has, IsSubset}
 use Rattle.crash_model.specs.Disk.{Disk}
 use Rattle.crash_model.specs.Lists.{some_below}
-use Rattle.crash_model.specs.RuleUse.{HasGraphBy}
+use Rattle.crash_model.specs.OtherRules.{HasGraphBy}
 use Rattle.crash_model.specs.Checker.{Demands, IsFailingUnder}
-use Rattle.crash_model.specs.Trace.{Tracing}
+use Rattle.crash_model.specs.Tracing.{Tracing}
 use Rattle.crash_model.specs.declared.rules.Rule.{Rule}
 
 -- the places are those of rules of the list
@@ -24,20 +24,6 @@ rules_in rules set = rules_where rules (has set)
 
 abbrev pub rules_but : List Rule → ℕ → List Rule
 rules_but rules set = rules_where rules (λ place. not (has set place))
-
--- a minimal set of rules that are enough for a purpose: those of no smaller part are
-pub record IsMinimalFor (IsEnough : List Rule → Type 0) (rules : List Rule) (set : ℕ) : Type 0 where
-  pub places : ArePlaces rules set
-  pub enough : IsEnough (rules_in rules set)
-  pub minimal : (part : ℕ) → IsSubset part set → part ≢ set → ¬ (IsEnough (rules_in rules part))
-
--- a minimal group of rules of which one is needed for it: all rules but the group are not enough, and all but a smaller
--- part of it are
-pub record IsNeededFor (IsEnough : List Rule → Type 0) (rules : List Rule) (group : ℕ) : Type 0 where
-  pub places : ArePlaces rules group
-  pub some : group ≢ 0
-  pub needed : ¬ (IsEnough (rules_but rules group))
-  pub minimal : (part : ℕ) → IsSubset part group → part ≢ group → IsEnough (rules_but rules part)
 
 -- these rules are enough: no closed set of the patches by them fails
 abbrev pub AreEnough : Demands → Disk → Tracing → List Rule → Type 0

@@ -1,7 +1,7 @@
 -- Which rules of an ordering are enough for all workloads of a search together.
 use Rattle.std.specs.Prelude.{ℕ, List}
 use Rattle.crash_model.specs.declared.rules.Rule.{Rule}
-use Rattle.question_model.specs.Enough.{IsMinimalFor, IsNeededFor}
+use Rattle.question_model.specs.MinimalRules.{IsMinimalFor, IsNeededFor}
 use Rattle.question_model.specs.Workloads.{Search, IsWorkload, Fails}
 
 -- the same search by other rules

@@ -6,9 +6,9 @@ use Rattle.patch_sets.specs.Sets.{has, IsSubset}
 use Rattle.crash_model.specs.ChosenWaits.{tracing_waiting, demands_waiting}
 use Rattle.crash_model.specs.Disk.{Disk}
 use Rattle.crash_model.specs.Lists.{some_below}
-use Rattle.crash_model.specs.RuleUse.{HasGraphBy}
+use Rattle.crash_model.specs.OtherRules.{HasGraphBy}
 use Rattle.crash_model.specs.Checker.{Demands, IsFailingUnder}
-use Rattle.crash_model.specs.Trace.{Tracing}
+use Rattle.crash_model.specs.Tracing.{Tracing}
 use Rattle.crash_model.specs.Waiting.{Wait}
 use Rattle.crash_model.specs.declared.rules.Rule.{Rule}
 

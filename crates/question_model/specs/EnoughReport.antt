@@ -3,29 +3,34 @@ use Rattle.std.specs.Prelude.{◌≡◌, ◌≢◌, ℕ, List, [], ◌∷◌, �
 use Rattle.std.specs.Prelude.{None, codes, decimal, option_to_list}
 use Rattle.std.specs.List.{All}
 use Rattle.patch_sets.specs.Sets.{AreAllInOrder}
-use Rattle.report_model.specs.Answer.{detail_of, ordering_rules}
+use Rattle.report_model.specs.Answer.{detail_of}
+use Rattle.report_model.specs.ScriptGraph.{ordering_rules}
 use Rattle.crash_model.specs.Disk.{Disk}
 use Rattle.crash_model.specs.Reasons.{Explanation, explanation}
-use Rattle.report_model.specs.Explain.{explanation_text, trace_json, told_waits_json}
-use Rattle.report_model.specs.Shows.{shows_json, promises_text, promises_json, counted_json, durable_json}
+use Rattle.report_model.specs.OptionTexts.{explanation_text, promises_text, told_without, told_with}
+use Rattle.report_model.specs.OptionKeys.{trace_json, told_waits_json, promises_json, counted_json, durable_json}
+use Rattle.report_model.specs.OptionKeys.{first_json, rules_json, before_module}
+use Rattle.report_model.specs.SectionJson.{shows_json, replay_json, writes_json}
 use Rattle.crash_model.specs.Promises.{Promise}
 use Rattle.crash_model.specs.Lists.{when}
-use Rattle.crash_model.specs.RuleUse.{HasGraphBy}
+use Rattle.crash_model.specs.OtherRules.{HasGraphBy}
 use Rattle.crash_model.specs.Patches.{CountsClosed}
 use Rattle.report_model.specs.FaultKeys.{fault_head}
-use Rattle.report_model.specs.Report.{Detail, AreSections, IsLed, Form, line, json_string, json_array}
+use Rattle.report_model.specs.Report.{Detail, AreSections, IsLed, line}
+use Rattle.report_model.specs.JsonParts.{Form, json_string, json_array, ids_json}
 use Rattle.crash_model.specs.Texts.{module_text}
-use Rattle.report_model.specs.Report.{ids_json, replay_json, writes_json}
-use Rattle.crash_model.specs.Rules.{rule_text}
+use Rattle.crash_model.specs.RuleTexts.{rule_text}
 use Rattle.crash_model.specs.Checker.{Demands}
-use Rattle.crash_model.specs.FaultRows.{HasFault, IsFaultBefore, IsFirst}
-use Rattle.crash_model.specs.Trace.{Tracing}
-use Rattle.report_model.specs.Whole.{told_without, told_with, first_json, rules_json, before_module, form_of}
+use Rattle.crash_model.specs.FirstSets.{HasFault, IsFirst}
+use Rattle.crash_model.specs.FaultOrder.{IsFaultBefore}
+use Rattle.crash_model.specs.Tracing.{Tracing}
+use Rattle.report_model.specs.WholeJson.{form_of}
 use Rattle.crash_model.specs.declared.fault.Fault.{Fault}
 use Rattle.crash_model.specs.declared.patches.Patch.{Patch}
 use Rattle.crash_model.specs.declared.rules.Rule.{Rule}
 use Rattle.crash_model.specs.declared.settings.Settings.{Settings}
-use Rattle.question_model.specs.Decision.{ToldDecided, ordering_text, decided_shows, decided_text, decided_json}
+use Rattle.question_model.specs.ToldDecided.{ToldDecided, decided_shows, decided_text, decided_json}
+use Rattle.question_model.specs.OrderingText.{ordering_text}
 use Rattle.question_model.specs.declared.decided_fault.DecidedFault.{DecidedFault}
 use Rattle.question_model.specs.Enough.{rules_in, rules_but, IsMinimalEnough, IsNeeded}
 

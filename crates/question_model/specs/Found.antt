@@ -2,7 +2,7 @@
 use Rattle.std.specs.Prelude.{ℕ, ◌≤◌, ◌<◌, List, map}
 use Rattle.std.specs.List.{All, AllPairs, Contains}
 use Rattle.crash_model.specs.Checker.{Demands}
-use Rattle.crash_model.specs.FaultRows.{IsFirst}
+use Rattle.crash_model.specs.FirstSets.{IsFirst}
 use Rattle.crash_model.specs.declared.patches.Patch.{Patch}
 use Rattle.question_model.specs.Kinds.{kind_number}
 use Rattle.question_model.specs.Refused.{refusal_number}

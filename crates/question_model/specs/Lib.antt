@@ -1,6 +1,9 @@
 pub mod Decided
+pub mod OrderingText
+pub mod ToldDecided
 pub mod Decision
 pub mod Enough
+pub mod MinimalRules
 pub mod EnoughLines
 pub mod EnoughReport
 pub mod LinesReport
@@ -14,5 +17,6 @@ pub mod Found
 pub mod SearchReport
 pub mod EnoughFor
 pub mod SearchRulesReport
+pub mod PoolAnswer
 pub mod Answers
 pub mod Asked

@@ -4,17 +4,21 @@ use Rattle.std.specs.Prelude.{Ok, Err, slice_get, option_to_list, codes, decimal
 use Rattle.std.specs.List.{All}
 use Rattle.patch_sets.specs.Ends.{IsDifference}
 use Rattle.patch_sets.specs.Sets.{AreAllInOrder}
-use Rattle.report_model.specs.Answer.{HasBase, IsUntraced, detail_of, ordering_rules}
-use Rattle.report_model.specs.Report.{line, json_array}
+use Rattle.report_model.specs.Answer.{detail_of}
+use Rattle.report_model.specs.ScriptGraph.{HasBase, ordering_rules}
+use Rattle.report_model.specs.Untraced.{IsUntraced}
+use Rattle.report_model.specs.Report.{line}
+use Rattle.report_model.specs.JsonParts.{json_array}
 use Rattle.crash_model.specs.ChosenWaits.{tracing_waiting, demands_waiting, up_to_wait}
 use Rattle.crash_model.specs.Disk.{Disk}
 use Rattle.crash_model.specs.Reasons.{explanation}
 use Rattle.crash_model.specs.Lists.{when}
 use Rattle.crash_model.specs.Refusals.{run_of_trace}
-use Rattle.crash_model.specs.RuleUse.{HasGraphBy}
+use Rattle.crash_model.specs.OtherRules.{HasGraphBy}
 use Rattle.crash_model.specs.Patches.{CountsClosed}
 use Rattle.crash_model.specs.Checker.{Demands}
-use Rattle.crash_model.specs.Trace.{Tracing, trace_start, trace_from}
+use Rattle.crash_model.specs.Trace.{trace_from}
+use Rattle.crash_model.specs.Tracing.{Tracing, trace_start}
 use Rattle.crash_model.specs.Waiting.{Wait}
 use Rattle.crash_model.specs.declared.patches.Patch.{Patch}
 use Rattle.crash_model.specs.declared.refusals.RunFault.{RunFault}
@@ -22,7 +26,7 @@ use Rattle.crash_model.specs.declared.refusals.RunFault.TheVariants.{TooManySync
 use Rattle.crash_model.specs.declared.refusals.TraceFault.{TraceFault}
 use Rattle.crash_model.specs.declared.settings.Settings.{Settings}
 use Rattle.crash_model.specs.declared.steps.Step.{Step}
-use Rattle.question_model.specs.Decision.{ToldDecided}
+use Rattle.question_model.specs.ToldDecided.{ToldDecided}
 use Rattle.question_model.specs.EnoughLines.{waits_in, all_waits, IsMinimalLines, IsNeededLines}
 use Rattle.question_model.specs.EnoughReport.{IsToldFirst, IsToldAny, ToldGroup, Choices, enough_bytes}
 use Rattle.question_model.specs.declared.question.TheConstants.{MAX_SYNCS}

@@ -4,23 +4,26 @@ use Rattle.std.specs.Prelude.{◌≡◌, ℕ, List, [], ◌∷◌, ◌++◌, len
 use Rattle.std.specs.Prelude.{Bool, ◌==◌, Option, Some, None}
 use Rattle.std.specs.List.{All}
 use Rattle.crash_model.specs.declared.separators.TheConstants.{SPACE}
-use Rattle.report_model.specs.Answer.{HasBase, IsUntraced, ordering_rules, asked_by}
-use Rattle.report_model.specs.Shows.{shows_json, counted_numbers}
+use Rattle.report_model.specs.ScriptGraph.{HasBase, ordering_rules, asked_by}
+use Rattle.report_model.specs.Untraced.{IsUntraced}
+use Rattle.report_model.specs.Shows.{counted_numbers}
+use Rattle.report_model.specs.SectionJson.{shows_json, replay_json, writes_json}
 use Rattle.crash_model.specs.Checker.{Demands}
 use Rattle.crash_model.specs.Disk.{Disk}
 use Rattle.crash_model.specs.Lists.{join_of}
 use Rattle.report_model.specs.FaultKeys.{faults_head}
 use Rattle.report_model.specs.Report.{Section, AreSections, IsLed, line, section_text}
 use Rattle.crash_model.specs.Texts.{module_text}
-use Rattle.report_model.specs.Report.{json_string, json_array, ids_json, replay_json, writes_json}
+use Rattle.report_model.specs.JsonParts.{json_string, json_array, ids_json}
 use Rattle.crash_model.specs.Script.{words_of}
-use Rattle.report_model.specs.Whole.{told_without, told_with, atomic_json, rules_json, disk_json}
+use Rattle.report_model.specs.OptionTexts.{told_without, told_with}
+use Rattle.report_model.specs.OptionKeys.{atomic_json, rules_json, disk_json}
 use Rattle.crash_model.specs.declared.patches.Patch.{Patch}
 use Rattle.crash_model.specs.declared.refusals.RunFault.{RunFault}
 use Rattle.crash_model.specs.declared.refusals.RunFault.TheVariants.{GroupFault}
 use Rattle.crash_model.specs.declared.settings.Settings.{Settings}
 use Rattle.crash_model.specs.declared.steps.Step.{Step}
-use Rattle.question_model.specs.Decision.{ordering_text}
+use Rattle.question_model.specs.OrderingText.{ordering_text}
 use Rattle.question_model.specs.Kinds.{kind_number, kind_name}
 use Rattle.question_model.specs.Refused.{refusal_number, refusal_text}
 use Rattle.question_model.specs.Found.{AreFound}

@@ -3,26 +3,27 @@ use Rattle.std.specs.Prelude.{◌≡◌, ℕ, List, [], ◌++◌, length, map, f
 use Rattle.std.specs.Prelude.{Bool, ◌==◌}
 use Rattle.std.specs.List.{All}
 use Rattle.patch_sets.specs.Sets.{AreAllInOrder}
-use Rattle.report_model.specs.Answer.{ordering_rules}
+use Rattle.report_model.specs.ScriptGraph.{ordering_rules}
 use Rattle.crash_model.specs.Checker.{Demands}
 use Rattle.crash_model.specs.Disk.{Disk}
 use Rattle.crash_model.specs.Texts.{module_text}
 use Rattle.report_model.specs.FaultKeys.{fault_head}
-use Rattle.report_model.specs.Report.{line, json_string, json_array, ids_json, replay_json}
-use Rattle.report_model.specs.Report.{writes_json}
-use Rattle.report_model.specs.Whole.{told_without, told_with, atomic_json, rules_json, before_module}
+use Rattle.report_model.specs.Report.{line}
+use Rattle.report_model.specs.JsonParts.{json_string, json_array, ids_json}
+use Rattle.report_model.specs.SectionJson.{replay_json, writes_json, shows_json}
+use Rattle.report_model.specs.OptionTexts.{told_without, told_with}
+use Rattle.report_model.specs.OptionKeys.{atomic_json, rules_json, before_module}
 use Rattle.crash_model.specs.declared.patches.Patch.{Patch}
 use Rattle.crash_model.specs.declared.rules.Rule.{Rule}
 use Rattle.crash_model.specs.declared.settings.Settings.{Settings}
 use Rattle.crash_model.specs.declared.steps.Step.{Step}
-use Rattle.question_model.specs.Decision.{ToldDecided, decided_shows, decided_text}
+use Rattle.question_model.specs.ToldDecided.{ToldDecided, decided_shows, decided_text}
 use Rattle.question_model.specs.Enough.{rules_but}
 use Rattle.question_model.specs.EnoughReport.{IsToldFirst, rules_text, set_json}
 use Rattle.question_model.specs.Found.{AreFound}
 use Rattle.question_model.specs.SearchReport.{refused_json, search_of, search_text, step_text, first_promise_keys}
 use Rattle.question_model.specs.Sequences.{IsFirstSequence}
 use Rattle.question_model.specs.Workloads.{Search, HasPatches, steps_at, places_of}
-use Rattle.report_model.specs.Shows.{shows_json}
 use Rattle.question_model.specs.declared.found.Found.{Found}
 use Rattle.question_model.specs.EnoughFor.{FailsBy, IsMinimalInSearch, IsNeededInSearch, search_with}
 

@@ -5,8 +5,9 @@ use Rattle.std.specs.Prelude.{false, ◌||◌, IsTrue, Some, Result, Ok, Err, sl
 use Rattle.std.specs.List.{All}
 use Rattle.crash_model.specs.Disk.{Disk}
 use Rattle.crash_model.specs.Checker.{Demands, Asked, AreDemands, IsFailingUnder}
-use Rattle.crash_model.specs.FaultRows.{HasFault}
-use Rattle.crash_model.specs.Trace.{Tracing, trace_start, trace_from, IsGraphOf}
+use Rattle.crash_model.specs.FirstSets.{HasFault}
+use Rattle.crash_model.specs.Trace.{trace_from, IsGraphOf}
+use Rattle.crash_model.specs.Tracing.{Tracing, trace_start}
 use Rattle.crash_model.specs.declared.fault.Fault.{Fault}
 use Rattle.crash_model.specs.declared.modules.Module.{Module}
 use Rattle.crash_model.specs.declared.patches.Patch.{Patch}

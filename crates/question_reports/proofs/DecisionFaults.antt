@@ -3,11 +3,12 @@ use Rattle.std.proofs.Common.{◌≡◌, ℕ, ◌+◌, ◌<◌, List, [], ◌∷
 use Rattle.std.proofs.Common.{arith, length-take}
 use Rattle.std.specs.List.{flat_map}
 use Rattle.std.proofs.lemmas.List.{length-map}
-use Rattle.report_model.specs.Report.{Detail, Form}
+use Rattle.report_model.specs.Report.{Detail}
+use Rattle.report_model.specs.JsonParts.{Form}
 use Rattle.crash_model.specs.Disk.{Disk}
 use Rattle.crash_model.specs.declared.fault.Fault.TheVariants.{Dangling}
 use Rattle.crash_model.specs.declared.patches.Patch.{Patch}
-use Rattle.question_model.specs.Decision.{ToldDecided, decided_text, decided_json}
+use Rattle.question_model.specs.ToldDecided.{ToldDecided, decided_text, decided_json}
 use Rattle.question_model.specs.declared.decided_fault.DecidedFault.{DecidedFault}
 use Rattle.report_sections.specs.declared.section.Section.{Section}
 use Rattle.report_sections.specs.Sections.{section_of, IsSection}

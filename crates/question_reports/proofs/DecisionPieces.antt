@@ -4,17 +4,20 @@ use Rattle.std.proofs.Common.{append_assoc}
 use Rattle.std.specs.Prelude.{if◌then◌else◌}
 use Rattle.std.specs.List.{flat_map}
 use Rattle.crash_model.specs.Disk.{Disk}
-use Rattle.report_model.specs.Explain.{trace_json, explanation_text, told_waits_json}
+use Rattle.report_model.specs.OptionKeys.{trace_json, told_waits_json, counted_json, durable_json, promises_json}
+use Rattle.report_model.specs.OptionKeys.{first_json, rules_json, before_module}
+use Rattle.report_model.specs.OptionTexts.{explanation_text, promises_text, told_with, told_without}
 use Rattle.crash_model.specs.Lists.{when}
 use Rattle.crash_model.specs.Promises.{Promise}
-use Rattle.report_model.specs.Shows.{counted_json, durable_json, promises_json, promises_text}
 use Rattle.report_model.specs.FaultKeys.{fault_head}
-use Rattle.report_model.specs.Report.{Form, Section, ids_json, replay_json, writes_json}
+use Rattle.report_model.specs.Report.{Section}
+use Rattle.report_model.specs.JsonParts.{Form, ids_json}
+use Rattle.report_model.specs.SectionJson.{replay_json, writes_json}
 use Rattle.crash_model.specs.Texts.{module_text}
-use Rattle.report_model.specs.Whole.{first_json, rules_json, told_with, told_without, before_module}
 use Rattle.crash_model.specs.declared.settings.Settings.{Settings}
-use Rattle.question_model.specs.Decision.{ToldDecided, decided_text, decided_json, text_decision, json_decision}
-use Rattle.question_model.specs.Decision.{decision_bytes, ordering_text}
+use Rattle.question_model.specs.Decision.{text_decision, json_decision, decision_bytes}
+use Rattle.question_model.specs.ToldDecided.{ToldDecided, decided_text, decided_json}
+use Rattle.question_model.specs.OrderingText.{ordering_text}
 use Rattle.question_model.specs.declared.decided_fault.DecidedFault.{DecidedFault}
 use Rattle.json_values.specs.Items.{crash_json, fault_shows_json}
 use Rattle.report_json.specs.JsonReport.{module_key, promise_keys, strict_key, told_promises, whole_key, from_strict}

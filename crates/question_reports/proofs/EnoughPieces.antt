@@ -5,13 +5,16 @@ use Rattle.std.specs.Prelude.{if◌then◌else◌, option_map, option_to_list}
 use Rattle.std.specs.List.{flat_map}
 use Rattle.std.proofs.lemmas.List.Folds.{flat_map-map}
 use Rattle.std.proofs.lemmas.Simd.{map-map}
-use Rattle.report_model.specs.Explain.{trace_json, told_waits_json}
+use Rattle.report_model.specs.OptionKeys.{trace_json, told_waits_json, counted_json, durable_json, promises_json}
+use Rattle.report_model.specs.OptionKeys.{first_json, rules_json, before_module}
 use Rattle.crash_model.specs.Lists.{join_of, when}
 use Rattle.crash_model.specs.Texts.{module_text}
-use Rattle.report_model.specs.Report.{Form, ids_json, json_string, line, write_json}
-use Rattle.report_model.specs.Shows.{counted_json, durable_json, promises_json}
-use Rattle.report_model.specs.Whole.{first_json, form_of, rules_json, told_with, told_without, before_module}
-use Rattle.question_model.specs.Decision.{decided_text}
+use Rattle.report_model.specs.Report.{line}
+use Rattle.report_model.specs.JsonParts.{Form, ids_json, json_string}
+use Rattle.report_model.specs.SectionJson.{write_json}
+use Rattle.report_model.specs.WholeJson.{form_of}
+use Rattle.report_model.specs.OptionTexts.{told_with, told_without}
+use Rattle.question_model.specs.ToldDecided.{decided_text}
 use Rattle.question_reports.specs.Chosen.{choices_of}
 use Rattle.question_reports.specs.DecisionParts.{head_lines}
 use Rattle.question_model.specs.EnoughReport.{Choices, ToldGroup, first_fault_json, group_json, group_text}

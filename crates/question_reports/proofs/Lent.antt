@@ -2,7 +2,8 @@
 use denote.Ref.{Bor}
 use Rattle.std.proofs.Common.{ℕ, List, ◌++◌, codes}
 use Rattle.crash_model.specs.Lists.{join_of}
-use Rattle.report_model.specs.Report.{json_string, line}
+use Rattle.report_model.specs.Report.{line}
+use Rattle.report_model.specs.JsonParts.{json_string}
 use Rattle.crash_model.specs.Script.{words_of}
 use Rattle.crash_model.specs.declared.steps.Act.{Act}
 

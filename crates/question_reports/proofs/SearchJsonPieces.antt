@@ -4,10 +4,10 @@ use Rattle.std.proofs.lemmas.Simd.{map-map}
 use Rattle.crash_model.specs.Lists.{join_of}
 use Rattle.crash_model.specs.Texts.{module_text}
 use Rattle.report_model.specs.FaultKeys.{faults_head}
-use Rattle.report_model.specs.Report.{ids_json, json_array, json_string, replay_json}
-use Rattle.report_model.specs.Report.{write_json}
-use Rattle.report_model.specs.Shows.{shows_json}
-use Rattle.report_model.specs.Whole.{atomic_json, rules_json, told_with, told_without}
+use Rattle.report_model.specs.JsonParts.{ids_json, json_array, json_string}
+use Rattle.report_model.specs.SectionJson.{replay_json, write_json, shows_json}
+use Rattle.report_model.specs.OptionKeys.{atomic_json, rules_json}
+use Rattle.report_model.specs.OptionTexts.{told_with, told_without}
 use Rattle.crash_model.specs.declared.settings.Settings.{Settings}
 use Rattle.crash_model.specs.declared.steps.Step.{Step}
 use Rattle.report_json.specs.JsonReport.{strict_key, whole_key}

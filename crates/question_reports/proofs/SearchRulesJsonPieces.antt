@@ -1,12 +1,14 @@
 -- A report as JSON, written piece by piece.
 use Rattle.std.proofs.Common.{◌≡◌, ℕ, List, [], ◌++◌, length, map, codes, decimal, Bool, sym, ap, ◌∙◌, append_assoc}
 use Rattle.std.proofs.lemmas.Simd.{map-map}
-use Rattle.report_model.specs.Answer.{ordering_rules}
+use Rattle.report_model.specs.ScriptGraph.{ordering_rules}
 use Rattle.crash_model.specs.Lists.{join_of}
-use Rattle.report_model.specs.Report.{ids_json, json_array, json_string, replay_json, write_json}
+use Rattle.report_model.specs.JsonParts.{ids_json, json_array, json_string}
+use Rattle.report_model.specs.SectionJson.{replay_json, write_json}
 use Rattle.crash_model.specs.Texts.{module_text}
 use Rattle.report_model.specs.FaultKeys.{fault_head}
-use Rattle.report_model.specs.Whole.{atomic_json, rules_json, told_with, told_without, before_module}
+use Rattle.report_model.specs.OptionKeys.{atomic_json, rules_json, before_module}
+use Rattle.report_model.specs.OptionTexts.{told_with, told_without}
 use Rattle.crash_model.specs.declared.rules.Rule.{Rule}
 use Rattle.crash_model.specs.declared.steps.Step.{Step}
 use Rattle.question_reports.specs.EnoughFindings.{group_head, set_items, told_first}

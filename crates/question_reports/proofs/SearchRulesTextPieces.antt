@@ -2,10 +2,10 @@
 use Rattle.std.proofs.Common.{◌≡◌, ℕ, List, [], ◌++◌, length, codes, decimal, sym, ap, ◌∙◌, append_assoc}
 use Rattle.std.specs.List.{flat_map}
 use Rattle.std.proofs.lemmas.List.Folds.{flat_map-map}
-use Rattle.report_model.specs.Answer.{ordering_rules}
+use Rattle.report_model.specs.ScriptGraph.{ordering_rules}
 use Rattle.report_model.specs.Report.{line}
 use Rattle.crash_model.specs.declared.rules.Rule.{Rule}
-use Rattle.question_model.specs.Decision.{decided_text}
+use Rattle.question_model.specs.ToldDecided.{decided_text}
 use Rattle.question_model.specs.EnoughReport.{rules_text}
 use Rattle.question_model.specs.SearchReport.{search_text, step_text}
 use Rattle.question_model.specs.SearchRulesReport.{ToldNeed, need_text, text_search_rules}

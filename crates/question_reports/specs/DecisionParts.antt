@@ -3,16 +3,17 @@ use Rattle.std.specs.Prelude.{◌≡◌, ℕ, List, ◌++◌, length, map, Optio
 use Rattle.crash_model.specs.declared.separators.TheConstants.{COMMA}
 use Rattle.report_model.specs.Answer.{detail_of}
 use Rattle.crash_model.specs.Disk.{Disk}
-use Rattle.report_model.specs.Explain.{explanation_text}
+use Rattle.report_model.specs.OptionTexts.{explanation_text, promises_text}
 use Rattle.crash_model.specs.Lists.{join_of, when}
 use Rattle.crash_model.specs.Promises.{Promise}
-use Rattle.report_model.specs.Report.{Detail, Form, AreSections, line}
-use Rattle.report_model.specs.Shows.{promises_text}
-use Rattle.report_model.specs.Whole.{form_of}
+use Rattle.report_model.specs.Report.{Detail, AreSections, line}
+use Rattle.report_model.specs.JsonParts.{Form}
+use Rattle.report_model.specs.WholeJson.{form_of}
 use Rattle.crash_model.specs.declared.patches.Patch.{Patch}
 use Rattle.crash_model.specs.declared.settings.Settings.{Settings}
 use Rattle.question_model.specs.Decision as model
-use Rattle.question_model.specs.Decision.{ToldDecided, ordering_text, decided_json}
+use Rattle.question_model.specs.ToldDecided.{ToldDecided, decided_json}
+use Rattle.question_model.specs.OrderingText.{ordering_text}
 use Rattle.question_model.specs.declared.decided_fault.DecidedFault.{DecidedFault}
 use Rattle.traced_patches.specs.Traced.{TracedPatches}
 use Rattle.report_json.specs.JsonReport.{told_promises}

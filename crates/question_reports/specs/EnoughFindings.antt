@@ -3,8 +3,9 @@ use Rattle.std.specs.Prelude.{ℕ, List, ◌++◌, Bool, length, map, flat_map, 
 use Rattle.crash_model.specs.declared.separators.TheConstants.{COMMA}
 use Rattle.crash_model.specs.Lists.{join_of, when}
 use Rattle.report_model.specs.FaultKeys.{fault_head}
-use Rattle.report_model.specs.Report.{Form, replay_json}
-use Rattle.question_model.specs.Decision.{ToldDecided}
+use Rattle.report_model.specs.JsonParts.{Form}
+use Rattle.report_model.specs.SectionJson.{replay_json}
+use Rattle.question_model.specs.ToldDecided.{ToldDecided}
 use Rattle.question_model.specs.EnoughReport.{Choices, EnoughFound, ToldGroup, group_json, group_text}
 use Rattle.report_json.specs.JsonReport.{told_promises}
 use Rattle.report_sections.specs.Bodies.{explanation_by}

@@ -3,8 +3,10 @@ use Rattle.std.specs.Prelude.{ℕ, List, [], ◌++◌, map, flat_map, if◌then�
 use Rattle.crash_model.specs.declared.separators.TheConstants.{COMMA}
 use Rattle.crash_model.specs.Lists.{join_of}
 use Rattle.report_model.specs.FaultKeys.{faults_head}
-use Rattle.report_model.specs.Report.{json_array, json_string, replay_json}
-use Rattle.report_model.specs.Whole.{told_with, told_without, rules_json}
+use Rattle.report_model.specs.JsonParts.{json_array, json_string}
+use Rattle.report_model.specs.SectionJson.{replay_json}
+use Rattle.report_model.specs.OptionTexts.{told_with, told_without}
+use Rattle.report_model.specs.OptionKeys.{rules_json}
 use Rattle.crash_model.specs.declared.settings.Settings.{Settings}
 use Rattle.crash_model.specs.declared.steps.Act.{Act}
 use Rattle.crash_model.specs.declared.steps.Step.{Step}

@@ -2,7 +2,8 @@
 use Rattle.std.proofs.Common.{◌≡◌, List, Bool, Ok, Err, Result, IfOk, subst}
 use Rattle.std.specs.Prelude.{All}
 use Rattle.crash_model.specs.Disk.{Disk}
-use Rattle.crash_model.specs.Trace.{Tracing, trace_start, trace_from, IsGraphOf}
+use Rattle.crash_model.specs.Trace.{trace_from, IsGraphOf}
+use Rattle.crash_model.specs.Tracing.{Tracing, trace_start}
 use Rattle.crash_model.specs.declared.modules.Module.{Module}
 use Rattle.crash_model.specs.declared.modules.Module.TheVariants.{Full}
 use Rattle.crash_model.specs.declared.patches.Patch.{Patch}

@@ -8,7 +8,8 @@
 ghost use Rattle.std.specs.Prelude.{◌≡◌, ◌<◌, List, Bool, Ok, IfOk, All};
 ghost use Rattle.crash_model.specs.Disk.{Disk, IsDisk};
 ghost use Rattle.crash_model.specs.Sound.{IsSound, HasZeroJournal};
-ghost use Rattle.crash_model.specs.Trace.{Tracing, trace_start, trace_from, IsGraphOf};
+ghost use Rattle.crash_model.specs.Trace.{trace_from, IsGraphOf};
+ghost use Rattle.crash_model.specs.Tracing.{Tracing, trace_start};
 ghost use Rattle.crash_model.specs.declared.modules.Module.{Module as AModule};
 ghost use Rattle.crash_model.specs.declared.rules.Rule.{Rule as ARule};
 ghost use Rattle.crash_model.specs.declared.steps.Step.{Step as AStep};

@@ -5,7 +5,8 @@ use Rattle.std.specs.Prelude.{Some}
 use Rattle.std.specs.List.{filter, range_with_len}
 use Rattle.patch_sets.specs.Sets.{has}
 use Rattle.crash_model.specs.Lists.{join_of}
-use Rattle.report_model.specs.Shows.{counted_json, counted_numbers}
+use Rattle.report_model.specs.Shows.{counted_numbers}
+use Rattle.report_model.specs.OptionKeys.{counted_json}
 use Rattle.report_sections.proofs.Pieces.{array_pieces}
 
 abbrev pub numbers_from : ℕ → ℕ → List ℕ

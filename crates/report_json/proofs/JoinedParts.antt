@@ -3,7 +3,9 @@ use Rattle.std.proofs.Common.{◌≡◌, ℕ, suc, ◌+◌, List, [], ◌∷◌,
 use Rattle.std.proofs.lemmas.List.{append-nil, length-map, map-append}
 use Rattle.crash_model.specs.Disk.{Disk}
 use Rattle.crash_model.specs.Lists.{join_of}
-use Rattle.report_model.specs.Report.{Detail, Form, Section, section_json}
+use Rattle.report_model.specs.Report.{Detail, Section}
+use Rattle.report_model.specs.JsonParts.{Form}
+use Rattle.report_model.specs.SectionJson.{section_json}
 use Rattle.crash_model.specs.declared.patches.Patch.{Patch}
 use Rattle.report_sections.proofs.Joined.{sections_join}
 use Rattle.report_sections.proofs.Pushed.{length-sections}

@@ -2,7 +2,7 @@
 use Rattle.std.proofs.Common.{◌≡◌, ℕ, List, ◌++◌, Bool, true, false, sym, ap, ◌∙◌, append_assoc}
 use Rattle.std.proofs.lemmas.List.{append-nil}
 use Rattle.crash_model.specs.Disk.{Disk}
-use Rattle.report_model.specs.Explain.{base_json, trace_json}
+use Rattle.report_model.specs.OptionKeys.{base_json, trace_json}
 use Rattle.crash_model.specs.Lists.{when}
 use Rattle.traced_patches.specs.Traced.{TracedPatches}
 use Rattle.report_sections.proofs.Pieces.{five_pieces}

@@ -8,13 +8,13 @@ use Rattle.crash_model.specs.Checker.{promised}
 use Rattle.crash_model.specs.Lists.{join_of, when}
 use Rattle.crash_model.specs.Promises.{Promise}
 use Rattle.crash_model.specs.Reasons.{Explanation}
-use Rattle.crash_model.specs.Script.{path_text}
-use Rattle.crash_model.specs.Texts.{act_text}
+use Rattle.crash_model.specs.PathTexts.{path_text}
+use Rattle.crash_model.specs.PatchTexts.{act_text}
 use Rattle.crash_model.specs.Waiting.{Wait}
 use Rattle.crash_model.specs.declared.names.Path.{Path}
-use Rattle.report_model.specs.Explain.{told_waits_json}
-use Rattle.report_model.specs.Report.{ids_json, json_string}
-use Rattle.report_model.specs.Shows.{promise_json, promises_json, spare_text, together, wait_json}
+use Rattle.report_model.specs.OptionKeys.{told_waits_json, promises_json}
+use Rattle.report_model.specs.JsonParts.{ids_json, json_string}
+use Rattle.report_model.specs.Shows.{promise_json, spare_text, together, wait_json}
 use Rattle.report_sections.proofs.Pieces.{array_pieces}
 use Rattle.report_json.specs.JsonReport.{paths_key}
 use Rattle.json_values.proofs.SectionPieces.{three_pieces}

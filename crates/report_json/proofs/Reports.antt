@@ -3,15 +3,17 @@ use Rattle.std.proofs.Common.{◌≡◌, ℕ, ◌+◌, ◌<◌, List, [], ◌∷
 use Rattle.std.proofs.Common.{decimal, refl, sym, ap, ◌∙◌, arith, append_assoc, length-take}
 use Rattle.std.proofs.lemmas.List.{length-map, map-append}
 use Rattle.crash_model.specs.Lists.{when}
-use Rattle.report_model.specs.Explain.{trace_json, told_waits_json}
+use Rattle.report_model.specs.OptionKeys.{trace_json, told_waits_json, counted_json, durable_json, promises_json}
+use Rattle.report_model.specs.OptionKeys.{first_json, rules_json, before_module}
 use Rattle.crash_model.specs.Disk.{Disk}
-use Rattle.report_model.specs.Report.{Detail, Form, section_json}
+use Rattle.report_model.specs.Report.{Detail}
+use Rattle.report_model.specs.JsonParts.{Form}
+use Rattle.report_model.specs.SectionJson.{section_json}
 use Rattle.crash_model.specs.Texts.{module_text}
-use Rattle.report_model.specs.Shows.{counted_json, durable_json, promises_json}
 use Rattle.report_model.specs.Summary.{ToldFault, told_fault_json}
-use Rattle.report_model.specs.Whole.{Body, told_with, told_without, first_json, rules_json}
-use Rattle.report_model.specs.Whole.{early_json, late_json, before_module}
-use Rattle.report_model.specs.Whole.{json_report}
+use Rattle.report_model.specs.Whole.{Body}
+use Rattle.report_model.specs.OptionTexts.{told_with, told_without}
+use Rattle.report_model.specs.WholeJson.{early_json, late_json, json_report}
 use Rattle.crash_model.specs.declared.fault.FaultRow.{FaultRow}
 use Rattle.crash_model.specs.declared.patches.Patch.{Patch}
 use Rattle.report_sections.specs.Bodies.{explanation_by, whole_of}

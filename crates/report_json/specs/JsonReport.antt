@@ -7,15 +7,19 @@ use Rattle.crash_model.specs.Checker.{Demands}
 use Rattle.crash_model.specs.Disk.{Disk}
 use Rattle.crash_model.specs.Promises.{Promise}
 use Rattle.crash_model.specs.Reasons.{Explanation, blocks_of, told_patches}
-use Rattle.report_model.specs.Explain.{hex_json, told_json, trace_json, told_waits_json}
-use Rattle.report_model.specs.Report.{Detail, Form, Section, AreSections, json_array, json_string, section_json}
-use Rattle.report_model.specs.Shows.{counted_json, durable_json, promises_json}
-use Rattle.crash_model.specs.Script.{path_text}
+use Rattle.report_model.specs.Explain.{hex_json, told_json}
+use Rattle.report_model.specs.OptionKeys.{trace_json, told_waits_json, counted_json, durable_json, promises_json}
+use Rattle.report_model.specs.OptionKeys.{rules_json, before_module}
+use Rattle.report_model.specs.Report.{Detail, Section, AreSections}
+use Rattle.report_model.specs.JsonParts.{Form, json_array, json_string}
+use Rattle.report_model.specs.SectionJson.{section_json}
+use Rattle.crash_model.specs.PathTexts.{path_text}
 use Rattle.crash_model.specs.Texts.{module_text}
 use Rattle.report_model.specs.Summary.{ToldFault, told_fault_json}
 use Rattle.report_model.specs.Needs.{told_rule_json}
 use Rattle.report_model.specs.Whole as whole
-use Rattle.report_model.specs.Whole.{early_json, late_json, rules_json, told_with, told_without, before_module, form_of}
+use Rattle.report_model.specs.WholeJson.{early_json, late_json, form_of}
+use Rattle.report_model.specs.OptionTexts.{told_with, told_without}
 use Rattle.crash_model.specs.declared.fault.FaultRow.{FaultRow}
 use Rattle.crash_model.specs.declared.patches.Patch.{Patch}
 use Rattle.crash_model.specs.declared.names.Path.{Path}

@@ -2,16 +2,16 @@
 
 ghost use Rattle.std.specs.Prelude.{◌≡◌, ◌++◌, codes, decimal, length, map, string_bytes, OnOk};
 ghost use Rattle.crash_model.specs.Disk.{Disk};
-ghost use Rattle.report_model.specs.Explain.{base_json, trace_json};
+ghost use Rattle.report_model.specs.OptionKeys.{base_json, trace_json, atomic_json, before_module, disk_json};
+ghost use Rattle.report_model.specs.OptionKeys.{first_json, format_json, generations_json, geometry_json, rules_json};
+ghost use Rattle.report_model.specs.OptionKeys.{counted_json, durable_json};
 ghost use Rattle.crash_model.specs.Lists.{join_of, when};
-ghost use Rattle.report_model.specs.Report.{json_string};
+ghost use Rattle.report_model.specs.JsonParts.{json_string};
 ghost use Rattle.crash_model.specs.Texts.{module_text};
-ghost use Rattle.crash_model.specs.Rules.{rule_text};
-ghost use Rattle.report_model.specs.Whole.{atomic_json, before_module, disk_json, first_json, format_json};
-ghost use Rattle.report_model.specs.Whole.{generations_json, geometry_json, rules_json};
+ghost use Rattle.crash_model.specs.RuleTexts.{rule_text};
 ghost use Rattle.traced_patches.specs.Traced.{TracedPatches};
 ghost use Rattle.report_sections.specs.Bodies.{explanation_by};
-ghost use Rattle.report_model.specs.Shows.{counted_json, counted_numbers, durable_json};
+ghost use Rattle.report_model.specs.Shows.{counted_numbers};
 ghost use Rattle.report_json.specs.JsonReport.{module_key, promise_keys, strict_key, told_promises};
 ghost use Rattle.report_json.specs.JsonReport.{whole_key, from_strict};
 

@@ -3,10 +3,10 @@
 ghost use Rattle.std.specs.Prelude.{◌≡◌, ◌++◌, codes, if◌then◌else◌, is_some, length, map, string_bytes, OnOk};
 ghost use Rattle.crash_model.specs.Disk.{Disk};
 ghost use Rattle.crash_model.specs.Lists.{join_of, when};
-ghost use Rattle.crash_model.specs.Script.{path_text};
-ghost use Rattle.report_model.specs.Explain.{told_waits_json};
-ghost use Rattle.report_model.specs.Report.{json_string};
-ghost use Rattle.report_model.specs.Shows.{promise_json, promises_json, spare_text, together, wait_json};
+ghost use Rattle.crash_model.specs.PathTexts.{path_text};
+ghost use Rattle.report_model.specs.OptionKeys.{told_waits_json, promises_json};
+ghost use Rattle.report_model.specs.JsonParts.{json_string};
+ghost use Rattle.report_model.specs.Shows.{promise_json, spare_text, together, wait_json};
 ghost use Rattle.traced_patches.specs.Labels.{wait_by, waits_by};
 ghost use Rattle.report_sections.specs.Bodies.{explanation_by};
 ghost use Rattle.report_json.specs.JsonReport.{paths_key, told_promises};

@@ -3,9 +3,10 @@
 ghost use Rattle.std.specs.Prelude.{◌≡◌, ◌+◌, ◌^◌, ◌<◌, ◌++◌, [], length, map, string_bytes, IfOk, OnOk};
 ghost use Rattle.patch_sets.specs.Closed.{IsClosed};
 ghost use Rattle.crash_model.specs.Patches.{deps_of};
-ghost use Rattle.report_model.specs.Report.{section_json};
+ghost use Rattle.report_model.specs.SectionJson.{section_json};
 ghost use Rattle.report_model.specs.Summary.{told_fault_json};
-ghost use Rattle.report_model.specs.Whole.{Body as WholeBody, json_report};
+ghost use Rattle.report_model.specs.Whole.{Body as WholeBody};
+ghost use Rattle.report_model.specs.WholeJson.{json_report};
 ghost use Rattle.report_sections.specs.Bodies.{detail_by, CanTell, TellsBody, AreOnBase, AreClosed, whole_of};
 ghost use Rattle.report_sections.specs.Sections.{section_of, IsSection};
 ghost use Rattle.report_sections.specs.declared.section.Section.{Section};

@@ -1,12 +1,10 @@
 -- How patches are explained, in text and JSON.
-use Rattle.std.specs.Prelude.{ℕ, List, [], ◌∷◌, ◌++◌, length, map, flat_map, Option, Some, None, codes, decimal}
+use Rattle.std.specs.Prelude.{ℕ, List, [], ◌∷◌, ◌++◌, length, map, flat_map, codes, decimal}
 use Rattle.hex.specs.Hex.{encode_lower}
-use Rattle.crash_model.specs.Rules.{part_text}
-use Rattle.report_model.specs.Parts.{line, json_string, json_array}
-use Rattle.report_model.specs.Shows.{wait_text, waits_json}
-use Rattle.crash_model.specs.Promises.{Promise}
-use Rattle.crash_model.specs.Texts.{op_text}
-use Rattle.crash_model.specs.Reasons.{Dependency, ToldPatch, Explanation}
+use Rattle.crash_model.specs.PatchTexts.{part_text, op_text}
+use Rattle.report_model.specs.Parts.{line}
+use Rattle.report_model.specs.JsonParts.{json_string, json_array}
+use Rattle.crash_model.specs.Reasons.{Dependency, ToldPatch}
 
 -- ---- text
 
@@ -28,11 +26,6 @@ told_text t =
     ++ codes " length " ++ decimal (length e.place.new))
     ++ flat_map dependency_text t.after
 
--- the patches, which are n in all, and the lines that wait
-abbrev pub explanation_text : ℕ → Option Explanation → List ℕ
-explanation_text n None = []
-explanation_text n (Some told) = flat_map told_text told.patches ++ flat_map (wait_text n) told.waits
-
 -- ---- JSON
 
 abbrev pub hex_json : List ℕ → List ℕ
@@ -53,18 +46,3 @@ told_json t =
     ++ codes ",\"part\":" ++ json_string (part_text e.part)
     ++ codes ",\"step\":" ++ json_string (op_text e.origin.op)
     ++ codes ",\"undo\":" ++ hex_json t.undo ++ codes "}"
-
--- the first key, followed by a comma
-abbrev pub base_json : Option Explanation → List ℕ
-base_json None = []
-base_json (Some told) = codes "\"base\":" ++ json_array (map hex_json told.base) ++ codes ","
-
--- a later key, with a comma before it
-abbrev pub trace_json : Option Explanation → List ℕ
-trace_json None = []
-trace_json (Some told) = codes ",\"trace\":" ++ json_array (map told_json told.patches)
-
--- the key of the lines that wait, where promises are told
-abbrev pub told_waits_json : ℕ → Option Explanation → Option (List Promise) → List ℕ
-told_waits_json n None promises = []
-told_waits_json n (Some told) promises = waits_json n told.waits promises

@@ -5,14 +5,17 @@ use Rattle.patch_sets.specs.Closed.{IsClosed}
 use Rattle.patch_sets.specs.Sets.{AreAllInOrder}
 use Rattle.crash_model.specs.Disk.{Disk}
 use Rattle.crash_model.specs.Patches.{deps_of, CountsClosed, ExceedsLimit}
-use Rattle.crash_model.specs.Rules.{rules_in_first, rule_text}
-use Rattle.crash_model.specs.Trace.{Tracing}
+use Rattle.crash_model.specs.ChosenRules.{rules_in_first}
+use Rattle.crash_model.specs.RuleTexts.{rule_text}
+use Rattle.crash_model.specs.Tracing.{Tracing}
 use Rattle.crash_model.specs.Checker.{IsFailingUnder}
-use Rattle.report_model.specs.Report.{Detail, Section, AreSections, IsLed, Form, line, section_text, json_string}
-use Rattle.report_model.specs.Report.{section_json}
+use Rattle.report_model.specs.Report.{Detail, Section, AreSections, IsLed, line, section_text}
+use Rattle.report_model.specs.JsonParts.{Form, json_string}
+use Rattle.report_model.specs.SectionJson.{section_json}
 use Rattle.crash_model.specs.declared.patches.Patch.{Patch}
 use Rattle.crash_model.specs.declared.rules.Rule.{Rule}
-use Rattle.crash_model.specs.RuleUse.{pairs_of, HasGraphBy}
+use Rattle.crash_model.specs.RuleUse.{pairs_of}
+use Rattle.crash_model.specs.OtherRules.{HasGraphBy}
 
 -- how many closed and failing sets there are without a rule, and the section of the first failing set that the rule
 -- prevents

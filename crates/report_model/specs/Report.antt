@@ -1,35 +1,23 @@
--- What reports are made of: words, and the section of a set.
-use Rattle.std.specs.Prelude.{◌≡◌, ℕ, ◌∷◌, List, [], ◌++◌, map, flat_map, Bool, if◌then◌else◌, not, bytes_eq, Option}
-use Rattle.std.specs.Prelude.{Some, None, option_map, codes, decimal}
-use Rattle.hex.specs.Hex.{encode_lower}
+-- The section of a set, and its text.
+use Rattle.std.specs.Prelude.{◌≡◌, ℕ, ◌∷◌, List, [], ◌++◌, flat_map, Bool, if◌then◌else◌, Option, Some, None}
+use Rattle.std.specs.Prelude.{option_map, codes, decimal}
 use Rattle.patch_sets.specs.Machine.{LeadTo}
 use Rattle.patch_sets.specs.Sets.{ids_of}
 use Rattle.patch_sets.specs.Writes.{AreRuns, events_of}
 use Rattle.patch_sets.specs.declared.write.BlockWrite.{BlockWrite}
-use Rattle.crash_model.specs.Lists.{some_below, when}
-use Rattle.crash_model.specs.Disk.{Disk, block_of}
+use Rattle.crash_model.specs.Disk.{Disk}
 use Rattle.crash_model.specs.Patches.{deps_of, homes_of, image_of}
 use Rattle.crash_model.specs.Replay.{image_after_replay}
 use Rattle.crash_model.specs.Checker.{Demands, faults_under}
 use Rattle.crash_model.specs.declared.fault.Fault.{Fault}
 use Rattle.crash_model.specs.declared.patches.Patch.{Patch}
 use Rattle.crash_model.specs.declared.showing.Shown.{Shown}
-pub use Rattle.report_model.specs.Parts.{line, numbers, json_string, json_array, ids_json, Form}
-use Rattle.report_model.specs.FaultKeys.{faults_head}
-use Rattle.report_model.specs.Shows.{broken_shown, faults_text, shows_if, shows_json}
+pub use Rattle.report_model.specs.Parts.{line, numbers}
+use Rattle.report_model.specs.Shows.{broken_shown}
+use Rattle.report_model.specs.FaultLines.{faults_text, shows_if}
+use Rattle.report_model.specs.Replayed.{ReplayedBlock, changed_blocks, replayed_text}
 
 -- ---- the section of a set
-
--- a block that replay changes, with its bytes after replay
-pub record ReplayedBlock : Type 0 where
-  pub block : ℕ
-  pub bytes : List ℕ
-
--- the blocks in which a disk differs from the one before, ascending
-abbrev pub changed_blocks : Disk → Disk → List ReplayedBlock
-changed_blocks before after =
-    some_below before.blocks (λ b.
-    when (not (bytes_eq (block_of before b) (block_of after b))) (record { block = b; bytes = block_of after b }))
 
 -- what is reported of a set: whether replay is explained, and what is demanded of the image
 pub record Detail : Type 0 where
@@ -80,9 +68,6 @@ IsLed patches s = LeadTo (deps_of patches) (homes_of patches) (events_of s.write
 abbrev pub write_text : ℕ → BlockWrite → List ℕ
 write_text n w = line (codes "write block " ++ decimal w.block ++ codes ":" ++ numbers (ids_of n w.ids))
 
-abbrev pub replayed_text : ReplayedBlock → List ℕ
-replayed_text r = line (codes "replay block " ++ decimal r.block ++ codes ": " ++ encode_lower r.bytes)
-
 abbrev pub replay_text : Option (List ReplayedBlock) → List ℕ
 replay_text None = []
 replay_text (Some replay) = flat_map replayed_text replay
@@ -94,28 +79,3 @@ crash_text n s =
 
 abbrev pub section_text : ℕ → Section → List ℕ
 section_text n s = crash_text n s ++ faults_text s.found (shows_if s.shows)
-
--- ---- JSON
-
-abbrev pub write_json : ℕ → BlockWrite → List ℕ
-write_json n w = codes "{\"block\":" ++ decimal w.block ++ codes ",\"patches\":" ++ ids_json n w.ids ++ codes "}"
-
-abbrev pub writes_json : ℕ → List BlockWrite → List ℕ
-writes_json n writes = json_array (map (write_json n) writes)
-
-abbrev pub replayed_json : ReplayedBlock → List ℕ
-replayed_json r =
-    codes "{\"block\":" ++ decimal r.block ++ codes ",\"bytes\":" ++ json_string (encode_lower r.bytes) ++ codes "}"
-
--- a key with its value and a comma, if there is one
-abbrev pub replay_json : Option (List ReplayedBlock) → List ℕ
-replay_json None = []
-replay_json (Some replay) = codes "\"replay\":" ++ json_array (map replayed_json replay) ++ codes ","
-
-abbrev pub section_json : Form → Section → List ℕ
-section_json form s =
-    faults_head form.numbers s.found
-    ++ replay_json s.replay
-    ++ codes "\"set\":" ++ ids_json form.patches s.set
-    ++ shows_json s.shows
-    ++ codes ",\"writes\":" ++ writes_json form.patches s.writes ++ codes "}"

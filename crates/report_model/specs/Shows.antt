@@ -1,19 +1,20 @@
 -- What the paths of broken promises show, and the lines that wait and promise, in text and JSON.
 use Rattle.std.specs.Prelude.{ℕ, List, [], ◌∷◌, ◌++◌, map, flat_map, Bool, false, ◌&&◌, ◌==◌, if◌then◌else◌, Option}
-use Rattle.std.specs.Prelude.{Some, None, option_map, codes, decimal}
+use Rattle.std.specs.Prelude.{Some, None, codes, decimal}
 use Rattle.std.specs.List.{filter, filter_map, range_with_len}
 use Rattle.patch_sets.specs.Sets.{has, ids_of}
 use Rattle.crash_model.specs.Disk.{Disk}
 use Rattle.crash_model.specs.Promises.{Promise, is_broken, paths_show}
-use Rattle.crash_model.specs.Script.{path_text}
+use Rattle.crash_model.specs.PathTexts.{path_text}
 use Rattle.crash_model.specs.ShownTexts.{shown_text}
-use Rattle.crash_model.specs.Texts.{act_text, fault_text}
+use Rattle.crash_model.specs.PatchTexts.{act_text}
 use Rattle.crash_model.specs.Waiting.{Wait}
 use Rattle.crash_model.specs.declared.fault.Fault.{Fault}
 use Rattle.crash_model.specs.declared.fault.Fault.TheVariants.{BrokenPromise}
 use Rattle.crash_model.specs.declared.promises.Spare.{Spare}
 use Rattle.crash_model.specs.declared.showing.Shown.{Shown}
-use Rattle.report_model.specs.Parts.{line, numbers, json_string, json_array, ids_json}
+use Rattle.report_model.specs.Parts.{line, numbers}
+use Rattle.report_model.specs.JsonParts.{json_string, json_array, ids_json}
 
 -- ---- what is shown where promises are broken
 
@@ -56,21 +57,6 @@ together (shown ∷ other ∷ others) = shown_text shown ++ codes " | " ++ toget
 abbrev pub shows_text : List Shown → List ℕ
 shows_text shows = line (codes "shows " ++ together shows)
 
--- where there are any
-abbrev pub shows_if : Option (List (List Shown)) → List (List Shown)
-shows_if None = []
-shows_if (Some shows) = shows
-
-abbrev pub told_shows : Option (List (List Shown)) → List ℕ
-told_shows shows = flat_map shows_text (shows_if shows)
-
--- a line for each fault, and after that of a broken promise one for what is shown
-abbrev pub faults_text : List Fault → List (List Shown) → List ℕ
-faults_text [] shows = []
-faults_text (BrokenPromise of ∷ found) (shown ∷ shows) =
-    line (codes "fault " ++ fault_text (BrokenPromise of)) ++ shows_text shown ++ faults_text found shows
-faults_text (fault ∷ found) shows = line (codes "fault " ++ fault_text fault) ++ faults_text found shows
-
 -- patches are n in all
 abbrev pub wait_text : ℕ → Wait → List ℕ
 wait_text n wait =
@@ -94,16 +80,7 @@ promise_text n promise =
     ++ flat_map (λ allowance. shows_text allowance.shows.items) promise.allowed
     ++ flat_map (λ spare. line (codes "spare " ++ spare_text spare)) promise.spares
 
-abbrev pub promises_text : ℕ → Option (List Promise) → List ℕ
-promises_text n None = []
-promises_text n (Some promises) = flat_map (promise_text n) promises
-
 -- ---- JSON
-
--- a key with a comma before it, if there is one
-abbrev pub shows_json : Option (List (List Shown)) → List ℕ
-shows_json None = []
-shows_json (Some shows) = codes ",\"shows\":" ++ json_array (map (λ shown. json_string (together shown)) shows)
 
 abbrev pub wait_json : ℕ → Wait → List ℕ
 wait_json n wait =
@@ -120,29 +97,8 @@ promise_json n promise =
     ++ codes ",\"spares\":" ++ json_array (map (λ spare. json_string (spare_text spare)) promise.spares)
     ++ codes "}"
 
--- the promises of a report, and its lines that wait, each with a comma before it; neither where no promises are told
-abbrev pub promises_json : ℕ → Option (List Promise) → List ℕ
-promises_json n None = []
-promises_json n (Some promises) = codes ",\"promises\":" ++ json_array (map (promise_json n) promises)
-
-abbrev pub waits_json : ℕ → List Wait → Option (List Promise) → List ℕ
-waits_json n waits None = []
-waits_json n waits (Some _) = codes ",\"waits\":" ++ json_array (map (wait_json n) waits)
-
 -- ---- what counts
 
 -- the numbers of the faults that count, ascending
 abbrev pub counted_numbers : ℕ → List ℕ
 counted_numbers counted = filter (has counted) (range_with_len 1 10)
-
-abbrev pub counted_text : Option ℕ → List ℕ
-counted_text None = []
-counted_text (Some counted) = line (codes "faults" ++ numbers (counted_numbers counted))
-
--- two keys, each with a comma before it, if there are
-abbrev pub counted_json : Option ℕ → List ℕ
-counted_json None = []
-counted_json (Some counted) = codes ",\"counted\":" ++ json_array (map decimal (counted_numbers counted))
-
-abbrev pub durable_json : Bool → List ℕ
-durable_json durable = if durable then codes ",\"durable\":true" else []

@@ -1,14 +1,17 @@
 -- A summary of the sets that fail: each fault once, with the number of the sets that have it and the first of them.
 use Rattle.std.specs.Prelude.{ℕ, List, ◌++◌, map, option_map, codes, decimal}
 use Rattle.crash_model.specs.Disk.{Disk}
-use Rattle.report_model.specs.Report.{Detail, Section, AreSections, Form, line, crash_text, ids_json}
-use Rattle.report_model.specs.Report.{replay_json, writes_json}
+use Rattle.report_model.specs.Report.{Detail, Section, AreSections, line, crash_text}
+use Rattle.report_model.specs.JsonParts.{Form, ids_json}
+use Rattle.report_model.specs.SectionJson.{replay_json, writes_json, shows_json}
 use Rattle.report_model.specs.FaultKeys.{fault_head}
-use Rattle.report_model.specs.Shows.{shown_of, told_shows, shows_json}
+use Rattle.report_model.specs.Shows.{shown_of}
+use Rattle.report_model.specs.FaultLines.{told_shows}
 use Rattle.crash_model.specs.Texts.{fault_text}
 use Rattle.crash_model.specs.declared.fault.FaultRow.{FaultRow}
 use Rattle.crash_model.specs.declared.patches.Patch.{Patch}
-use Rattle.crash_model.specs.FaultRows.{HasFault, AreRows}
+use Rattle.crash_model.specs.FaultRows.{AreRows}
+use Rattle.crash_model.specs.FirstSets.{HasFault}
 
 -- the entry of a fault: its row, and the section of the first set
 pub record ToldFault : Type 0 where

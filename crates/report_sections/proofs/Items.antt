@@ -3,7 +3,7 @@ use Rattle.std.proofs.Common.{◌≡◌, List, [], Some, None, Bool, true, false
 use Rattle.std.specs.Prelude.{Option, Vec}
 use Rattle.arrayvec.specs.ArrayVec.{ArrayVec}
 use Rattle.crash_model.specs.declared.showing.Shown.{Shown}
-use Rattle.report_model.specs.Shows.{shows_if}
+use Rattle.report_model.specs.FaultLines.{shows_if}
 use Rattle.report_sections.specs.Showing.{shown_lists}
 
 abbrev pub items_of : ArrayVec Shown → List Shown

@@ -3,7 +3,8 @@
 ghost use Rattle.std.specs.Prelude.{◌≡◌, List, [], None, option_map};
 ghost use Rattle.crash_model.specs.declared.fault.Fault.TheVariants.{BrokenPromise};
 ghost use Rattle.crash_model.specs.declared.showing.Shown.{Shown};
-ghost use Rattle.report_model.specs.Shows.{shown_of, shows_if};
+ghost use Rattle.report_model.specs.Shows.{shown_of};
+ghost use Rattle.report_model.specs.FaultLines.{shows_if};
 ghost use Rattle.report_sections.specs.Showing.{shown_lists, shown_once, shown_in};
 
 use crate::replayed::ReplayedBlock;

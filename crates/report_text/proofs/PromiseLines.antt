@@ -11,10 +11,10 @@ use Rattle.crash_model.specs.Promises.{Promise}
 use Rattle.crash_model.specs.Reasons.{told_patches}
 use Rattle.crash_model.specs.declared.names.Path.{Path}
 use Rattle.crash_model.specs.Waiting.{Wait}
-use Rattle.report_model.specs.Explain.{told_text, explanation_text}
+use Rattle.report_model.specs.Explain.{told_text}
+use Rattle.report_model.specs.OptionTexts.{explanation_text, promises_text}
 use Rattle.report_model.specs.Report.{line}
-use Rattle.report_model.specs.Shows.{wait_text, promise_word, promise_text, promises_text}
-use Rattle.report_model.specs.Shows.{after_text, shows_text, spare_text}
+use Rattle.report_model.specs.Shows.{wait_text, promise_word, promise_text, after_text, shows_text, spare_text}
 use Rattle.report_sections.specs.Bodies.{explanation_by}
 use Rattle.report_sections.proofs.Pieces.{four_pieces}
 use Rattle.report_text.specs.Promises.{promise_line}

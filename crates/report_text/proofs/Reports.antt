@@ -11,13 +11,15 @@ use Rattle.crash_model.specs.Disk.{Disk}
 use Rattle.crash_model.specs.Patches.{image_of}
 use Rattle.crash_model.specs.Replay.{image_after_replay}
 use Rattle.report_model.specs.Report as report
+use Rattle.report_model.specs.Replayed as replayed
 use Rattle.report_model.specs.Report.{Detail, line, numbers, replay_of, replay_text, section_text, write_text}
 use Rattle.crash_model.specs.Checker.{faults_under}
-use Rattle.report_model.specs.Explain.{explanation_text}
+use Rattle.report_model.specs.OptionTexts.{explanation_text, promises_text}
 use Rattle.crash_model.specs.Lists.{when}
-use Rattle.report_model.specs.Shows.{faults_text, shows_if, promises_text}
+use Rattle.report_model.specs.FaultLines.{faults_text, shows_if}
 use Rattle.report_model.specs.Summary.{ToldFault, told_fault_text}
-use Rattle.report_model.specs.Whole.{Body, head_text, body_text, text_report}
+use Rattle.report_model.specs.Whole.{Body}
+use Rattle.report_model.specs.WholeText.{head_text, body_text, text_report}
 use Rattle.crash_model.specs.declared.fault.Fault.{Fault}
 use Rattle.crash_model.specs.declared.fault.Fault.TheVariants.{BrokenPromise}
 use Rattle.crash_model.specs.declared.fault.FaultRow.{FaultRow}
@@ -61,7 +63,7 @@ faults_alone (BrokenPromise line ∷ found) =
     ap (λ (t : List ℕ). fault_line (BrokenPromise line) ++ t) (faults_alone found)
 faults_alone (fault ∷ found) = ap (λ (t : List ℕ). fault_line fault ++ t) (faults_alone found)
 
-abbrev made : ℕ → List BlockWrite → Option (List report.ReplayedBlock) → List Fault → Option (List (List Shown))
+abbrev made : ℕ → List BlockWrite → Option (List replayed.ReplayedBlock) → List Fault → Option (List (List Shown))
     → report.Section
 made set writes replay found shows =
     record { set = set; writes = writes; replay = replay; found = found; shows = shows }
@@ -97,7 +99,7 @@ section_one detail base patches set n o old first second third new number is hea
     told = made set runs.writes (told_replay o.replay) o.faults.items (shown_lists o.shows)
 
     same : section ≡ told
-    same = ap (λ (r : Option (List report.ReplayedBlock)). made set runs.writes r
+    same = ap (λ (r : Option (List replayed.ReplayedBlock)). made set runs.writes r
         (faults_under detail.demands set (image_after_replay (image_of base patches set)))
         (shows_for detail base patches set)) (sym is.replay)
         ∙ (ap (λ (f : List Fault). made set runs.writes (told_replay o.replay) f (shows_for detail base patches set))

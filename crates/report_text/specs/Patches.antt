@@ -1,8 +1,7 @@
 -- The lines of patches.
 use Rattle.std.specs.Prelude.{ℕ, zero, suc, List, [], ◌++◌, length, codes, decimal}
-use Rattle.crash_model.specs.Texts.{op_text}
+use Rattle.crash_model.specs.PatchTexts.{op_text, part_text}
 use Rattle.report_model.specs.Report.{line}
-use Rattle.crash_model.specs.Rules.{part_text}
 use Rattle.crash_model.specs.Trace.{Emitted}
 
 -- what a patch is

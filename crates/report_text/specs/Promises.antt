@@ -1,6 +1,6 @@
 -- The first line of a promise.
 use Rattle.std.specs.Prelude.{ℕ, List, ◌++◌, flat_map, codes, decimal}
-use Rattle.crash_model.specs.Script.{path_text}
+use Rattle.crash_model.specs.PathTexts.{path_text}
 use Rattle.crash_model.specs.declared.names.Path.{Path}
 use Rattle.report_model.specs.Report.{line}
 

@@ -3,9 +3,10 @@
 ghost use Rattle.std.specs.Prelude.{◌≡◌, ◌<◌, ◌++◌, [], ◌∷◌, filter, if◌then◌else◌, codes, decimal, string_bytes, OnOk};
 ghost use Rattle.patch_sets.specs.Sets.{has};
 ghost use Rattle.report_model.specs.Report.{line, numbers};
-ghost use Rattle.report_model.specs.Shows.{counted_text, counted_numbers};
+ghost use Rattle.report_model.specs.Shows.{counted_numbers};
+ghost use Rattle.report_model.specs.OptionTexts.{counted_text, rule_lines, told_with, told_without, blocks_text};
 ghost use Rattle.crash_model.specs.Texts.{module_text};
-ghost use Rattle.report_model.specs.Whole.{head_text, rule_lines, told_with, told_without, blocks_text};
+ghost use Rattle.report_model.specs.WholeText.{head_text};
 
 use crash_model::rules::Rule;
 use crash_model::settings::Settings;

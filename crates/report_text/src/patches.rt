@@ -4,7 +4,8 @@ ghost use Rattle.std.specs.Prelude.{◌≡◌, ◌++◌, ◌<◌, length, string
 ghost use Rattle.std.specs.Prelude.{option_to_list, Some};
 ghost use Rattle.crash_model.specs.Disk.{Disk};
 ghost use Rattle.crash_model.specs.Reasons.{told_patches};
-ghost use Rattle.report_model.specs.Explain.{told_text, dependency_text, list_text, explanation_text};
+ghost use Rattle.report_model.specs.Explain.{told_text, dependency_text, list_text};
+ghost use Rattle.report_model.specs.OptionTexts.{explanation_text};
 ghost use Rattle.crash_model.specs.Lists.{when};
 ghost use Rattle.crash_model.specs.Patches.{place};
 ghost use Rattle.crash_model.specs.Trace.{Emitted};

@@ -1,9 +1,10 @@
 //! The lines of the lines that wait, and of the promises.
 
 ghost use Rattle.std.specs.Prelude.{◌≡◌, ◌++◌, None, string_bytes, length, flat_map, codes, if◌then◌else◌, OnOk};
-ghost use Rattle.crash_model.specs.Script.{path_text};
+ghost use Rattle.crash_model.specs.PathTexts.{path_text};
 ghost use Rattle.report_model.specs.Report.{line};
-ghost use Rattle.report_model.specs.Shows.{wait_text, promise_text, promises_text, after_text, shows_text, spare_text};
+ghost use Rattle.report_model.specs.Shows.{wait_text, promise_text, after_text, shows_text, spare_text};
+ghost use Rattle.report_model.specs.OptionTexts.{promises_text};
 ghost use Rattle.report_text.specs.Promises.{promise_line};
 ghost use Rattle.traced_patches.specs.Labels.{wait_by, waits_by};
 

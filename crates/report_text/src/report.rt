@@ -3,9 +3,10 @@
 ghost use Rattle.std.specs.Prelude.{◌≡◌, ◌++◌, [], ◌∷◌, length, map, string_bytes, IfOk, OnOk};
 ghost use Rattle.patch_sets.specs.Closed.{IsClosed};
 ghost use Rattle.crash_model.specs.Patches.{deps_of};
-ghost use Rattle.report_model.specs.Shows.{faults_text, shows_if};
+ghost use Rattle.report_model.specs.FaultLines.{faults_text, shows_if};
 ghost use Rattle.report_model.specs.Summary.{told_fault_text};
-ghost use Rattle.report_model.specs.Whole.{Body as WholeBody, text_report};
+ghost use Rattle.report_model.specs.Whole.{Body as WholeBody};
+ghost use Rattle.report_model.specs.WholeText.{text_report};
 ghost use Rattle.report_sections.specs.Bodies.{detail_by, CanTell, TellsBody, AreOnBase, AreClosed, whole_of};
 ghost use Rattle.report_sections.specs.Sections.{section_of, IsSection};
 ghost use Rattle.report_sections.specs.Showing.{shown_lists};

@@ -11,7 +11,8 @@ use Rattle.crash_model.specs.Patches.{Place, place, places_of, deps_of, image_fr
 use Rattle.crash_model.specs.Replay.{image_after_replay}
 use Rattle.crash_model.specs.RuleFacts.{AreAmong}
 use Rattle.crash_model.specs.Checker.{Demands, IsCleanUnder, IsFailingUnder}
-use Rattle.crash_model.specs.Trace.{Emitted, Tracing, depends, IsGraphOf}
+use Rattle.crash_model.specs.Trace.{Emitted, depends, IsGraphOf}
+use Rattle.crash_model.specs.Tracing.{Tracing}
 use Rattle.crash_model.specs.declared.patches.Patch.{Patch}
 use Rattle.crash_model.specs.declared.rules.Rule.{Rule}
 use Rattle.crash_model.proofs.Dependence.{depends-among}

@@ -8,9 +8,10 @@ use Rattle.crash_model.specs.Failing.{IsFailing}
 use Rattle.crash_model.specs.Patches.{overlap, deps_of}
 use Rattle.crash_model.specs.Plan.{then_ok, unless, with_found, plan_of, with_changes}
 use Rattle.crash_model.specs.Checker.{Demands, IsFailingUnder}
-use Rattle.crash_model.specs.Trace.{Emitted, Tracing, IsGraphOf, depends, shares_block, groups_depend, waits_for, applies}
-use Rattle.crash_model.specs.Trace.{trace_from, step, trace_of_plan, is_among, is_same_group, origin_at}
-use Rattle.crash_model.specs.Trace.{patches_by, journal_blocks}
+use Rattle.crash_model.specs.Trace.{Emitted, IsGraphOf, depends, groups_depend, waits_for, applies, trace_from, step}
+use Rattle.crash_model.specs.Trace.{trace_of_plan, is_among, is_same_group, origin_at, patches_by, journal_blocks}
+use Rattle.crash_model.specs.Tracing.{Tracing}
+use Rattle.crash_model.specs.WholeBlocks.{shares_block}
 use Rattle.crash_model.specs.declared.operations.Op.{Op}
 use Rattle.crash_model.specs.declared.patches.Patch.{Patch}
 use Rattle.crash_model.specs.declared.plans.Change.{Change}
@@ -21,7 +22,7 @@ use Rattle.crash_model.specs.declared.rules.Rule.{Rule}
 use Rattle.crash_model.specs.declared.modules.Module.{Module}
 use Rattle.crash_model.specs.declared.steps.Act.{Act}
 use Rattle.crash_model.specs.Paths.{is_same_path}
-use Rattle.crash_model.specs.Trace.{with_wait, when_found, target_found}
+use Rattle.crash_model.specs.WaitSteps.{with_wait, when_found, target_found}
 use Rattle.crash_model.specs.Waiting.{forced_by_fsync}
 use Rattle.crash_model.specs.declared.steps.Act.TheVariants.{Do, Group, End, Depend, Sync, Fsync, Keep, Hold, Spare}
 use Rattle.crash_model.specs.declared.steps.Target.TheVariants.{At}

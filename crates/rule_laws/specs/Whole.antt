@@ -1,6 +1,6 @@
 -- A trace, except whether blocks are written whole.
 use Rattle.std.specs.Prelude.{Bool, Result, Ok, Err}
-use Rattle.crash_model.specs.Trace.{Tracing}
+use Rattle.crash_model.specs.Tracing.{Tracing}
 use Rattle.crash_model.specs.declared.refusals.TraceFault.{TraceFault}
 
 abbrev pub with_whole : Bool → Tracing → Tracing

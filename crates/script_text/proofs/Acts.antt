@@ -7,11 +7,13 @@ use Rattle.std.proofs.lemmas.Bool.{and_parts, false≢true}
 use Rattle.std.proofs.lemmas.Bool.Decides.{nat_tests}
 use Rattle.std.proofs.lemmas.List.Elements.{All-head, All-tail, All-nil, All-cons, All-append}
 use Rattle.crash_model.specs.Names.{IsName, IsGroupName, is_name_byte, is_group_byte}
-use Rattle.crash_model.specs.Script.{AreWords, IsPath, path_text, Operand, PathOperand, GroupOperand, SlotOperand}
-use Rattle.crash_model.specs.Script.{IsTarget, target_text, TargetOperand, PathsOperand}
+use Rattle.crash_model.specs.Script.{Operand, PathOperand, GroupOperand, SlotOperand, TargetOperand, PathsOperand, said}
+use Rattle.crash_model.specs.Script.{operand_words, AreLawful, words_of, Reads}
+use Rattle.crash_model.specs.ScriptRefusals.{AreWords, Fits, HasBadSlot}
+use Rattle.crash_model.specs.PathTexts.{IsPath, path_text}
+use Rattle.crash_model.specs.Targets.{IsTarget, target_text}
 use Rattle.crash_model.specs.declared.steps.Target.{Target}
 use Rattle.crash_model.specs.declared.steps.Target.TheVariants as target
-use Rattle.crash_model.specs.Script.{said, operand_words, AreLawful, words_of, Fits, HasBadSlot, Reads}
 use Rattle.crash_model.specs.Slots.{slot_text}
 use Rattle.crash_model.specs.declared.operations.Slot.{Slot}
 use Rattle.crash_model.specs.declared.operations.Slot.TheVariants as slot

@@ -4,9 +4,9 @@ use Rattle.std.proofs.Common.{length, codes, sym, ap, ◌∙◌, subst, arith}
 use Rattle.std.specs.Str.{IsUtf8}
 use Rattle.std.proofs.lemmas.Bool.{false≢true}
 use Rattle.crash_model.specs.Lists.{join_of}
-use Rattle.crash_model.specs.Script.{Operand, PathOperand, TargetOperand, PathsOperand, GroupOperand, SlotOperand}
-use Rattle.crash_model.specs.Script.{said, Fits, HasPaths, HasBadSlot}
-use Rattle.crash_model.specs.Script.{HasForm, AreWords, IsSkipped}
+use Rattle.crash_model.specs.Script.{Operand, PathOperand, TargetOperand, PathsOperand, GroupOperand, SlotOperand, said}
+use Rattle.crash_model.specs.Script.{IsSkipped}
+use Rattle.crash_model.specs.ScriptRefusals.{Fits, HasPaths, HasBadSlot, HasForm, AreWords}
 use Rattle.crash_model.specs.declared.steps.Act.{Act}
 use Rattle.script_text.specs.declared.line.Line.{Line}
 use Rattle.script_text.specs.declared.line.Line.TheVariants.{Skipped, Says}

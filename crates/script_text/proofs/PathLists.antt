@@ -4,7 +4,9 @@ use Rattle.std.proofs.Common.{sym, ◌∙◌, subst, arith}
 use Rattle.std.specs.List.{All, Contains}
 use Rattle.std.proofs.lemmas.List.{take_more, map_push, length-map}
 use Rattle.std.proofs.lemmas.List.Elements.{All-head, All-tail, Contains-get_or}
-use Rattle.crash_model.specs.Script.{path_text, PathsOperand, Fits, HasPaths, IsPathWord}
+use Rattle.crash_model.specs.Script.{PathsOperand}
+use Rattle.crash_model.specs.PathTexts.{path_text, IsPathWord}
+use Rattle.crash_model.specs.ScriptRefusals.{Fits, HasPaths}
 use Rattle.crash_model.specs.declared.names.Path.{Path}
 use Rattle.script_text.specs.declared.line.LineFault.TheVariants.{BadPath}
 use Rattle.script_text.specs.Words.{IsOperandFault}

@@ -5,8 +5,8 @@ use Rattle.std.specs.List.{All, Contains, slice_get}
 use Rattle.std.proofs.lemmas.Bool.{false≢true}
 use Rattle.std.proofs.lemmas.List.Elements.{All-nil, All-cons, All-append}
 use denote.Ref.{Bor}
-use Rattle.crash_model.specs.Script.{AreLines, AreSteps, AreAccepted, IsFirstRefused, IsBadLine, IsScript}
-use Rattle.crash_model.specs.Script.{IsScriptRefusal, Line, Reads}
+use Rattle.crash_model.specs.Script.{AreLines, AreSteps, IsScript, Line, Reads}
+use Rattle.crash_model.specs.ScriptRefusals.{AreAccepted, IsFirstRefused, IsBadLine, IsScriptRefusal}
 use Rattle.crash_model.specs.Script as script
 use Rattle.crash_model.specs.declared.refusals.ScriptFault.{ScriptFault}
 use Rattle.crash_model.specs.declared.refusals.ScriptFault.TheVariants as fault

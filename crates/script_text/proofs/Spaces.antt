@@ -8,7 +8,7 @@ use Rattle.std.proofs.lemmas.List.{length-map}
 use Rattle.std.proofs.lemmas.List.Splits.{slice_split_none, slice_split_at, join_with_byte-slice_split}
 use denote.Ref.{Bor}
 use Rattle.crash_model.specs.Lists.{join_of}
-use Rattle.crash_model.specs.Script.{AreWords}
+use Rattle.crash_model.specs.ScriptRefusals.{AreWords}
 use Rattle.crash_model.proofs.Cuts.{Lacks}
 use Rattle.script_text.proofs.Cuts.{lacks_none, none_lacks}
 

@@ -1,7 +1,7 @@
 -- What words and lines say, and why they are refused.
 use Rattle.std.specs.Prelude.{◌≡◌, ◌≢◌, ℕ, List, [], ◌∷◌, codes, Option, Some, None, IsUtf8}
-use Rattle.crash_model.specs.Script.{Operand, said, Fits, HasPaths, HasBadSlot, HasForm, IsAct, words_of, Reads}
-use Rattle.crash_model.specs.Script.{IsSkipped, IsBadPath}
+use Rattle.crash_model.specs.Script.{Operand, said, IsAct, words_of, Reads, IsSkipped}
+use Rattle.crash_model.specs.ScriptRefusals.{Fits, HasPaths, HasBadSlot, HasForm, IsBadPath}
 use Rattle.crash_model.specs.Script as script
 use Rattle.crash_model.specs.declared.names.Path.{Path}
 use Rattle.crash_model.specs.declared.operations.Op.TheVariants as operations

@@ -3,8 +3,10 @@
 ghost use Rattle.std.specs.Prelude.{◌≡◌, ◌<◌, ◌≤◌, ◌↔◌, [], ◌∷◌, length, map, flat_map, None, MatchResult, IsTrue};
 ghost use Rattle.std.specs.Prelude.{All, Contains};
 ghost use Rattle.crash_model.specs.Names.{IsGroupName};
-ghost use Rattle.crash_model.specs.Script.{IsPath, IsTarget, path_text, target_text, operand_words, PathOperand};
-ghost use Rattle.crash_model.specs.Script.{TargetOperand, PathsOperand, GroupOperand, SlotOperand};
+ghost use Rattle.crash_model.specs.Script.{operand_words, PathOperand, TargetOperand, PathsOperand, GroupOperand};
+ghost use Rattle.crash_model.specs.Script.{SlotOperand};
+ghost use Rattle.crash_model.specs.PathTexts.{IsPath, path_text};
+ghost use Rattle.crash_model.specs.Targets.{IsTarget, target_text};
 ghost use Rattle.crash_model.specs.declared.promises.TheConstants.{MOST_PATHS};
 ghost use Rattle.crash_model.specs.declared.steps.Target.TheVariants.{Root};
 ghost use Rattle.script_text.specs.Words.{anywhere, IsOperandFault};

@@ -1,7 +1,8 @@
 //! Whole scripts.
 
 ghost use Rattle.std.specs.Prelude.{◌≡◌, ◌≢◌, ◌+◌, ◌<◌, ◌≤◌, ◌^◌, length, IfOk, IfErr, IfSome};
-ghost use Rattle.crash_model.specs.Script.{IsScript, IsScriptRefusal};
+ghost use Rattle.crash_model.specs.Script.{IsScript};
+ghost use Rattle.crash_model.specs.ScriptRefusals.{IsScriptRefusal};
 ghost use Rattle.script_text.specs.Parts.{IsPart, IsPartRefused};
 
 use crate::line::{Line, read_line};

@@ -1,7 +1,7 @@
 //! Words of a line.
 
 ghost use Rattle.std.specs.Prelude.{◌≡◌, ◌<◌, ℕ, List, length, map, MatchOption};
-ghost use Rattle.crash_model.specs.Script.{AreWords};
+ghost use Rattle.crash_model.specs.ScriptRefusals.{AreWords};
 ghost use Rattle.script_text.specs.declared.words.TheConstants.{MOST_WORDS};
 
 use arrayvec::ArrayVec;

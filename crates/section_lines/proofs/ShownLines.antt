@@ -8,7 +8,8 @@ use Rattle.crash_model.specs.ShownTexts.{shown_text}
 use Rattle.crash_model.specs.declared.fault.Fault.{Fault}
 use Rattle.crash_model.specs.declared.fault.Fault.TheVariants.{BrokenPromise}
 use Rattle.crash_model.specs.declared.showing.Shown.{Shown}
-use Rattle.report_model.specs.Shows.{faults_text, shows_text, together}
+use Rattle.report_model.specs.Shows.{shows_text, together}
+use Rattle.report_model.specs.FaultLines.{faults_text}
 use Rattle.report_sections.proofs.Shown.{rest_from, rest_none, rest_behind, first_of_rest}
 use Rattle.section_lines.specs.Cache.{fault_line}
 use Rattle.section_lines.specs.Shows.{bar_before}

@@ -3,13 +3,14 @@
 ghost use Rattle.std.specs.Prelude.{◌≡◌, ◌++◌, codes, decimal, string_bytes, OnOk, flat_map, map};
 ghost use Rattle.hex.specs.Hex.{encode_lower};
 ghost use Rattle.patch_sets.specs.Sets.{ids_of};
-ghost use Rattle.report_model.specs.Report.{line, numbers, write_text, replayed_text, replay_text};
-ghost use Rattle.report_model.specs.Report.{crash_text, section_text};
+ghost use Rattle.report_model.specs.Report.{line, numbers, write_text, replay_text, crash_text, section_text};
+ghost use Rattle.report_model.specs.Replayed.{replayed_text};
 ghost use Rattle.report_sections.specs.Replay.{told_block, told_replay};
 ghost use Rattle.report_sections.specs.Sections.{section_of};
 ghost use Rattle.report_sections.specs.Showing.{shown_lists, shown_once};
 ghost use Rattle.crash_model.specs.ShownTexts.{shown_text};
-ghost use Rattle.report_model.specs.Shows.{faults_text, shows_if, shows_text, together};
+ghost use Rattle.report_model.specs.Shows.{shows_text, together};
+ghost use Rattle.report_model.specs.FaultLines.{faults_text, shows_if};
 ghost use Rattle.section_lines.specs.Cache.{fault_line};
 ghost use Rattle.section_lines.specs.Shows.{bar_before};
 

@@ -3,7 +3,8 @@
 ghost use Rattle.std.specs.Prelude.{◌≡◌, ◌<◌, IfOk, map};
 ghost use Rattle.crash_model.specs.Disk.{block_of};
 ghost use Rattle.crash_model.specs.Patches.{image_of};
-ghost use Rattle.report_model.specs.Report.{changed_blocks, replay_of};
+ghost use Rattle.report_model.specs.Report.{replay_of};
+ghost use Rattle.report_model.specs.Replayed.{changed_blocks};
 ghost use Rattle.report_sections.specs.Replay.{told_block, told_replay};
 
 use crash_image::Replayer;

@@ -10,7 +10,7 @@ use Rattle.crash_model.specs.Faults.{IsClean, is_tame, is_right_mark, names_bloc
 use Rattle.crash_model.specs.View.{HasPointer}
 use Rattle.crash_model.specs.Sound.{IsSound, ReachedIn}
 use Rattle.crash_model.proofs.Clean.{no_fault_clean}
-use Rattle.crash_model.specs.Layout.{generation_of, mark_generation}
+use Rattle.crash_model.specs.Generations.{generation_of, mark_generation}
 use Rattle.soundness_laws.proofs.ByTables.{current-parts}
 use Rattle.soundness_laws.specs.Tables.{tables_of, mark_at, is_current, HasPointer as PointerIn, ReachedIn as ReachedBy, count_to}
 use Rattle.soundness_laws.specs.Tables.{SoundNames, Sound}

@@ -8,8 +8,9 @@ use Rattle.std.proofs.lemmas.Bool.Decides.{nat_tests}
 use Rattle.std.proofs.lemmas.Grind.{elements, same_number_lists}
 use Rattle.crash_model.specs.Disk.{Disk, IsDisk, byte, overwrite}
 use Rattle.crash_model.specs.Layout.{kind_of, links_of, pointer_of, map_of, is_data, counts, entry_of, spelling_of}
-use Rattle.crash_model.specs.Layout.{generation_of, mark_generation, is_owned}
-use Rattle.crash_model.specs.Plan.{next_generation, inode_init, inode_free, entry_set, entry_clear, name_spelling, with_changes}
+use Rattle.crash_model.specs.Layout.{is_owned}
+use Rattle.crash_model.specs.Generations.{generation_of, mark_generation, next_generation}
+use Rattle.crash_model.specs.Plan.{inode_init, inode_free, entry_set, entry_clear, name_spelling, with_changes}
 use Rattle.crash_model.proofs.Bytes.{length-overwrite, overwrite-inside}
 use Rattle.soundness_laws.specs.Tables.{tables_of, place_at, place_of, with_value, with_inode, with_used, with_entry}
 use Rattle.soundness_laws.specs.Tables.{within}

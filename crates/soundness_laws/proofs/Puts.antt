@@ -6,8 +6,8 @@ use Rattle.std.proofs.lemmas.Bool.{cases_eq, cases_Bool, cases_lt, cases_order, 
 use Rattle.std.proofs.lemmas.Bool.Decides.{nat_tests}
 use Rattle.std.proofs.lemmas.Grind.{elements, same_number_lists}
 use Rattle.crash_model.specs.Disk.{Disk, IsDisk, byte, overwrite}
-use Rattle.crash_model.specs.Layout.{kind_of, links_of, pointer_of, map_of, is_data, is_owned, generation_of}
-use Rattle.crash_model.specs.Layout.{mark_generation}
+use Rattle.crash_model.specs.Layout.{kind_of, links_of, pointer_of, map_of, is_data, is_owned}
+use Rattle.crash_model.specs.Generations.{generation_of, mark_generation}
 use Rattle.crash_model.proofs.Bytes.{length-overwrite, overwrite-below, overwrite-above}
 use Rattle.soundness_laws.specs.Tables.{Tables, Place, Mark, tables_of, place_at, place_of, mark_at, with_value, within}
 use Rattle.soundness_laws.specs.Tables.{is_current, KeepsMarks}

@@ -6,10 +6,9 @@ use Rattle.std.proofs.lemmas.Bool.{cases_eq, cases_order, eq-eqb, ne_eqb, lt-ltb
 use Rattle.std.proofs.lemmas.Grind.{elements}
 use Rattle.crash_model.specs.Disk.{Disk, IsDisk, byte, overwrite}
 use Rattle.crash_model.specs.Layout.{kind_of, links_of, pointer_of, map_of, is_data, counts, entry_of, entry_offset}
-use Rattle.crash_model.specs.Layout.{generation_of, mark_generation}
+use Rattle.crash_model.specs.Generations.{generation_of, mark_generation, next_generation}
 use Rattle.crash_model.specs.Plan.{inode_init, inode_free, link_count, pointer_set, map_set, map_clear, init_block}
-use Rattle.crash_model.specs.Plan.{new_data}
-use Rattle.crash_model.specs.Plan.{entry_set, entry_clear, name_spelling, with_changes, next_generation, change, touch}
+use Rattle.crash_model.specs.Plan.{new_data, entry_set, entry_clear, name_spelling, with_changes, change, touch}
 use Rattle.crash_model.specs.Plan.{touched_of, pointers_clear}
 use Rattle.crash_model.specs.declared.plans.Change.{Change}
 use Rattle.crash_model.specs.declared.plans.Role.{Role}

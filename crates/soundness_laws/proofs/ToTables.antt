@@ -4,7 +4,7 @@ use Rattle.std.proofs.Common.{eqb, length, arith, refl, sym, ◌∙◌, ap, subs
 use Rattle.std.proofs.lemmas.Bool.{lt-ltb, cases_eq, cases_order, eq-eqb, ne_eqb}
 use Rattle.std.proofs.lemmas.Bool.Decides.{nat_tests}
 use Rattle.crash_model.specs.Disk.{Disk, IsDisk, byte}
-use Rattle.crash_model.specs.Layout.{generation_of, mark_generation}
+use Rattle.crash_model.specs.Generations.{generation_of, mark_generation}
 use Rattle.soundness_laws.specs.Tables.{is_current}
 use Rattle.crash_model.specs.Layout.{kind_of, links_of, pointer_of, map_of, is_data, is_live, is_entry, is_pointer}
 use Rattle.crash_model.specs.Layout.{target_of, counts, entry_of, spelling_of}

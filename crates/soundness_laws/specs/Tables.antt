@@ -6,7 +6,7 @@ use Rattle.crash_model.specs.declared.disk_bytes.TheConstants.{FILE_KIND, DIRECT
 use Rattle.crash_model.specs.Disk.{Disk, byte}
 use Rattle.crash_model.specs.Names.{IsName}
 use Rattle.crash_model.specs.Layout.{kind_of, links_of, pointer_of, map_of, is_data, counts, entry_of, spelling_of}
-use Rattle.crash_model.specs.Layout.{generation_of, mark_generation}
+use Rattle.crash_model.specs.Generations.{generation_of, mark_generation}
 use Rattle.crash_model.specs.Plan.{name_spelling}
 use Rattle.crash_model.specs.View.{View}
 

@@ -5,7 +5,7 @@ use Rattle.std.specs.Prelude.{filter, cond, if◌then◌else◌, not, ◌==◌, 
 use Rattle.std.specs.List.{list_any}
 use Rattle.std.proofs.lemmas.Bool.Decides.{nat_tests}
 use Rattle.crash_model.specs.Reasons.{reasons}
-use Rattle.crash_model.specs.Rules.{rule_text}
+use Rattle.crash_model.specs.RuleTexts.{rule_text}
 use Rattle.crash_model.specs.Trace.{Emitted, applies, depends}
 use Rattle.crash_model.specs.declared.rules.Rule as rules
 use Rattle.traced_patches.specs.Reasons.{reason_text, first_reasons}

@@ -1,6 +1,6 @@
 -- Why a patch depends on an earlier one.
 use Rattle.std.specs.Prelude.{ℕ, List, [], ◌∷◌, ◌++◌, Bool, if◌then◌else◌, codes}
-use Rattle.crash_model.specs.Rules.{rule_text}
+use Rattle.crash_model.specs.RuleTexts.{rule_text}
 use Rattle.traced_patches.specs.declared.reasons.Reason.{Reason}
 use Rattle.traced_patches.specs.declared.reasons.Reason.TheVariants.{Overlap, Block, Group, Wait, Rule}
 

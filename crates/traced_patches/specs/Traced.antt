@@ -1,8 +1,9 @@
 -- The patches of a trace, with what each of them is.
 use Rattle.std.specs.Prelude.{◌≡◌, ℕ, List, Bool, Option}
-use Rattle.crash_model.specs.Reasons.{Dependency, ToldPatch, dependency, told_patch}
+use Rattle.crash_model.specs.Reasons.{Dependency, ToldPatch, dependency, told_patch, rules_between}
 use Rattle.crash_model.specs.Patches.{overlap}
-use Rattle.crash_model.specs.Trace.{Emitted, shares_block, groups_depend, waits_for, rules_between}
+use Rattle.crash_model.specs.Trace.{Emitted, groups_depend, waits_for}
+use Rattle.crash_model.specs.WholeBlocks.{shares_block}
 use Rattle.crash_model.specs.Waiting.{Wait}
 use Rattle.crash_model.specs.declared.patches.Patch.{Patch}
 use Rattle.crash_model.specs.declared.rules.Rule.{Rule}

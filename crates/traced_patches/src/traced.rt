@@ -3,7 +3,9 @@
 ghost use Rattle.std.specs.Prelude.{◌≡◌, ℕ, ◌<◌, ◌≤◌, [], length, Some, slice_get};
 ghost use Rattle.crash_model.specs.Patches.{place, places_of};
 ghost use Rattle.crash_model.specs.declared.patches.Patch.{Patch};
-ghost use Rattle.crash_model.specs.Trace.{Emitted, rules_between, shares_block};
+ghost use Rattle.crash_model.specs.Trace.{Emitted};
+ghost use Rattle.crash_model.specs.Reasons.{rules_between};
+ghost use Rattle.crash_model.specs.WholeBlocks.{shares_block};
 ghost use Rattle.traced_patches.specs.Labels.{links_by, emitted_at, emitted_by, emitted_of, waits_by};
 ghost use Rattle.traced_patches.specs.Traced.{AreReasons};
 

@@ -7,9 +7,11 @@ use Rattle.std.proofs.lemmas.Bool.{and_parts, lt-ltb, le-leb}
 use Rattle.std.proofs.lemmas.List.Elements.{All-head, All-tail, All-push}
 use Rattle.crash_model.proofs.Cuts.{Lacks}
 use Rattle.crash_model.specs.Names.{IsWord, IsName, is_name_byte, is_group_byte}
-use Rattle.crash_model.specs.Script.{IsPath, IsPathWord, path_text, target_text, IsTarget, Operand, PathOperand}
-use Rattle.crash_model.specs.Script.{TargetOperand, PathsOperand, GroupOperand, SlotOperand}
-use Rattle.crash_model.specs.Script.{said, Fits, HasPaths, HasSlots, words_of, IsAct}
+use Rattle.crash_model.specs.Script.{Operand, PathOperand, TargetOperand, PathsOperand, GroupOperand, SlotOperand, said}
+use Rattle.crash_model.specs.Script.{words_of, IsAct}
+use Rattle.crash_model.specs.PathTexts.{IsPath, IsPathWord, path_text}
+use Rattle.crash_model.specs.Targets.{target_text, IsTarget}
+use Rattle.crash_model.specs.ScriptRefusals.{Fits, HasPaths, HasSlots}
 use Rattle.crash_model.specs.Slots.{slot_text}
 use Rattle.crash_model.specs.declared.operations.Slot.{Slot}
 use Rattle.crash_model.specs.declared.operations.Slot.TheVariants.{Zero, One, Two, Three}

@@ -6,9 +6,9 @@ use Rattle.std.specs.Int.{bit_at}
 use Rattle.patch_sets.specs.Sets.{Has}
 use Rattle.patch_sets.proofs.Bits.{same_set}
 use Rattle.crash_model.specs.Disk.{Disk}
-use Rattle.crash_model.specs.Strict.{IsKept, IsToldKept}
+use Rattle.crash_model.specs.Strict.{IsKept}
+use Rattle.crash_model.specs.Checker.{IsToldKept, Demands, Asked, AreDemands}
 use Rattle.crash_model.specs.declared.steps.Step.{Step}
-use Rattle.crash_model.specs.Checker.{Demands, Asked, AreDemands}
 use Rattle.crash_model.specs.Promises.{Promise}
 
 module _ (base : Disk) (steps : List Step) where

@@ -6,7 +6,8 @@ use Rattle.patch_sets.specs.Sets.{Has, IsSubset}
 use Rattle.patch_sets.proofs.Bits.{none_in_empty, same_set}
 use Rattle.crash_model.specs.Disk.{Disk, with_bytes}
 use Rattle.crash_model.specs.Patches.{Place, place, places_of, deps_of, AreUndo}
-use Rattle.crash_model.specs.Trace.{Emitted, Tracing, IsGraphOf}
+use Rattle.crash_model.specs.Trace.{Emitted, IsGraphOf}
+use Rattle.crash_model.specs.Tracing.{Tracing}
 use Rattle.crash_model.specs.declared.patches.Patch.{Patch}
 use Rattle.crash_model.specs.declared.rules.Rule.{Rule}
 

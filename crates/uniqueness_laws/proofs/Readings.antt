@@ -12,10 +12,12 @@ use Rattle.std.proofs.lemmas.Str.{IsUtf8-from_ascii}
 use Rattle.crash_model.proofs.Cuts.{Lacks}
 use Rattle.crash_model.specs.Lists.{join_of}
 use Rattle.crash_model.specs.Names.{IsName, IsGroupName, is_name_byte, is_group_byte}
-use Rattle.crash_model.specs.Script.{IsPath, IsPathWord, path_text, target_text, IsTarget, IsTargetWord, said}
-use Rattle.crash_model.specs.Script.{Operand, PathOperand, TargetOperand, PathsOperand, GroupOperand, SlotOperand}
-use Rattle.crash_model.specs.Script.{operand_words, AreLawful, Fits, HasPaths, HasSlots, HasBadSlot, HasForm, Line}
-use Rattle.crash_model.specs.Script.{Skipped, Start, Says, words_of, IsAct, IsSkipped, Reads}
+use Rattle.crash_model.specs.Script.{said, Operand, PathOperand, TargetOperand, PathsOperand, GroupOperand, SlotOperand}
+use Rattle.crash_model.specs.Script.{operand_words, AreLawful, Line, Skipped, Start, Says, words_of, IsAct, IsSkipped}
+use Rattle.crash_model.specs.Script.{Reads}
+use Rattle.crash_model.specs.PathTexts.{IsPath, IsPathWord, path_text}
+use Rattle.crash_model.specs.Targets.{target_text, IsTarget, IsTargetWord}
+use Rattle.crash_model.specs.ScriptRefusals.{Fits, HasPaths, HasSlots, HasBadSlot, HasForm}
 use Rattle.crash_model.specs.Slots.{slot_text}
 use Rattle.crash_model.specs.declared.operations.Slot.{Slot}
 use Rattle.crash_model.specs.declared.operations.Slot.TheVariants.{Zero, One, Two, Three}

@@ -4,8 +4,8 @@ use Rattle.std.proofs.Common.{◌∙◌, inl, inr, get_or}
 use Rattle.std.specs.Prelude.{◌⊎◌, codes, Some, slice_get, IsUtf8}
 use Rattle.std.specs.List.{All, Contains}
 use Rattle.std.proofs.lemmas.List.Elements.{All-nil, All-cons, All-append, All-contains}
-use Rattle.crash_model.specs.Script.{AreLines, Line, Skipped, Start, Says, Reads, AreSteps, IsScript, AreAccepted}
-use Rattle.crash_model.specs.Script.{IsFirstRefused, IsBadLine, IsBadPath, IsScriptRefusal}
+use Rattle.crash_model.specs.Script.{AreLines, Line, Skipped, Start, Says, Reads, AreSteps, IsScript}
+use Rattle.crash_model.specs.ScriptRefusals.{AreAccepted, IsFirstRefused, IsBadLine, IsBadPath, IsScriptRefusal}
 use Rattle.crash_model.specs.declared.refusals.ScriptFault.{ScriptFault}
 use Rattle.crash_model.specs.declared.refusals.ScriptFault.TheVariants.{BadUtf8, BadLine, BadPath, NoStart, OutOfMemory}
 use Rattle.crash_model.specs.declared.steps.Step.{Step}

@@ -3,8 +3,10 @@
 ghost use Rattle.std.specs.Prelude.{◌≡◌, ℕ, List};
 ghost use Rattle.crash_model.specs.Checker.{Demands, Asked, AreDemands};
 ghost use Rattle.crash_model.specs.Disk.{Disk};
-ghost use Rattle.crash_model.specs.Script.{IsScript, IsScriptRefusal};
-ghost use Rattle.crash_model.specs.Trace.{Tracing, IsGraphOf};
+ghost use Rattle.crash_model.specs.Script.{IsScript};
+ghost use Rattle.crash_model.specs.ScriptRefusals.{IsScriptRefusal};
+ghost use Rattle.crash_model.specs.Trace.{IsGraphOf};
+ghost use Rattle.crash_model.specs.Tracing.{Tracing};
 ghost use Rattle.crash_model.specs.declared.patches.Patch.{Patch};
 ghost use Rattle.crash_model.specs.declared.refusals.ScriptFault.{ScriptFault};
 ghost use Rattle.crash_model.specs.declared.rules.Rule.{Rule};

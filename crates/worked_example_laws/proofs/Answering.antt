@@ -6,15 +6,19 @@ use Rattle.std.proofs.lemmas.Bool.{and_parts, leb-true, le-leb, ltb-true}
 use Rattle.patch_sets.proofs.Ids.{eq_from_true}
 use Rattle.report_model.specs.Report.{Detail}
 use Rattle.report_model.specs.Answer as answers
-use Rattle.report_model.specs.Answer.{Refused, Reported, HasBase, HasGraph, detail_of, ordering_rules}
-use Rattle.report_model.specs.Answer.{asked_by}
-use Rattle.crash_model.specs.Disk.{Disk, new_disk, IsGeometry}
+use Rattle.report_model.specs.Untraced as untraced
+use Rattle.report_model.specs.Answer.{Refused, Reported, detail_of}
+use Rattle.report_model.specs.ScriptGraph.{HasBase, HasGraph, ordering_rules, asked_by}
+use Rattle.crash_model.specs.Disk.{Disk, IsGeometry}
+use Rattle.crash_model.specs.Generations.{new_disk}
 use Rattle.crash_model.specs.Patches.{deps_of}
 use Rattle.crash_model.specs.Refusals.{run_of_trace}
 use Rattle.crash_model.specs.Reasons.{explanation}
 use Rattle.crash_model.specs.Lists.{when}
-use Rattle.report_model.specs.Whole.{Sets, report}
-use Rattle.crash_model.specs.Trace.{trace_start, trace_from, base_from}
+use Rattle.report_model.specs.Whole.{Sets}
+use Rattle.report_model.specs.WholeText.{report}
+use Rattle.crash_model.specs.Trace.{trace_from, base_from}
+use Rattle.crash_model.specs.Tracing.{trace_start}
 use Rattle.crash_model.specs.declared.refusals.TraceFault.{TraceFault}
 use Rattle.crash_model.specs.declared.refusals.RunFault.TheVariants.{BadGeometry, TooMany}
 use Rattle.crash_model.specs.declared.settings.Settings.{Settings}
@@ -84,7 +88,7 @@ pub refused_base : (settings : Settings) (limit : ℕ) (before after : List Act)
     → base_from (new_disk settings.blocks settings.journal settings.generations) (numbered_steps 1 before) ≡ Err fault
     → IsListed (script before after) settings limit (Refused (run_of_trace fault))
 refused_base settings limit before after fault read read_too geometry is =
-    answers.untraced _ (answers.bad_base (numbered_steps 1 before) (trace_steps before after) fault
+    answers.untraced _ (untraced.bad_base (numbered_steps 1 before) (trace_steps before after) fault
     (script_is before after read read_too) (geometry_if settings geometry) is)
 
 -- an act after it is refused
@@ -95,7 +99,7 @@ pub refused_trace : (settings : Settings) (limit : ℕ) (before after : List Act
     (trace_steps before after) ≡ Err fault
     → IsListed (script before after) settings limit (Refused (run_of_trace fault))
 refused_trace settings limit before after fault read read_too geometry whole is =
-    answers.untraced _ (answers.bad_trace (base_of settings before) (trace_steps before after) fault
+    answers.untraced _ (untraced.bad_trace (base_of settings before) (trace_steps before after) fault
     (start settings before after read read_too geometry whole) is)
 
 -- how much is reported of a set
@@ -208,7 +212,7 @@ pub refused_geometry : (settings : Settings) (limit : ℕ) (before after : List 
     → are_acts after ≡ true
     → is_geometry settings ≡ false → IsListed (script before after) settings limit (Refused BadGeometry)
 refused_geometry settings limit before after read read_too none =
-    answers.untraced _ (answers.bad_geometry (numbered_steps 1 before) (trace_steps before after)
+    answers.untraced _ (untraced.bad_geometry (numbered_steps 1 before) (trace_steps before after)
     (script_is before after read read_too) (no_geometry settings none))
 
 -- more closed sets than the limit

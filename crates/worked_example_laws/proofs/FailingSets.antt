@@ -21,13 +21,15 @@ use Rattle.crash_model.specs.Patches.{deps_of, image_of, CountsClosed}
 use Rattle.crash_model.specs.Replay.{image_after_replay}
 use Rattle.crash_model.specs.Faults.{faults, IsClean}
 use Rattle.crash_model.specs.Lists.{some_below}
-use Rattle.crash_model.specs.Promises.{Promise, broken_lines}
+use Rattle.crash_model.specs.Promises.{Promise}
+use Rattle.crash_model.specs.BrokenLines.{broken_lines}
 use Rattle.crash_model.specs.Failing.{IsFailing}
 use Rattle.crash_model.specs.Checker.{Demands, faults_keeping, faults_showing, faults_under, promised, counted_among}
 use Rattle.crash_model.specs.Checker.{IsCleanUnder, IsFailingUnder}
 use Rattle.crash_model.specs.Strict.{strict_faults}
 use Rattle.crash_model.specs.declared.fault.Fault.{Fault}
-use Rattle.crash_model.specs.Trace.{Tracing, trace_start, trace_from}
+use Rattle.crash_model.specs.Trace.{trace_from}
+use Rattle.crash_model.specs.Tracing.{Tracing, trace_start}
 use Rattle.crash_model.specs.declared.patches.Patch.{Patch}
 use Rattle.crash_model.specs.declared.refusals.TraceFault.{TraceFault}
 use Rattle.crash_model.specs.declared.modules.Module.{Module}

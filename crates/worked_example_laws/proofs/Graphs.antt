@@ -7,7 +7,8 @@ use Rattle.patch_sets.specs.Closed.{AreEarlier}
 use Rattle.patch_sets.proofs.Bits.{none_in_empty, in_with_same, in_with_old, in_with_cases}
 use Rattle.crash_model.specs.Disk.{Disk, with_bytes}
 use Rattle.crash_model.specs.Patches.{places_of, deps_of, AreUndo}
-use Rattle.crash_model.specs.Trace.{Emitted, Tracing, depends, IsGraphOf}
+use Rattle.crash_model.specs.Trace.{Emitted, depends, IsGraphOf}
+use Rattle.crash_model.specs.Tracing.{Tracing}
 use Rattle.crash_model.specs.declared.rules.Rule.{Rule}
 use Rattle.worked_example_laws.specs.Computed.{set_below, depends_if, needs, patches_from, graph_of}
 

@@ -6,10 +6,11 @@ use Rattle.std.specs.Int.{bit_at}
 use Rattle.patch_sets.specs.Sets.{Has, has}
 use Rattle.crash_model.specs.Disk.{Disk}
 use Rattle.crash_model.specs.Layout.{kind_of, is_live}
-use Rattle.crash_model.specs.Strict.{disk_after, stays_live, IsKept, IsToldKept}
+use Rattle.crash_model.specs.Strict.{stays_live, IsKept}
+use Rattle.crash_model.specs.StepDisks.{disk_after}
+use Rattle.crash_model.specs.Checker.{IsToldKept, Asked, AreDemands}
 use Rattle.crash_model.specs.declared.steps.Step.{Step}
 use Rattle.crash_model.specs.Atomic.{disks_of}
-use Rattle.crash_model.specs.Checker.{Asked, AreDemands}
 use Rattle.crash_model.specs.Lists.{when}
 use Rattle.worked_example_laws.specs.Computed.{set_below, kept_of, shown_of, demands_of}
 use Rattle.worked_example_laws.proofs.Graphs.{from_set_below, to_set_below}

@@ -4,16 +4,18 @@ use Rattle.std.specs.Prelude.{Result, Ok, Err, None, if◌then◌else◌}
 use Rattle.state_space.proofs.Counting.{one_number, not_more}
 use Rattle.patch_sets.specs.Closed.{IsClosed}
 use Rattle.patch_sets.proofs.Canonical.{one_list}
-use Rattle.report_model.specs.Answer.{Answer, Refused, Reported, IsReport, IsBody, IsVisited, ordering_rules}
-use Rattle.report_model.specs.Answer.{asked_by}
-use Rattle.crash_model.specs.Disk.{Disk, new_disk}
+use Rattle.report_model.specs.Answer.{Answer, Refused, Reported, IsReport, IsBody, IsVisited}
+use Rattle.report_model.specs.ScriptGraph.{ordering_rules, asked_by}
+use Rattle.crash_model.specs.Disk.{Disk}
+use Rattle.crash_model.specs.Generations.{new_disk}
 use Rattle.crash_model.specs.Reasons.{explanation}
 use Rattle.crash_model.specs.Lists.{when}
 use Rattle.crash_model.specs.Patches.{deps_of}
 use Rattle.crash_model.specs.Refusals.{run_of_script}
 use Rattle.crash_model.specs.Checker.{Demands, IsFailingUnder}
-use Rattle.crash_model.specs.Trace.{Tracing, trace_start, trace_from, base_from}
-use Rattle.report_model.specs.Whole.{report}
+use Rattle.crash_model.specs.Trace.{trace_from, base_from}
+use Rattle.crash_model.specs.Tracing.{Tracing, trace_start}
+use Rattle.report_model.specs.WholeText.{report}
 use Rattle.crash_model.specs.declared.patches.Patch.{Patch}
 use Rattle.crash_model.specs.declared.refusals.TraceFault.{TraceFault}
 use Rattle.crash_model.specs.declared.settings.Settings.{Settings}

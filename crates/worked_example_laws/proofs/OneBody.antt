@@ -14,18 +14,21 @@ use Rattle.patch_sets.proofs.Bits.{eq_or_not}
 use Rattle.patch_sets.proofs.Canonical.{one_list}
 use Rattle.patch_sets.proofs.Lists.{in_front}
 use Rattle.patch_sets.proofs.Writes.{one_runs}
-use Rattle.report_model.specs.Answer.{IsBody, detail_of, ordering_rules}
+use Rattle.report_model.specs.Answer.{IsBody, detail_of}
+use Rattle.report_model.specs.ScriptGraph.{ordering_rules}
 use Rattle.crash_model.specs.Disk.{Disk}
 use Rattle.crash_model.specs.Patches.{ExceedsLimit, deps_of, homes_of}
 use Rattle.crash_model.specs.Checker.{Demands, IsFailingUnder}
 use Rattle.report_model.specs.Needs.{Without, RuleUsage, Unused, TooMany, Used, ToldRule, IsFirstNew, IsWithout}
 use Rattle.report_model.specs.Needs.{IsRuleUsage, AreToldRules}
 use Rattle.report_model.specs.Report.{Detail, Section, AreSections}
-use Rattle.crash_model.specs.Rules.{rules_in_first}
-use Rattle.crash_model.specs.FaultRows.{numbers_of, IsFaultBefore, HasFault, IsFirst, IsRow, AreRows}
+use Rattle.crash_model.specs.ChosenRules.{rules_in_first}
+use Rattle.crash_model.specs.FaultRows.{IsRow, AreRows}
+use Rattle.crash_model.specs.FaultOrder.{numbers_of, IsFaultBefore}
+use Rattle.crash_model.specs.FirstSets.{HasFault, IsFirst}
 use Rattle.report_model.specs.Summary.{ToldFault}
 use Rattle.report_model.specs.Summary.{AreToldFaults}
-use Rattle.crash_model.specs.Trace.{Tracing}
+use Rattle.crash_model.specs.Tracing.{Tracing}
 use Rattle.report_model.specs.Whole.{Body, Sets, Faults, Rules}
 use Rattle.crash_model.specs.declared.fault.Fault.{Fault}
 use Rattle.crash_model.specs.declared.fault.FaultRow.{FaultRow}

@@ -10,9 +10,10 @@ use Rattle.std.proofs.lemmas.Str.{IsUtf8-from_is_utf8, is_utf8-from_IsUtf8}
 use Rattle.patch_sets.proofs.Ids.{ne_from_false}
 use Rattle.crash_model.specs.Names.{is_group_byte}
 use Rattle.crash_model.specs.Script.{ArePlain, AreLines, Operand, PathOperand, TargetOperand, PathsOperand}
-use Rattle.crash_model.specs.Script.{GroupOperand, SlotOperand, said, Fits}
-use Rattle.crash_model.specs.Script.{HasPaths, HasSlots, Line, Skipped, Start, Reads, IsSkipped, AreAccepted}
-use Rattle.crash_model.specs.Script.{IsFirstRefused, IsBadLine, IsBadPath, IsScriptRefusal, text_of_lines}
+use Rattle.crash_model.specs.Script.{GroupOperand, SlotOperand, said, Line, Skipped, Start, Reads, IsSkipped}
+use Rattle.crash_model.specs.Script.{text_of_lines}
+use Rattle.crash_model.specs.ScriptRefusals.{Fits, HasPaths, HasSlots, AreAccepted, IsFirstRefused, IsBadLine}
+use Rattle.crash_model.specs.ScriptRefusals.{IsBadPath, IsScriptRefusal}
 use Rattle.crash_model.specs.declared.refusals.ScriptFault.TheVariants.{BadUtf8, BadLine, BadPath, NoStart}
 use Rattle.crash_model.specs.declared.steps.Act.{Act}
 use Rattle.worked_example_laws.specs.Examples.{numbered_steps}

@@ -3,22 +3,26 @@ use Rattle.std.proofs.Common.{◌≡◌, ℕ, ◌<◌, List, length, Bool, true,
 use Rattle.std.specs.Prelude.{◌⊎◌, Result, Ok, Err, None, if◌then◌else◌}
 use Rattle.std.proofs.lemmas.Bool.{ltb-true}
 use Rattle.patch_sets.specs.Closed.{AreEarlier}
-use Rattle.report_model.specs.Answer.{Answer, Refused, Reported, HasBase, HasGraph, IsVisited, ordering_rules}
-use Rattle.report_model.specs.Answer.{bad_script, untraced, asked_by}
-use Rattle.report_model.specs.Answer.{bad_geometry, bad_base, bad_trace, too_many, reported}
-use Rattle.crash_model.specs.Disk.{Disk, new_disk, IsGeometry}
+use Rattle.report_model.specs.Answer.{Answer, Refused, Reported, IsVisited, untraced, too_many, reported}
+use Rattle.report_model.specs.ScriptGraph.{HasBase, HasGraph, ordering_rules, asked_by}
+use Rattle.report_model.specs.Untraced.{bad_script, bad_geometry, bad_base, bad_trace}
+use Rattle.crash_model.specs.Disk.{Disk, IsGeometry}
+use Rattle.crash_model.specs.Generations.{new_disk}
 use Rattle.crash_model.specs.Reasons.{explanation}
 use Rattle.crash_model.specs.Lists.{when}
 use Rattle.crash_model.specs.Patches.{deps_of}
 use Rattle.crash_model.specs.Refusals.{run_of_trace, run_of_script}
-use Rattle.crash_model.specs.Trace.{Tracing, trace_start, trace_from, base_from}
-use Rattle.report_model.specs.Whole.{Report, report}
+use Rattle.crash_model.specs.Trace.{trace_from, base_from}
+use Rattle.crash_model.specs.Tracing.{Tracing, trace_start}
+use Rattle.report_model.specs.Whole.{Report}
+use Rattle.report_model.specs.WholeText.{report}
 use Rattle.crash_model.specs.declared.patches.Patch.{Patch}
 use Rattle.crash_model.specs.declared.refusals.TraceFault.{TraceFault}
 use Rattle.crash_model.specs.declared.refusals.RunFault.TheVariants.{BadGeometry, TooMany}
 use Rattle.crash_model.specs.declared.settings.Settings.{Settings}
 use Rattle.crash_model.specs.declared.visit.ReportBy.{ReportBy}
-use Rattle.crash_model.specs.Script.{IsScript, IsScriptRefusal}
+use Rattle.crash_model.specs.Script.{IsScript}
+use Rattle.crash_model.specs.ScriptRefusals.{IsScriptRefusal}
 use Rattle.crash_model.specs.declared.refusals.ScriptFault.{ScriptFault}
 use Rattle.crash_model.specs.declared.steps.Step.{Step}
 use Rattle.report_model.proofs.Leading.{failing_closed, closed_are_left}

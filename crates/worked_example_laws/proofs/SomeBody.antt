@@ -12,7 +12,8 @@ use Rattle.patch_sets.specs.Sets.{IsBefore, AreAllInOrder}
 use Rattle.patch_sets.proofs.Bits.{eq_or_not}
 use Rattle.patch_sets.proofs.Canonical.{before_trans, before_self}
 use Rattle.patch_sets.proofs.Lists.{front_or_rest, in_front, in_rest, in_none}
-use Rattle.report_model.specs.Answer.{IsBody, detail_of, ordering_rules}
+use Rattle.report_model.specs.Answer.{IsBody, detail_of}
+use Rattle.report_model.specs.ScriptGraph.{ordering_rules}
 use Rattle.crash_model.specs.Disk.{Disk}
 use Rattle.crash_model.specs.Patches.{ExceedsLimit, deps_of, image_of}
 use Rattle.crash_model.specs.Checker.{Demands, faults_under, IsFailingUnder}
@@ -21,10 +22,11 @@ use Rattle.report_model.specs.Needs.{Without, RuleUsage, Unused, TooMany, Used, 
 use Rattle.report_model.specs.Needs.{IsWithout, IsRuleUsage, AreToldRules}
 use Rattle.crash_model.specs.Replay.{image_after_replay}
 use Rattle.report_model.specs.Report.{Detail, Section, AreSections, IsLed}
-use Rattle.crash_model.specs.Rules.{rules_in_first}
-use Rattle.crash_model.specs.FaultRows.{HasFault, IsFirst, IsRow}
+use Rattle.crash_model.specs.ChosenRules.{rules_in_first}
+use Rattle.crash_model.specs.FaultRows.{IsRow}
+use Rattle.crash_model.specs.FirstSets.{HasFault, IsFirst}
 use Rattle.report_model.specs.Summary.{ToldFault, AreToldFaults}
-use Rattle.crash_model.specs.Trace.{Tracing}
+use Rattle.crash_model.specs.Tracing.{Tracing}
 use Rattle.report_model.specs.Whole.{Body, Sets, Faults, Rules}
 use Rattle.crash_model.specs.declared.fault.Fault.{Fault}
 use Rattle.crash_model.specs.declared.fault.FaultRow.{FaultRow}

@@ -12,13 +12,14 @@ use Rattle.patch_sets.proofs.Ids.{false_from_ne}
 use Rattle.crash_model.proofs.Cuts.{Lacks}
 use Rattle.crash_model.specs.Lists.{join_of}
 use Rattle.crash_model.specs.Names.{IsName, is_name_byte}
-use Rattle.crash_model.specs.Script.{AreLines, text_of_lines, path_text, IsPath, IsPathWord, IsTargetWord}
-use Rattle.crash_model.specs.Script.{Operand, PathOperand, TargetOperand, PathsOperand}
-use Rattle.crash_model.specs.Script.{GroupOperand, SlotOperand, said, HasPaths, HasSlots, HasForm, Line, Skipped}
-use Rattle.crash_model.specs.Script.{Start, Says, IsSkipped}
+use Rattle.crash_model.specs.Script.{AreLines, text_of_lines, Operand, PathOperand, TargetOperand, PathsOperand}
+use Rattle.crash_model.specs.Script.{GroupOperand, SlotOperand, said, Line, Skipped, Start, Says, IsSkipped, Reads}
+use Rattle.crash_model.specs.Script.{AreSteps, IsScript}
+use Rattle.crash_model.specs.PathTexts.{path_text, IsPath, IsPathWord}
+use Rattle.crash_model.specs.Targets.{IsTargetWord}
+use Rattle.crash_model.specs.ScriptRefusals.{HasPaths, HasSlots, HasForm, AreAccepted, IsScriptRefusal}
 use Rattle.crash_model.specs.Slots.{IsSlotWord}
 use Rattle.crash_model.specs.declared.operations.Slot.TheVariants.{Zero, One, Two, Three}
-use Rattle.crash_model.specs.Script.{Reads, AreSteps, IsScript, AreAccepted, IsScriptRefusal}
 use Rattle.crash_model.specs.declared.names.Path.{Path}
 use Rattle.crash_model.specs.declared.refusals.ScriptFault.{ScriptFault}
 use Rattle.crash_model.specs.declared.refusals.ScriptFault.TheVariants.{BadUtf8, BadLine, BadPath, NoStart}

@@ -6,8 +6,10 @@ use Rattle.std.specs.List.{All, Contains, list_all, list_any}
 use Rattle.std.proofs.lemmas.Bool.{and_parts, ltb-true, leb-true}
 use Rattle.std.proofs.lemmas.List.Elements.{All-nil, All-cons, All-append}
 use Rattle.crash_model.specs.Names.{IsWord, IsName, is_name_byte, is_group_byte}
-use Rattle.crash_model.specs.Script.{ArePlain, IsPath, IsTarget, Operand, PathOperand, TargetOperand, PathsOperand}
-use Rattle.crash_model.specs.Script.{GroupOperand, SlotOperand, said, AreLawful, AreSteps, IsScript}
+use Rattle.crash_model.specs.Script.{ArePlain, Operand, PathOperand, TargetOperand, PathsOperand, GroupOperand}
+use Rattle.crash_model.specs.Script.{SlotOperand, said, AreLawful, AreSteps, IsScript}
+use Rattle.crash_model.specs.PathTexts.{IsPath}
+use Rattle.crash_model.specs.Targets.{IsTarget}
 use Rattle.crash_model.specs.declared.names.Path.{Path}
 use Rattle.crash_model.specs.declared.steps.Act.{Act}
 use Rattle.crash_model.specs.declared.steps.Target.{Target}

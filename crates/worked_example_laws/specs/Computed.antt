@@ -22,7 +22,8 @@ use Rattle.crash_model.specs.Layout.{kind_of, links_of, pointer_of, map_of, is_l
 use Rattle.crash_model.specs.Faults.{faults}
 use Rattle.crash_model.specs.Replay.{image_after_replay}
 use Rattle.crash_model.specs.Rules.{rules_of}
-use Rattle.crash_model.specs.Trace.{Emitted, Tracing, trace_start, trace_from, depends, IsGraphOf}
+use Rattle.crash_model.specs.Trace.{Emitted, trace_from, depends, IsGraphOf}
+use Rattle.crash_model.specs.Tracing.{Tracing, trace_start}
 use Rattle.crash_model.specs.declared.fault.Fault.{Fault}
 use Rattle.crash_model.specs.declared.patches.Patch.{Patch}
 use Rattle.crash_model.specs.declared.refusals.TraceFault.{TraceFault}

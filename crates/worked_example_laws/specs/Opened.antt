@@ -1,10 +1,10 @@
 -- What worked examples compute, opened by one name each.
 use Rattle.crash_model.specs.Lists.{each_below, some_below, first_below}
 use Rattle.crash_model.specs.Disk.{overwrite}
-use Rattle.crash_model.specs.Layout.{generation_of, mark_generation}
-use Rattle.crash_model.specs.Plan.{plan_of, next_generation}
+use Rattle.crash_model.specs.Generations.{generation_of, mark_generation, next_generation}
+use Rattle.crash_model.specs.Plan.{plan_of}
 use Rattle.crash_model.specs.Faults.{each_slot, each_entry, namers, entries_to, faults}
-use Rattle.crash_model.specs.Promises.{broken_lines}
+use Rattle.crash_model.specs.BrokenLines.{broken_lines}
 use Rattle.crash_model.specs.Strict.{reach_in, is_reached, strict_faults}
 
 -- operations on a disk

@@ -2,13 +2,16 @@
 use Rattle.std.specs.Prelude.{ℕ, ◌+◌, List, [], ◌∷◌, ◌++◌, length, map, codes, Bool, true, false, not, ◌&&◌, ◌==◌}
 use Rattle.std.specs.Prelude.{nat_lt, nat_le, Result, Ok, Err, None}
 use Rattle.std.specs.List.{list_all, list_any}
-use Rattle.report_model.specs.Answer.{Answer, IsVisited, ordering_rules, asked_by}
+use Rattle.report_model.specs.Answer.{Answer, IsVisited}
+use Rattle.report_model.specs.ScriptGraph.{ordering_rules, asked_by}
 use Rattle.crash_model.specs.Checker.{Demands}
 use Rattle.uniqueness_laws.specs.Words.{is_word}
-use Rattle.crash_model.specs.Disk.{Disk, new_disk}
+use Rattle.crash_model.specs.Disk.{Disk}
+use Rattle.crash_model.specs.Generations.{new_disk}
 use Rattle.crash_model.specs.Lists.{join_of}
 use Rattle.crash_model.specs.Patches.{deps_of}
-use Rattle.crash_model.specs.Trace.{trace_start, trace_from, base_from}
+use Rattle.crash_model.specs.Trace.{trace_from, base_from}
+use Rattle.crash_model.specs.Tracing.{trace_start}
 use Rattle.crash_model.specs.declared.patches.Patch.{Patch}
 use Rattle.crash_model.specs.declared.refusals.TraceFault.{TraceFault}
 use Rattle.crash_model.specs.declared.settings.Settings.{Settings}

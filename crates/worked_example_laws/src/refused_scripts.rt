@@ -1,7 +1,7 @@
 //! Scripts that are refused, and the line of the refusal.
 
 ghost use Rattle.std.specs.Prelude.{[], ◌∷◌, ◌++◌, codes};
-ghost use Rattle.crash_model.specs.Script.{IsScriptRefusal};
+ghost use Rattle.crash_model.specs.ScriptRefusals.{IsScriptRefusal};
 ghost use Rattle.crash_model.specs.declared.refusals.ScriptFault.TheVariants.{BadUtf8, BadLine, BadPath, NoStart};
 
 /// Without a start line the number is that of the lines plus 1.

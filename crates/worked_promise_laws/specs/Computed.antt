@@ -8,7 +8,8 @@ use Rattle.crash_model.specs.Patches.{image_from}
 use Rattle.crash_model.specs.Promises.{Promise, promises_of, is_broken}
 use Rattle.crash_model.specs.Replay.{image_after_replay}
 use Rattle.crash_model.specs.Rules.{rules_of}
-use Rattle.crash_model.specs.Trace.{Emitted, Tracing, trace_start, trace_from, depends}
+use Rattle.crash_model.specs.Trace.{Emitted, trace_from, depends}
+use Rattle.crash_model.specs.Tracing.{Tracing, trace_start}
 use Rattle.crash_model.specs.declared.modules.Module.{Module}
 use Rattle.crash_model.specs.declared.rules.Rule.{Rule}
 use Rattle.crash_model.specs.declared.showing.Shown.{Shown}

@@ -1,7 +1,8 @@
 -- The disks and steps of the worked examples.
 use Rattle.std.specs.Prelude.{ℕ, ◌+◌, List, [], ◌∷◌, ◌++◌, replicate, codes}
 use Rattle.crash_model.specs.Disk.{Disk, empty_disk}
-use Rattle.crash_model.specs.Plan.{plan_of, with_plan}
+use Rattle.crash_model.specs.Plan.{plan_of}
+use Rattle.crash_model.specs.StepDisks.{with_plan}
 use Rattle.crash_model.specs.declared.operations.Op.{Op}
 use Rattle.crash_model.specs.declared.operations.Op.TheVariants.{Create, Write, Link, Unlink, Rename, Mkdir}
 use Rattle.crash_model.specs.declared.names.Path.{Path}

@@ -1,7 +1,7 @@
 -- The sets of rules that are enough for a search, as reports speak of them and as they are found.
 use Rattle.std.proofs.Common.{◌≡◌, ℕ, None, sym, subst}
 use Rattle.std.specs.Prelude.{◌↔◌}
-use Rattle.crash_model.specs.Trace.{trace_start}
+use Rattle.crash_model.specs.Tracing.{trace_start}
 use Rattle.question_model.specs.Enough.{rules_in, rules_but}
 use Rattle.enough_rules.specs.Enough.{IsMinimalEnough, IsNeeded}
 use Rattle.enough_rules.proofs.Groups.{difference_of}

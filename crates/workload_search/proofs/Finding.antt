@@ -5,7 +5,7 @@ use Rattle.std.specs.Prelude.{slice_index, slice_index_or, is_some}
 use Rattle.std.specs.List.{Contains}
 use Rattle.std.proofs.lemmas.List.Elements.{All-weaker, All-contains}
 use Rattle.crash_model.specs.Checker.{Demands}
-use Rattle.crash_model.specs.FaultRows.{IsFirst}
+use Rattle.crash_model.specs.FirstSets.{IsFirst}
 use Rattle.crash_model.specs.declared.patches.Patch.{Patch}
 use Rattle.question_model.specs.Found.{AreFound, IsCounted, IsShown}
 use Rattle.question_model.specs.Sequences.{IsSequenceBefore, CountsSequences}

@@ -3,7 +3,7 @@ use Rattle.std.proofs.Common.{◌≡◌, ℕ, ◌<◌, ◌≤◌, List, [], ◌�
 use Rattle.std.proofs.Common.{sym, subst, ap, ◌∙◌, eqb-true, eq-eqb}
 use Rattle.std.specs.Prelude.{slice_index_or, is_some, Result, Err}
 use Rattle.crash_model.specs.Checker.{Demands}
-use Rattle.crash_model.specs.Trace.{Tracing}
+use Rattle.crash_model.specs.Tracing.{Tracing}
 use Rattle.crash_model.specs.declared.refusals.TraceFault.{TraceFault}
 use Rattle.crash_model.specs.declared.patches.Patch.{Patch}
 use Rattle.question_model.specs.Refused.{refusal_of}

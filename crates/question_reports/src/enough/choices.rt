@@ -2,7 +2,7 @@
 
 ghost use Rattle.std.specs.Prelude.{◌≡◌, ◌≤◌, ◌++◌, codes, decimal, flat_map, length, map, string_bytes, OnOk};
 ghost use Rattle.crash_model.specs.Lists.{join_of};
-ghost use Rattle.crash_model.specs.Rules.{rule_text};
+ghost use Rattle.crash_model.specs.RuleTexts.{rule_text};
 ghost use Rattle.crash_model.specs.declared.separators.TheConstants.{COMMA};
 ghost use Rattle.question_model.specs.EnoughLines.{waits_in};
 ghost use Rattle.question_model.specs.EnoughReport.{rule_choices, rules_text, set_json};

@@ -2,7 +2,7 @@
 
 ghost use Rattle.std.specs.Prelude.{◌≡◌, ◌++◌, [], length, option_map};
 ghost use Rattle.std.specs.Prelude.{string_bytes, IfOk, OnOk};
-ghost use Rattle.report_model.specs.Whole.{form_of};
+ghost use Rattle.report_model.specs.WholeJson.{form_of};
 ghost use Rattle.question_model.specs.EnoughReport.{first_fault_json, group_json, json_enough};
 ghost use Rattle.question_reports.specs.Chosen.{choices_of, AreFewChoices};
 ghost use Rattle.question_reports.specs.EnoughFindings.{group_head, group_items, report_of, set_items, told_first};

@@ -3,7 +3,7 @@
 ghost use Rattle.std.specs.Prelude.{◌≡◌, ◌++◌, codes, decimal, flat_map, length, option_map, option_to_list};
 ghost use Rattle.std.specs.Prelude.{string_bytes, IfOk, OnOk};
 ghost use Rattle.report_model.specs.Report.{line};
-ghost use Rattle.question_model.specs.Decision.{decided_text};
+ghost use Rattle.question_model.specs.ToldDecided.{decided_text};
 ghost use Rattle.question_model.specs.EnoughReport.{group_text, text_enough};
 ghost use Rattle.question_reports.specs.Chosen.{choices_of, AreFewChoices};
 ghost use Rattle.question_reports.specs.EnoughFindings.{group_lines, report_of, told_first, told_group};

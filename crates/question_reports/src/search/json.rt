@@ -2,8 +2,8 @@
 
 ghost use Rattle.std.specs.Prelude.{◌≡◌, ◌++◌, [], codes, if◌then◌else◌, length, map, string_bytes, IfOk, OnOk};
 ghost use Rattle.crash_model.specs.Lists.{join_of};
-ghost use Rattle.crash_model.specs.Texts.{act_text};
-ghost use Rattle.report_model.specs.Report.{json_string};
+ghost use Rattle.crash_model.specs.PatchTexts.{act_text};
+ghost use Rattle.report_model.specs.JsonParts.{json_string};
 ghost use Rattle.question_model.specs.SearchReport.{first_counted, first_promise_keys, json_search, kind_json};
 ghost use Rattle.question_model.specs.SearchReport.{refused_json, step_text};
 ghost use Rattle.question_model.specs.Workloads.{steps_at};

@@ -1,7 +1,7 @@
 //! Reports as text.
 
 ghost use Rattle.std.specs.Prelude.{◌≡◌, ◌++◌, codes, flat_map, length, string_bytes, IfOk, OnOk};
-ghost use Rattle.crash_model.specs.Texts.{act_text};
+ghost use Rattle.crash_model.specs.PatchTexts.{act_text};
 ghost use Rattle.report_model.specs.Report.{line};
 ghost use Rattle.question_model.specs.SearchReport.{kind_text, refused_text, search_text as head_text, step_text};
 ghost use Rattle.question_model.specs.SearchReport.{text_search};

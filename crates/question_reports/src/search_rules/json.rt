@@ -1,7 +1,7 @@
 //! Reports as JSON.
 
 ghost use Rattle.std.specs.Prelude.{◌≡◌, ◌++◌, [], length, string_bytes, IfOk, OnOk};
-ghost use Rattle.report_model.specs.Answer.{ordering_rules};
+ghost use Rattle.report_model.specs.ScriptGraph.{ordering_rules};
 ghost use Rattle.question_model.specs.SearchRulesReport.{json_search_rules, need_json};
 ghost use Rattle.question_reports.specs.SearchRulesFindings.{need_items, told_need, told_needs};
 

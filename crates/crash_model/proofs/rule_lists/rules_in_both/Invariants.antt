@@ -1,5 +1,5 @@
 use Rattle.std.proofs.Common.{◌≡◌, ◌≤◌, length, take}
-use Rattle.crash_model.specs.Rules.{rules_in_both}
+use Rattle.crash_model.specs.ChosenRules.{rules_in_both}
 use Rattle.crash_model.proofs.rule_lists.rules_in_both.Given as goal
 
 abbrev pub invariant-loop-rule : goal.invariant-loop-rule

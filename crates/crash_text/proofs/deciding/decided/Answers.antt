@@ -2,7 +2,7 @@ use Rattle.std.proofs.Common.{string_bytes, ◌≡◌, length, map, rules, sym, 
 use Rattle.report_model.specs.Answer.{detail_of}
 use Rattle.crash_model.specs.Patches.{CountsClosed}
 use Rattle.report_model.specs.Report.{AreSections}
-use Rattle.crash_model.specs.FaultRows.{HasFault}
+use Rattle.crash_model.specs.FirstSets.{HasFault}
 use Rattle.question_model.specs.Decided.{AreDecided}
 use Rattle.question_model.specs.Decision.{IsDecision}
 use Rattle.report_sections.specs.Bodies.{AreClosed}

@@ -2,7 +2,8 @@ use Rattle.std.proofs.Common.{List, ℕ, All, length, map, string_bytes, sym, su
 use Rattle.std.specs.Int.{from_bool}
 use Rattle.std.specs.Prelude.{None, option_map, if◌then◌else◌}
 use Rattle.patch_sets.specs.Closed.{AreEarlier}
-use Rattle.report_model.specs.Answer.{detail_of, ordering_rules}
+use Rattle.report_model.specs.Answer.{detail_of}
+use Rattle.report_model.specs.ScriptGraph.{ordering_rules}
 use Rattle.crash_model.specs.Lists.{when}
 use Rattle.crash_model.specs.Patches.{CountsClosed, deps_of}
 use Rattle.crash_model.specs.Checker.{IsFailingUnder}

@@ -1,7 +1,7 @@
 use Rattle.std.proofs.Common.{◌≡◌, map, take}
 use Rattle.report_model.specs.Answer.{detail_of}
 use Rattle.report_model.specs.Needs.{AreToldRules}
-use Rattle.crash_model.specs.Trace.{Tracing}
+use Rattle.crash_model.specs.Tracing.{Tracing}
 use Rattle.report_sections.specs.ToldRules.{told_rule}
 use Rattle.crash_text.proofs.needs.needs.Given as goal
 

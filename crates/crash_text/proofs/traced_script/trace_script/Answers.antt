@@ -1,8 +1,9 @@
 use Rattle.std.proofs.Common.{◌≡◌, List, Bool, Ok, refl, subst, ap, ◌∙◌}
-use Rattle.report_model.specs.Answer.{asked_by, ordering_rules}
+use Rattle.report_model.specs.ScriptGraph.{asked_by, ordering_rules}
 use Rattle.crash_model.specs.Checker.{AreDemands}
 use Rattle.crash_model.specs.Disk.{Disk}
-use Rattle.crash_model.specs.Trace.{Tracing, trace_start, trace_from, IsGraphOf}
+use Rattle.crash_model.specs.Trace.{trace_from, IsGraphOf}
+use Rattle.crash_model.specs.Tracing.{Tracing, trace_start}
 use Rattle.crash_model.specs.declared.rules.Rule.{Rule}
 use Rattle.crash_model.specs.declared.patches.Patch.{Patch}
 use Rattle.crash_model.specs.declared.settings.Asked as code

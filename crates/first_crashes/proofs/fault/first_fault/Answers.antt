@@ -1,7 +1,7 @@
 use Rattle.std.proofs.Common.{subst, sym}
 use Rattle.patch_sets.specs.Closed.{IsClosed}
 use Rattle.crash_model.specs.Patches.{deps_of}
-use Rattle.crash_model.specs.FaultRows.{HasFault}
+use Rattle.crash_model.specs.FirstSets.{HasFault}
 use Rattle.fault_deciding.specs.Asked.{IsFirstFault}
 use Rattle.section_maker.specs.Maker.{Reported}
 use Rattle.report_sections.specs.Sections.{IsSection}

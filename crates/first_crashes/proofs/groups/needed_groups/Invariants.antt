@@ -1,5 +1,5 @@
 use Rattle.std.proofs.Common.{◌≡◌, All, map, take}
-use Rattle.crash_model.specs.Trace.{Tracing}
+use Rattle.crash_model.specs.Tracing.{Tracing}
 use Rattle.question_model.specs.EnoughReport.{IsToldGroup}
 use Rattle.enough_deciding.specs.Rules.{IsTracingOf}
 use Rattle.question_reports.specs.EnoughFindings.{told_group}

@@ -1,6 +1,6 @@
 use Rattle.std.proofs.Common.{◌≡◌, ◌≤◌, ◌-◌, ◌++◌}
 use Rattle.crash_model.specs.Lists.{some_below}
-use Rattle.crash_model.specs.Promises.{lines_end}
+use Rattle.crash_model.specs.BrokenLines.{lines_end}
 use Rattle.fs_check.specs.Broken.{line_behind}
 use Rattle.fs_check.proofs.BrokenLines.{broken_at}
 use Rattle.fs_check.proofs.promises.push_broken.Given as goal

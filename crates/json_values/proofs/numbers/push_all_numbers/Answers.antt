@@ -1,7 +1,7 @@
 use Rattle.std.proofs.Common.{◌++◌, List, ℕ, get_or, string_bytes, refl, ap, ◌∙◌}
 use Rattle.crash_model.specs.declared.fault.Fault.{Fault}
 use Rattle.crash_model.specs.declared.fault.Fault.TheVariants.{Dangling}
-use Rattle.report_model.specs.FaultKeys.{fault_numbers}
+use Rattle.report_model.specs.FaultNumbers.{fault_numbers}
 use Rattle.json_values.proofs.Commas.{taken_more}
 use Rattle.json_values.proofs.numbers.push_all_numbers.Goals as goal
 

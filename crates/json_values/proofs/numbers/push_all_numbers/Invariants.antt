@@ -1,6 +1,6 @@
 use Rattle.std.proofs.Common.{◌≡◌, ◌++◌, map, string_bytes, take}
 use Rattle.crash_model.specs.Lists.{join_of}
-use Rattle.report_model.specs.FaultKeys.{fault_numbers}
+use Rattle.report_model.specs.FaultNumbers.{fault_numbers}
 use Rattle.json_values.proofs.numbers.push_all_numbers.Given as goal
 
 abbrev pub invariant-loop-at : goal.invariant-loop-at

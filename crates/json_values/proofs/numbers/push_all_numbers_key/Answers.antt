@@ -1,5 +1,5 @@
 use Rattle.std.proofs.Common.{◌++◌, Bool, string_bytes, sym, ap, ◌∙◌}
-use Rattle.report_model.specs.FaultKeys.{all_numbers_key}
+use Rattle.report_model.specs.FaultNumbers.{all_numbers_key}
 use Rattle.json_values.proofs.HeadPieces.{all_numbers_pieces}
 use Rattle.json_values.proofs.numbers.push_all_numbers_key.Goals as goal
 

@@ -1,6 +1,6 @@
 use Rattle.std.proofs.Common.{◌++◌, codes, decimal, string_bytes, sym, ap, ◌∙◌}
 use Rattle.crash_model.specs.declared.fault.Fault.{Fault}
-use Rattle.report_model.specs.FaultKeys.{fault_numbers}
+use Rattle.report_model.specs.FaultNumbers.{fault_numbers}
 use Rattle.json_values.proofs.HeadPieces.{one_number, three_numbers}
 use Rattle.json_values.proofs.numbers.push_numbers.Goals as goal
 

@@ -1,5 +1,5 @@
 use Rattle.std.proofs.Common.{◌++◌, Bool, codes, string_bytes, sym, ap, ◌∙◌}
-use Rattle.report_model.specs.FaultKeys.{fault_numbers, numbers_key}
+use Rattle.report_model.specs.FaultNumbers.{fault_numbers, numbers_key}
 use Rattle.json_values.proofs.SectionPieces.{three_pieces}
 use Rattle.json_values.proofs.numbers.push_numbers_key.Goals as goal
 

@@ -3,8 +3,9 @@ use Rattle.std.proofs.lemmas.Simd.{map-map}
 use Rattle.arrayvec.specs.ArrayVec.{ArrayVec}
 use Rattle.crash_model.specs.Lists.{join_of}
 use Rattle.crash_model.specs.declared.showing.Shown.{Shown}
-use Rattle.report_model.specs.Report.{json_string}
-use Rattle.report_model.specs.Shows.{together, shows_json}
+use Rattle.report_model.specs.JsonParts.{json_string}
+use Rattle.report_model.specs.Shows.{together}
+use Rattle.report_model.specs.SectionJson.{shows_json}
 use Rattle.report_sections.specs.Showing.{shown_lists}
 use Rattle.json_values.proofs.Shown.{shows_pieces}
 use Rattle.json_values.proofs.sections.push_all_shows.Goals as goal

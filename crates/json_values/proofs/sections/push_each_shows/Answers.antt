@@ -1,7 +1,7 @@
 use Rattle.std.proofs.Common.{◌++◌, List, ℕ, string_bytes, ap, ◌∙◌}
 use Rattle.arrayvec.specs.ArrayVec.{ArrayVec}
 use Rattle.crash_model.specs.declared.showing.Shown.{Shown}
-use Rattle.report_model.specs.Report.{json_string}
+use Rattle.report_model.specs.JsonParts.{json_string}
 use Rattle.report_model.specs.Shows.{together}
 use Rattle.json_values.proofs.Commas.{taken_more}
 use Rattle.json_values.proofs.sections.push_each_shows.Goals as goal

@@ -1,5 +1,5 @@
 use Rattle.std.proofs.Common.{◌≡◌, ◌++◌, Some, map, string_bytes, sym, ap, ◌∙◌}
-use Rattle.report_model.specs.Report.{replay_json}
+use Rattle.report_model.specs.SectionJson.{replay_json}
 use Rattle.report_sections.specs.Replay.{told_block, told_replay}
 use Rattle.json_values.proofs.SectionPieces.{replay_pieces}
 use Rattle.json_values.proofs.sections.push_replay.Goals as goal

@@ -2,7 +2,7 @@ use Rattle.std.proofs.Common.{◌≡◌, ◌<◌, ◌+◌, ◌++◌, List, ℕ, 
 use Rattle.std.proofs.lemmas.List.{take_all}
 use Rattle.std.proofs.lemmas.Simd.{map-map}
 use Rattle.crash_model.specs.Lists.{join_of}
-use Rattle.report_model.specs.Report.{replayed_json}
+use Rattle.report_model.specs.Replayed.{replayed_json}
 use Rattle.report_sections.specs.Replay.{told_block}
 use Rattle.report_sections.specs.declared.replayed.ReplayedBlock.{ReplayedBlock}
 use Rattle.json_values.specs.Items.{comma_before}

@@ -1,6 +1,6 @@
 use Rattle.std.proofs.Common.{◌≡◌, ◌++◌, map, string_bytes, take}
 use Rattle.crash_model.specs.Lists.{join_of}
-use Rattle.report_model.specs.Report.{replayed_json}
+use Rattle.report_model.specs.Replayed.{replayed_json}
 use Rattle.report_sections.specs.Replay.{told_block}
 use Rattle.json_values.proofs.sections.push_replayed_blocks.Given as goal
 

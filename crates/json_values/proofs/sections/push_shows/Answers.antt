@@ -3,7 +3,7 @@ use Rattle.std.specs.Prelude.{Vec, not}
 use Rattle.arrayvec.specs.ArrayVec.{ArrayVec}
 use Rattle.crash_model.specs.Lists.{join_of}
 use Rattle.crash_model.specs.declared.showing.Shown.{Shown}
-use Rattle.report_model.specs.Report.{json_string}
+use Rattle.report_model.specs.JsonParts.{json_string}
 use Rattle.report_model.specs.Shows.{together, shown_of}
 use Rattle.json_values.proofs.Shown.{shows_told, shows_untold}
 use Rattle.json_values.proofs.sections.push_shows.Goals as goal

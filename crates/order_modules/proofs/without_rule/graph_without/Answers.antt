@@ -1,5 +1,5 @@
 use Rattle.std.proofs.Common.{[], ◌∷◌, List, subst, sym, ap, ◌∙◌}
-use Rattle.crash_model.specs.Rules.{rules_in_first}
+use Rattle.crash_model.specs.ChosenRules.{rules_in_first}
 use Rattle.crash_model.specs.Trace.{IsGraphOf}
 use Rattle.crash_model.specs.declared.rules.Rule.{Rule}
 use Rattle.order_modules.proofs.without_rule.graph_without.Goals as goal

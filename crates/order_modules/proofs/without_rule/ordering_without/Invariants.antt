@@ -1,5 +1,5 @@
 use Rattle.std.proofs.Common.{◌≡◌, ◌≤◌, [], ◌∷◌, length, take}
-use Rattle.crash_model.specs.Rules.{rules_in_first}
+use Rattle.crash_model.specs.ChosenRules.{rules_in_first}
 use Rattle.order_modules.proofs.without_rule.ordering_without.Given as goal
 
 abbrev pub invariant-loop-other : goal.invariant-loop-other

@@ -1,5 +1,5 @@
 use Rattle.std.proofs.Common.{◌++◌, string_bytes, sym, ap, ◌∙◌}
-use Rattle.report_model.specs.Shows.{counted_json}
+use Rattle.report_model.specs.OptionKeys.{counted_json}
 use Rattle.report_json.proofs.Counted.{counted_pieces}
 use Rattle.report_json.proofs.head.write_counted_key.Goals as goal
 

@@ -1,6 +1,6 @@
 use Rattle.std.proofs.Common.{◌≡◌, ◌++◌, string_bytes}
 use Rattle.std.proofs.lemmas.Result.{on_ok_weaker}
-use Rattle.report_model.specs.Whole.{disk_json, geometry_json}
+use Rattle.report_model.specs.OptionKeys.{disk_json, geometry_json}
 use Rattle.json_values.proofs.SectionPieces.{three_pieces}
 use Rattle.report_json.proofs.head.write_disk_keys.Goals as goal
 

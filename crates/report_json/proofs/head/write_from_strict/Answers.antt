@@ -1,5 +1,6 @@
 use Rattle.std.proofs.Common.{◌≡◌, ◌++◌, codes, string_bytes, ap, ◌∙◌}
-use Rattle.report_model.specs.Whole.{rules_json, told_with, told_without}
+use Rattle.report_model.specs.OptionKeys.{rules_json}
+use Rattle.report_model.specs.OptionTexts.{told_with, told_without}
 use Rattle.report_json.proofs.Keys.{six_pieces}
 use Rattle.report_json.proofs.head.write_from_strict.Goals as goal
 

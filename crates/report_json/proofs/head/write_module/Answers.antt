@@ -1,7 +1,7 @@
 use Rattle.std.proofs.Common.{◌≡◌, ℕ, List, ◌++◌, append_assoc, ap, ◌∙◌, codes, decimal}
 use Rattle.report_sections.proofs.Pieces.{four_pieces}
 use Rattle.crash_model.specs.Texts.{module_text}
-use Rattle.report_model.specs.Whole.{disk_json}
+use Rattle.report_model.specs.OptionKeys.{disk_json}
 use Rattle.report_json.proofs.head.write_module.Goals as goal
 
 regroup : (old g a b c d e : List ℕ)

@@ -1,6 +1,7 @@
 use Rattle.std.proofs.Common.{List, ℕ, ◌++◌, get_or, string_bytes, refl, ap, ◌∙◌}
-use Rattle.report_model.specs.Report.{json_string}
-use Rattle.crash_model.specs.Rules.{rule_text, same_rule}
+use Rattle.report_model.specs.JsonParts.{json_string}
+use Rattle.crash_model.specs.Rules.{same_rule}
+use Rattle.crash_model.specs.RuleTexts.{rule_text}
 use Rattle.crash_model.specs.declared.plans.Role.TheVariants.{InodeInit}
 use Rattle.crash_model.specs.declared.rules.Rule.{Rule}
 use Rattle.crash_model.specs.declared.rules.RulePart.TheVariants.{Change}

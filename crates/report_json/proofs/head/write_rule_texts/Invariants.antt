@@ -1,7 +1,7 @@
 use Rattle.std.proofs.Common.{◌≡◌, ◌++◌, map, string_bytes, take}
 use Rattle.crash_model.specs.Lists.{join_of}
-use Rattle.report_model.specs.Report.{json_string}
-use Rattle.crash_model.specs.Rules.{rule_text}
+use Rattle.report_model.specs.JsonParts.{json_string}
+use Rattle.crash_model.specs.RuleTexts.{rule_text}
 use Rattle.report_json.proofs.head.write_rule_texts.Given as goal
 
 abbrev pub invariant-loop-at : goal.invariant-loop-at

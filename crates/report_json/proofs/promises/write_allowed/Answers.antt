@@ -1,6 +1,6 @@
 use Rattle.std.proofs.Common.{◌++◌, List, ℕ, string_bytes, ap, ◌∙◌}
 use Rattle.crash_model.specs.declared.promises.Allowance.{Allowance}
-use Rattle.report_model.specs.Report.{json_string}
+use Rattle.report_model.specs.JsonParts.{json_string}
 use Rattle.report_model.specs.Shows.{together}
 use Rattle.json_values.proofs.Commas.{taken_more}
 use Rattle.report_json.proofs.promises.write_allowed.Goals as goal

@@ -1,7 +1,7 @@
 use Rattle.std.proofs.Common.{◌++◌, List, ℕ, string_bytes, ap, ◌∙◌}
-use Rattle.crash_model.specs.Script.{path_text}
+use Rattle.crash_model.specs.PathTexts.{path_text}
 use Rattle.crash_model.specs.declared.names.Path.{Path}
-use Rattle.report_model.specs.Report.{json_string}
+use Rattle.report_model.specs.JsonParts.{json_string}
 use Rattle.json_values.proofs.Commas.{taken_more}
 use Rattle.report_json.proofs.promises.write_paths.Goals as goal
 

@@ -1,7 +1,7 @@
 use Rattle.std.proofs.Common.{◌≡◌, ◌++◌, map, string_bytes, take}
 use Rattle.crash_model.specs.Lists.{join_of}
-use Rattle.crash_model.specs.Script.{path_text}
-use Rattle.report_model.specs.Report.{json_string}
+use Rattle.crash_model.specs.PathTexts.{path_text}
+use Rattle.report_model.specs.JsonParts.{json_string}
 use Rattle.report_json.proofs.promises.write_paths.Given as goal
 
 abbrev pub invariant-loop-at : goal.invariant-loop-at

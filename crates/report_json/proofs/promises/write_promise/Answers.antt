@@ -4,7 +4,7 @@ use Rattle.crash_model.specs.Promises.{Promise}
 use Rattle.crash_model.specs.declared.names.Path.{Path}
 use Rattle.crash_model.specs.declared.promises.Allowance.{Allowance}
 use Rattle.crash_model.specs.declared.promises.Spare.{Spare}
-use Rattle.report_model.specs.Report.{json_string}
+use Rattle.report_model.specs.JsonParts.{json_string}
 use Rattle.report_model.specs.Shows.{promise_json, spare_text, together}
 use Rattle.report_json.specs.JsonReport.{paths_key}
 use Rattle.report_json.proofs.Promised.{promise_pieces}

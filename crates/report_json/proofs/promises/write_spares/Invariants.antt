@@ -1,6 +1,6 @@
 use Rattle.std.proofs.Common.{◌≡◌, ◌++◌, map, string_bytes, take}
 use Rattle.crash_model.specs.Lists.{join_of}
-use Rattle.report_model.specs.Report.{json_string}
+use Rattle.report_model.specs.JsonParts.{json_string}
 use Rattle.report_model.specs.Shows.{spare_text}
 use Rattle.report_json.proofs.promises.write_spares.Given as goal
 

@@ -1,5 +1,5 @@
 use Rattle.std.proofs.Common.{get_or, subst, sym, ap, ◌∙◌}
-use Rattle.report_model.specs.Report.{Form}
+use Rattle.report_model.specs.JsonParts.{Form}
 use Rattle.report_model.specs.Summary.{told_fault_json}
 use Rattle.patch_sets.specs.Closed.{IsClosed}
 use Rattle.crash_model.specs.Patches.{deps_of}

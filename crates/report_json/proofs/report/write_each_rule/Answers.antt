@@ -1,7 +1,7 @@
 use Rattle.std.proofs.Common.{◌≡◌, ◌++◌, List, ℕ, map, string_bytes, ap, ◌∙◌}
 use Rattle.std.proofs.lemmas.List.{take_all}
 use Rattle.crash_model.specs.Lists.{join_of}
-use Rattle.report_model.specs.Parts.{Form}
+use Rattle.report_model.specs.JsonParts.{Form}
 use Rattle.report_model.specs.Needs.{told_rule_json}
 use Rattle.report_sections.specs.ToldRules.{told_rule}
 use Rattle.report_sections.specs.declared.rules.ToldRule.{ToldRule}

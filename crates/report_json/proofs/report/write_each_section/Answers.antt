@@ -1,5 +1,6 @@
 use Rattle.std.proofs.Common.{get_or, subst, ap, ◌∙◌}
-use Rattle.report_model.specs.Report.{Form, section_json}
+use Rattle.report_model.specs.JsonParts.{Form}
+use Rattle.report_model.specs.SectionJson.{section_json}
 use Rattle.section_maker.specs.Maker.{Reported}
 use Rattle.report_sections.specs.Sections.{IsSection, section_of}
 use Rattle.report_json.proofs.Reports.{section_more}

@@ -3,7 +3,7 @@ use Rattle.std.proofs.lemmas.Simd.{map-map}
 use Rattle.crash_model.specs.Lists.{join_of}
 use Rattle.report_model.specs.Needs.{told_rule_json}
 use Rattle.report_model.specs.Whole as whole
-use Rattle.report_model.specs.Whole.{late_json}
+use Rattle.report_model.specs.WholeJson.{late_json}
 use Rattle.report_sections.specs.Bodies.{detail_by, TellsBody}
 use Rattle.report_sections.specs.ToldRules.{told_rule}
 use Rattle.report_sections.proofs.Pieces.{array_pieces}

@@ -1,6 +1,6 @@
 use Rattle.std.proofs.Common.{◌≡◌, List, ℕ, ◌++◌, string_bytes, ap, ◌∙◌}
 use Rattle.std.proofs.lemmas.Result.{on_ok_weaker}
-use Rattle.report_model.specs.Report.{section_json}
+use Rattle.report_model.specs.SectionJson.{section_json}
 use Rattle.report_sections.specs.Sections.{section_of, IsSection}
 use Rattle.report_sections.specs.declared.section.Section.{Section}
 use Rattle.json_values.specs.Items.{comma_before}

@@ -2,9 +2,8 @@ use Rattle.std.proofs.Common.{◌++◌, [], codes}
 use Rattle.std.specs.Prelude.{if◌then◌else◌}
 use Rattle.std.proofs.lemmas.Result.{on_ok_weaker}
 use Rattle.report_model.specs.Report.{line}
-use Rattle.report_model.specs.Shows.{counted_text}
+use Rattle.report_model.specs.OptionTexts.{counted_text, rule_lines, told_with, told_without, blocks_text}
 use Rattle.crash_model.specs.Texts.{module_text}
-use Rattle.report_model.specs.Whole.{rule_lines, told_with, told_without, blocks_text}
 use Rattle.report_text.proofs.HeadLines.{ordering_of}
 use Rattle.report_text.proofs.head.write_ordering.Goals as goal
 

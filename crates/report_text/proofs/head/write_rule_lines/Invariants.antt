@@ -1,5 +1,5 @@
 use Rattle.std.proofs.Common.{◌≡◌, ◌++◌, string_bytes, take}
-use Rattle.report_model.specs.Whole.{rule_lines}
+use Rattle.report_model.specs.OptionTexts.{rule_lines}
 use Rattle.report_text.proofs.head.write_rule_lines.Given as goal
 
 abbrev pub invariant-loop-rule : goal.invariant-loop-rule

@@ -1,6 +1,6 @@
 use Rattle.std.proofs.Common.{◌≡◌, ◌++◌, string_bytes, take, codes}
 use Rattle.std.specs.List.{flat_map}
-use Rattle.crash_model.specs.Script.{path_text}
+use Rattle.crash_model.specs.PathTexts.{path_text}
 use Rattle.report_text.proofs.promises.write_paths.Given as goal
 
 abbrev pub invariant-loop-path : goal.invariant-loop-path

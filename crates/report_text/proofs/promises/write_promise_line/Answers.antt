@@ -1,6 +1,6 @@
 use Rattle.std.proofs.Common.{◌≡◌, ◌++◌, codes, decimal, string_bytes, ◌∙◌, append_assoc}
 use Rattle.std.specs.List.{flat_map}
-use Rattle.crash_model.specs.Script.{path_text}
+use Rattle.crash_model.specs.PathTexts.{path_text}
 use Rattle.report_text.proofs.PromiseLines.{line_pieces}
 use Rattle.report_text.proofs.promises.write_promise_line.Goals as goal
 

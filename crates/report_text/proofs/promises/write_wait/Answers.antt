@@ -1,6 +1,6 @@
 use Rattle.std.proofs.Common.{◌≡◌, ◌++◌, codes, decimal, string_bytes, ◌∙◌, append_assoc}
 use Rattle.patch_sets.specs.Sets.{ids_of}
-use Rattle.crash_model.specs.Texts.{act_text}
+use Rattle.crash_model.specs.PatchTexts.{act_text}
 use Rattle.report_model.specs.Report.{numbers}
 use Rattle.report_text.proofs.PromiseLines.{line_pieces}
 use Rattle.report_text.proofs.promises.write_wait.Goals as goal

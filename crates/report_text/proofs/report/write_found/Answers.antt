@@ -3,7 +3,7 @@ use Rattle.std.specs.List.{flat_map}
 use Rattle.std.proofs.lemmas.Result.{on_ok_weaker}
 use Rattle.crash_model.specs.declared.fault.Fault.{Fault}
 use Rattle.crash_model.specs.declared.showing.Shown.{Shown}
-use Rattle.report_model.specs.Shows.{faults_text}
+use Rattle.report_model.specs.FaultLines.{faults_text}
 use Rattle.report_sections.proofs.Items.{nothing_told}
 use Rattle.section_lines.specs.Cache.{fault_line}
 use Rattle.report_text.proofs.Reports.{faults_alone}

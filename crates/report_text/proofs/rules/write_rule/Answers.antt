@@ -1,6 +1,6 @@
 use Rattle.std.proofs.Common.{List, ℕ, [], ◌++◌, codes, string_bytes, append_assoc, sym, ap, ◌∙◌}
 use Rattle.report_model.specs.Needs.{usage_text}
-use Rattle.crash_model.specs.Rules.{rule_text}
+use Rattle.crash_model.specs.RuleTexts.{rule_text}
 use Rattle.report_sections.specs.ToldRules.{usage_of}
 use Rattle.report_text.proofs.RuleLines.{usage_named}
 use Rattle.report_text.proofs.rules.write_rule.Goals as goal

@@ -1,7 +1,8 @@
 use Rattle.std.proofs.Common.{List, ℕ, map, ap, sym, subst, ◌∙◌}
 use Rattle.std.specs.Str.{IsUtf8}
 use Rattle.std.proofs.lemmas.Result.{MatchResult-weaker}
-use Rattle.crash_model.specs.Script.{IsSkipped, AreWords}
+use Rattle.crash_model.specs.Script.{IsSkipped}
+use Rattle.crash_model.specs.ScriptRefusals.{AreWords}
 use Rattle.script_text.specs.declared.line.LineFault.TheVariants.{BadLine}
 use Rattle.script_text.specs.Words.{SaysLine, IsLineFault}
 use Rattle.script_text.proofs.Forms.{not_so, too_many_words, no_verb, refused_operands, says_line}

@@ -1,7 +1,7 @@
 use Rattle.std.proofs.Common.{◌+◌, ℕ, length, ap, ◌∙◌}
 use Rattle.std.proofs.lemmas.List.{length_push}
 use Rattle.std.proofs.lemmas.List.Elements.{All-push}
-use Rattle.crash_model.specs.Script.{IsPath}
+use Rattle.crash_model.specs.PathTexts.{IsPath}
 use Rattle.script_text.proofs.Forms.{not_so}
 use Rattle.script_text.proofs.PathLists.{path_refused, texts_more}
 use Rattle.script_text.proofs.operands.paths.Goals as goal

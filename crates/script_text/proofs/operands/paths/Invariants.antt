@@ -1,6 +1,6 @@
 use Rattle.std.proofs.Common.{◌≡◌, length, map, take}
 use Rattle.std.specs.List.{All}
-use Rattle.crash_model.specs.Script.{IsPath, path_text}
+use Rattle.crash_model.specs.PathTexts.{IsPath, path_text}
 use Rattle.script_text.proofs.operands.paths.Given as goal
 
 abbrev pub invariant-loop-word : goal.invariant-loop-word

@@ -1,5 +1,5 @@
 use Rattle.std.proofs.Common.{string_bytes}
-use Rattle.report_model.specs.Report.{replayed_text}
+use Rattle.report_model.specs.Replayed.{replayed_text}
 use Rattle.report_sections.specs.Replay.{told_block}
 use Rattle.section_lines.proofs.Told.{mapped_told}
 use Rattle.section_lines.proofs.lines.write_replayed_blocks.Goals as goal

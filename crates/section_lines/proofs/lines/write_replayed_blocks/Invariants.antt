@@ -1,6 +1,6 @@
 use Rattle.std.proofs.Common.{◌≡◌, ◌++◌, map, string_bytes, take}
 use Rattle.std.specs.List.{flat_map}
-use Rattle.report_model.specs.Report.{replayed_text}
+use Rattle.report_model.specs.Replayed.{replayed_text}
 use Rattle.report_sections.specs.Replay.{told_block}
 use Rattle.section_lines.proofs.lines.write_replayed_blocks.Given as goal
 

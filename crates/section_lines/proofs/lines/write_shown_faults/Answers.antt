@@ -1,7 +1,7 @@
 use Rattle.std.proofs.Common.{◌++◌, ℕ, ◌+◌, List, String, map, string_bytes, sym, subst, arith}
 use Rattle.arrayvec.specs.ArrayVec.{ArrayVec}
 use Rattle.crash_model.specs.declared.showing.Shown.{Shown}
-use Rattle.report_model.specs.Shows.{faults_text}
+use Rattle.report_model.specs.FaultLines.{faults_text}
 use Rattle.report_sections.specs.Showing.{shown_once}
 use Rattle.report_sections.proofs.Shown.{once_of}
 use Rattle.section_lines.proofs.ShownLines.{Left, left_alone, left_shown, none_left}

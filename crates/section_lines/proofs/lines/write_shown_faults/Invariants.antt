@@ -1,5 +1,5 @@
 use Rattle.std.proofs.Common.{◌≡◌, ◌≤◌, ◌++◌, drop, map, string_bytes}
-use Rattle.report_model.specs.Shows.{faults_text}
+use Rattle.report_model.specs.FaultLines.{faults_text}
 use Rattle.section_lines.proofs.lines.write_shown_faults.Given as goal
 
 abbrev pub invariant-loop-fault : goal.invariant-loop-fault

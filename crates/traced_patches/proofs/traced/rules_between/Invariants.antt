@@ -1,5 +1,5 @@
 use Rattle.std.proofs.Common.{◌≡◌, ◌≤◌, length, take}
-use Rattle.crash_model.specs.Trace.{rules_between}
+use Rattle.crash_model.specs.Reasons.{rules_between}
 use Rattle.traced_patches.specs.Labels.{emitted_of}
 use Rattle.traced_patches.proofs.traced.rules_between.Given as goal
 

@@ -3,7 +3,8 @@ use Rattle.std.proofs.Common.{[], ◌∷◌}
 use Rattle.std.specs.Prelude.{codes}
 use Rattle.std.specs.Fmt.{digits}
 use Rattle.crash_model.specs.Texts.{fault_text}
-use Rattle.report_model.specs.Whole.{text_report, json_report}
+use Rattle.report_model.specs.WholeText.{text_report}
+use Rattle.report_model.specs.WholeJson.{json_report}
 use Rattle.crash_model.specs.declared.operations.Op.TheVariants.{Create}
 use Rattle.crash_model.specs.declared.steps.Act.TheVariants.{Do}
 use Rattle.crash_model.specs.declared.modules.Module.TheVariants.{Async}

@@ -2,7 +2,8 @@ use Rattle.std.proofs.Common.{refl}
 use Rattle.std.proofs.Common.{[]}
 use Rattle.std.specs.Fmt.{digits}
 use Rattle.crash_model.specs.Texts.{fault_text}
-use Rattle.report_model.specs.Whole.{text_report, json_report}
+use Rattle.report_model.specs.WholeText.{text_report}
+use Rattle.report_model.specs.WholeJson.{json_report}
 use Rattle.crash_model.specs.declared.modules.Module.TheVariants.{Async}
 use Rattle.worked_example_laws.specs.Spelled.{settings_of}
 use Rattle.std.proofs.Common.{false}

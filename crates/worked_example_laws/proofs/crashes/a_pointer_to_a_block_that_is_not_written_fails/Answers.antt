@@ -1,8 +1,8 @@
 use Rattle.std.proofs.Common.{refl, [], ◌∷◌}
 use Rattle.crash_model.specs.Disk.{overwrite}
 use Rattle.crash_model.specs.Lists.{each_below, some_below, first_below}
-use Rattle.crash_model.specs.Layout.{generation_of, mark_generation}
-use Rattle.crash_model.specs.Plan.{plan_of, next_generation}
+use Rattle.crash_model.specs.Generations.{generation_of, mark_generation, next_generation}
+use Rattle.crash_model.specs.Plan.{plan_of}
 use Rattle.crash_model.specs.declared.modules.Module.TheVariants.{Async, Soft}
 use Rattle.worked_example_laws.specs.Computed.{sets}
 use Rattle.worked_example_laws.specs.Examples.{fresh_disk, written_file}

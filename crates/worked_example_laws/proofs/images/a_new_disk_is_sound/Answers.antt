@@ -1,8 +1,8 @@
 use Rattle.std.proofs.Common.{refl}
 use Rattle.crash_model.specs.Disk.{overwrite}
 use Rattle.crash_model.specs.Lists.{each_below, some_below, first_below}
-use Rattle.crash_model.specs.Layout.{generation_of, mark_generation}
-use Rattle.crash_model.specs.Plan.{plan_of, next_generation}
+use Rattle.crash_model.specs.Generations.{generation_of, mark_generation, next_generation}
+use Rattle.crash_model.specs.Plan.{plan_of}
 use Rattle.crash_model.specs.Faults.{each_slot, each_entry, namers, entries_to, faults}
 use Rattle.worked_example_laws.specs.Examples.{fresh_disk, fresh_with_journal}
 use Rattle.worked_example_laws.proofs.Sound.{sound_alone, zero_journal}

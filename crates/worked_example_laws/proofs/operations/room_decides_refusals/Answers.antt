@@ -2,8 +2,8 @@ use Rattle.std.proofs.Common.{◌≡◌, List, refl, ap}
 use Rattle.std.specs.Prelude.{codes, Result, Err}
 use Rattle.crash_model.specs.Disk.{Disk, overwrite}
 use Rattle.crash_model.specs.Lists.{each_below, some_below, first_below}
-use Rattle.crash_model.specs.Layout.{generation_of, mark_generation}
-use Rattle.crash_model.specs.Plan.{plan_of, next_generation}
+use Rattle.crash_model.specs.Generations.{generation_of, mark_generation, next_generation}
+use Rattle.crash_model.specs.Plan.{plan_of}
 use Rattle.crash_model.specs.declared.operations.Op.TheVariants.{Create, Link, Mkdir, Rename}
 use Rattle.crash_model.specs.declared.plans.Change.{Change}
 use Rattle.crash_model.specs.declared.refusals.FsFault.{FsFault}

@@ -3,8 +3,8 @@ use Rattle.crash_model.specs.Disk.{Disk, overwrite}
 use Rattle.crash_model.specs.Faults.{faults}
 use Rattle.crash_model.specs.Lists.{each_below, some_below, first_below}
 use Rattle.crash_model.specs.Patches.{deps_of, image_of}
-use Rattle.crash_model.specs.Layout.{generation_of, mark_generation}
-use Rattle.crash_model.specs.Plan.{plan_of, next_generation}
+use Rattle.crash_model.specs.Generations.{generation_of, mark_generation, next_generation}
+use Rattle.crash_model.specs.Plan.{plan_of}
 use Rattle.crash_model.specs.Replay.{headers, image_after_replay}
 use Rattle.crash_model.specs.declared.fault.Fault.{Fault}
 use Rattle.crash_model.specs.declared.fault.Fault.TheVariants.{Unwritten}

@@ -3,7 +3,7 @@ use Rattle.std.proofs.lemmas.List.{length_push}
 use Rattle.std.proofs.lemmas.List.Elements.{All-push}
 use Rattle.std.proofs.lemmas.Bool.Decides.{nat_tests}
 use Rattle.crash_model.specs.Names.{IsName}
-use Rattle.crash_model.specs.Script.{IsPathWord}
+use Rattle.crash_model.specs.PathTexts.{IsPathWord}
 use Rattle.crash_model.proofs.Paths.{path_has_first, path_goes_on, slash_text-push, path_ends}
 use Rattle.crash_model.proofs.names.Path.read.Goals as goal
 

@@ -2,7 +2,8 @@ use Rattle.std.proofs.Common.{rules, ◌≡◌, ℕ, List, [], ◌∷◌, ◌++�
 use Rattle.std.proofs.Output.{has_written_of_eq}
 use Rattle.std.specs.List.{flat_map}
 use Rattle.crash_model.specs.Lists.{join_of}
-use Rattle.crash_model.specs.Script.{path_text, words_of}
+use Rattle.crash_model.specs.Script.{words_of}
+use Rattle.crash_model.specs.PathTexts.{path_text}
 use Rattle.crash_model.specs.declared.names.Path.{Path}
 use Rattle.crash_model.specs.declared.steps.Act.{Act}
 use Rattle.crash_model.proofs.Words.{join_paths}

@@ -1,7 +1,7 @@
 use Rattle.std.proofs.Common.{◌∷◌, take}
 use Rattle.std.specs.List.{flat_map}
 use Rattle.std.specs.Fmt.{HasWritten, IsPlainFormatter}
-use Rattle.crash_model.specs.Script.{path_text}
+use Rattle.crash_model.specs.PathTexts.{path_text}
 use Rattle.crash_model.specs.declared.names.Path.{Path}
 use Rattle.crash_model.proofs.steps.PathWordsDisplay.fmt.Given as goal
 

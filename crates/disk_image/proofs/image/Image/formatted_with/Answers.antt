@@ -1,6 +1,7 @@
 use Rattle.std.proofs.Common.{◌≡◌, arith, sym, subst}
 use Rattle.std.proofs.lemmas.Grind.{common_steps}
-use Rattle.crash_model.specs.Disk.{Disk, IsGeometry, new_disk}
+use Rattle.crash_model.specs.Disk.{Disk, IsGeometry}
+use Rattle.crash_model.specs.Generations.{new_disk}
 use Rattle.crash_model.specs.Sound.{IsSound, HasZeroJournal}
 use Rattle.disk_image.proofs.Formatted.{sound-new_disk, zero-journal-new_disk}
 use Rattle.disk_image.proofs.image.Image.formatted_with.Goals as goal

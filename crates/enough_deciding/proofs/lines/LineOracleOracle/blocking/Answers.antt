@@ -1,6 +1,6 @@
 use Rattle.std.proofs.Common.{subst, sym}
 use Rattle.crash_model.specs.Checker.{Demands}
-use Rattle.crash_model.specs.FaultRows.{HasFault}
+use Rattle.crash_model.specs.FirstSets.{HasFault}
 use Rattle.fault_deciding.specs.Asked.{IsFirstFault}
 use Rattle.chosen_rules.proofs.LineOracles.{lines_found}
 use Rattle.chosen_rules.proofs.Prevented.{some_fault}

@@ -1,7 +1,7 @@
 use Rattle.std.proofs.Common.{rules, ◌≡◌, List, IsPermutation, subst}
 use Rattle.std.proofs.lemmas.Fn.{always_returns_same}
 use Rattle.crash_model.specs.declared.fault.FaultRow.{FaultRow}
-use Rattle.crash_model.specs.FaultRows.{numbers_of}
+use Rattle.crash_model.specs.FaultOrder.{numbers_of}
 use Rattle.failing_sets.proofs.Sorted.{in_order}
 use Rattle.failing_sets.proofs.summary.Summary.into_rows.Goals as goal
 

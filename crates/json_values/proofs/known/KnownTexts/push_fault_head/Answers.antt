@@ -1,7 +1,8 @@
 use Rattle.std.proofs.Common.{◌≡◌, ◌++◌, string_bytes, ap, ◌∙◌}
 use Rattle.std.proofs.lemmas.Result.{on_ok_weaker}
-use Rattle.report_model.specs.FaultKeys.{fault_head, numbers_key}
-use Rattle.report_model.specs.Report.{Form}
+use Rattle.report_model.specs.FaultKeys.{fault_head}
+use Rattle.report_model.specs.FaultNumbers.{numbers_key}
+use Rattle.report_model.specs.JsonParts.{Form}
 use Rattle.report_sections.proofs.Pieces.{four_pieces}
 use Rattle.json_values.proofs.known.KnownTexts.push_fault_head.Goals as goal
 

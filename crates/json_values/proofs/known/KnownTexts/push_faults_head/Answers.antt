@@ -1,6 +1,6 @@
 use Rattle.std.proofs.Common.{◌++◌, string_bytes, ap, ◌∙◌}
 use Rattle.std.specs.Prelude.{Bool}
-use Rattle.report_model.specs.FaultKeys.{all_numbers_key}
+use Rattle.report_model.specs.FaultNumbers.{all_numbers_key}
 use Rattle.json_values.proofs.HeadPieces.{faults_pieces}
 use Rattle.json_values.proofs.known.KnownTexts.push_faults_head.Goals as goal
 

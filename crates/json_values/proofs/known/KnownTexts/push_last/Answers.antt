@@ -1,6 +1,6 @@
 use Rattle.std.proofs.Common.{◌++◌, List, map, string_bytes, ap, ◌∙◌}
 use Rattle.crash_model.specs.Lists.{join_of}
-use Rattle.report_model.specs.Report.{write_json}
+use Rattle.report_model.specs.SectionJson.{write_json}
 use Rattle.patch_sets.specs.declared.write.BlockWrite.{BlockWrite}
 use Rattle.report_sections.specs.Sections.{section_of}
 use Rattle.json_values.proofs.SectionPieces.{last_pieces}

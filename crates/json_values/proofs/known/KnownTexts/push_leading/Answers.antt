@@ -1,6 +1,6 @@
 use Rattle.std.proofs.Common.{◌≡◌, ◌++◌, ℕ, string_bytes, ap, ◌∙◌}
 use Rattle.std.proofs.lemmas.Result.{on_ok_weaker}
-use Rattle.report_model.specs.Report.{ids_json}
+use Rattle.report_model.specs.JsonParts.{ids_json}
 use Rattle.report_sections.specs.Sections.{section_of}
 use Rattle.json_values.specs.Items.{leading_json, last_json}
 use Rattle.json_values.proofs.SectionPieces.{leading_pieces}

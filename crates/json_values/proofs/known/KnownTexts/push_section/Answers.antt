@@ -1,7 +1,8 @@
 use Rattle.std.proofs.Common.{◌≡◌, ◌++◌, ℕ, List, string_bytes, ap, ◌∙◌}
 use Rattle.std.proofs.lemmas.Result.{on_ok_weaker}
 use Rattle.report_model.specs.FaultKeys.{faults_head}
-use Rattle.report_model.specs.Report.{Form, ids_json, section_json}
+use Rattle.report_model.specs.JsonParts.{Form, ids_json}
+use Rattle.report_model.specs.SectionJson.{section_json}
 use Rattle.crash_model.specs.declared.fault.Fault.{Fault}
 use Rattle.report_sections.specs.Sections.{section_of}
 use Rattle.json_values.specs.Items.{last_json}

@@ -1,5 +1,6 @@
 use Rattle.std.proofs.Common.{◌≡◌, ◌++◌, List, ℕ, get_or, string_bytes, refl, ap, ◌∙◌}
-use Rattle.report_model.specs.Report.{Form, write_json}
+use Rattle.report_model.specs.JsonParts.{Form}
+use Rattle.report_model.specs.SectionJson.{write_json}
 use Rattle.patch_sets.specs.declared.write.BlockWrite.{BlockWrite}
 use Rattle.json_values.proofs.Commas.{taken_more}
 use Rattle.json_values.proofs.known.KnownTexts.push_writes.Goals as goal

@@ -1,6 +1,6 @@
 use Rattle.std.proofs.Common.{◌≡◌, ◌++◌, map, string_bytes, take}
 use Rattle.crash_model.specs.Lists.{join_of}
-use Rattle.report_model.specs.Report.{write_json}
+use Rattle.report_model.specs.SectionJson.{write_json}
 use Rattle.json_values.proofs.known.KnownTexts.push_writes.Given as goal
 
 abbrev pub invariant-loop-at : goal.invariant-loop-at

@@ -1,5 +1,5 @@
 use Rattle.std.proofs.Common.{◌≡◌, ◌++◌, map}
-use Rattle.crash_model.specs.Trace.{Tracing}
+use Rattle.crash_model.specs.Tracing.{Tracing}
 use Rattle.promise_steps.specs.Underway.{all_ended}
 use Rattle.kept_promises.specs.Watched.{IsPlaceOf, under_of}
 use Rattle.kept_promises.proofs.promising.Promising.into_promises.Given as goal

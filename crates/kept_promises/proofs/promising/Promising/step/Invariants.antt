@@ -1,6 +1,7 @@
 use Rattle.std.proofs.Common.{◌≡◌, ℕ, ◌++◌, length, map, Ok}
 use Rattle.std.specs.List.{All}
-use Rattle.crash_model.specs.Trace.{Tracing, step as step_of}
+use Rattle.crash_model.specs.Trace.{step as step_of}
+use Rattle.crash_model.specs.Tracing.{Tracing}
 use Rattle.crash_model.specs.declared.modules.Module.{Module}
 use Rattle.promise_steps.specs.Underway.{advanced}
 use Rattle.kept_promises.specs.Watched.{IsPlaceOf, IsAt, under_of}

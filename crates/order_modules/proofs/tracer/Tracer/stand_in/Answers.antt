@@ -2,7 +2,9 @@ use Rattle.std.proofs.Common.{◌≡◌, ◌≢◌, sym, ap, ◌∙◌}
 use Rattle.std.specs.Prelude.{Ok, Err}
 use Rattle.std.proofs.lemmas.Result.{IfErr-weaker}
 use Rattle.crash_model.specs.Paths.{is_same_path}
-use Rattle.crash_model.specs.Trace.{Tracing, step, target_found, when_found}
+use Rattle.crash_model.specs.Trace.{step}
+use Rattle.crash_model.specs.Tracing.{Tracing}
+use Rattle.crash_model.specs.WaitSteps.{target_found, when_found}
 use Rattle.crash_model.specs.declared.refusals.TraceFault.TheVariants.{OutOfMemory}
 use Rattle.crash_model.specs.declared.steps.Act.TheVariants.{Spare}
 use Rattle.crash_model.specs.declared.steps.Target.TheVariants.{At}

@@ -1,6 +1,6 @@
 use Rattle.std.proofs.Common.{List, bit_or, refl, sym, ap, subst, arith}
 use Rattle.std.specs.Prelude.{Ok}
-use Rattle.crash_model.specs.Trace.{with_wait}
+use Rattle.crash_model.specs.WaitSteps.{with_wait}
 use Rattle.crash_model.specs.Waiting as waiting
 use Rattle.traced_patches.specs.Labels.{group_by, waits_by}
 use Rattle.order_modules.specs.Tracer.{Trace, Moves, names_by, trace_of}

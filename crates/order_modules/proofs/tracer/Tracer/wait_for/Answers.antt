@@ -1,7 +1,9 @@
 use Rattle.std.proofs.Common.{◌≡◌, List, ap, ◌∙◌, subst}
 use Rattle.std.specs.Prelude.{Ok}
 use Rattle.crash_model.specs.Disk.{Disk}
-use Rattle.crash_model.specs.Trace.{Tracing, step, target_found, when_found, with_wait}
+use Rattle.crash_model.specs.Trace.{step}
+use Rattle.crash_model.specs.Tracing.{Tracing}
+use Rattle.crash_model.specs.WaitSteps.{target_found, when_found, with_wait}
 use Rattle.crash_model.specs.Waiting.{ranges_of, fsync_forces, ids_from}
 use Rattle.crash_model.specs.declared.ranges.Range.{Range}
 use Rattle.order_modules.specs.Tracer.{Trace}

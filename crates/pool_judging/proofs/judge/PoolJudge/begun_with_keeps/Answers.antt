@@ -1,5 +1,5 @@
 use Rattle.std.proofs.Common.{ap}
-use Rattle.crash_model.specs.Trace.{Tracing}
+use Rattle.crash_model.specs.Tracing.{Tracing}
 use Rattle.pool_judging.specs.Judging.{search_by}
 use Rattle.pool_judging.proofs.Beginnings.{trace_none, promised_none, keep_accepted, keep_taken, keeps_more, begun_none}
 use Rattle.pool_judging.proofs.judge.PoolJudge.begun_with_keeps.Goals as goal

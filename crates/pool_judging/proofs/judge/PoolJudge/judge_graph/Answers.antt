@@ -1,6 +1,6 @@
 use Rattle.std.proofs.Common.{rules, List, subst, sym}
 use Rattle.std.specs.Prelude.{IsTrue}
-use Rattle.crash_model.specs.FaultRows.{HasFault}
+use Rattle.crash_model.specs.FirstSets.{HasFault}
 use Rattle.question_model.specs.Decided.{AreDecided}
 use Rattle.question_model.specs.declared.decided_fault.DecidedFault.{DecidedFault}
 use Rattle.pool_judging.proofs.judge.PoolJudge.judge_graph.Goals as goal

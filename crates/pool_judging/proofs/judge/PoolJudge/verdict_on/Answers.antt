@@ -1,5 +1,5 @@
 use Rattle.std.proofs.Common.{◌++◌, ◌∷◌, [], refl, arith, ◌∙◌}
-use Rattle.crash_model.specs.Trace.{trace_start}
+use Rattle.crash_model.specs.Tracing.{trace_start}
 use Rattle.question_model.specs.Workloads.{IsOfPool, workload_at}
 use Rattle.pool_judging.specs.Judging.{search_by}
 use Rattle.pool_judging.proofs.Beginnings.{trace_at_one, trace_at_longer, demands_at_longer}

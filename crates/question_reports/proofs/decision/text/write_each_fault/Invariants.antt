@@ -1,6 +1,6 @@
 use Rattle.std.proofs.Common.{◌≡◌, length, take, string_bytes}
 use Rattle.std.specs.List.{flat_map}
-use Rattle.question_model.specs.Decision.{decided_text}
+use Rattle.question_model.specs.ToldDecided.{decided_text}
 use Rattle.question_reports.specs.DecisionParts.{WritesFaults}
 use Rattle.question_reports.proofs.decision.text.write_each_fault.Given as goal
 

@@ -1,6 +1,6 @@
 use Rattle.std.proofs.Common.{◌≡◌, ◌++◌, string_bytes}
 use Rattle.std.proofs.lemmas.Result.{on_ok_weaker}
-use Rattle.question_model.specs.Decision.{decided_text}
+use Rattle.question_model.specs.ToldDecided.{decided_text}
 use Rattle.report_sections.specs.Sections.{section_of, IsSection}
 use Rattle.report_sections.specs.declared.section.Section.{Section}
 use Rattle.question_reports.proofs.decision.text.write_fault.Goals as goal

@@ -1,6 +1,6 @@
 use Rattle.std.proofs.Common.{◌≡◌, ◌++◌, codes, string_bytes, take}
 use Rattle.std.specs.List.{flat_map}
-use Rattle.crash_model.specs.Rules.{rule_text}
+use Rattle.crash_model.specs.RuleTexts.{rule_text}
 use Rattle.question_reports.proofs.enough.choices.write_rules.Given as goal
 
 abbrev pub invariant-loop-rule : goal.invariant-loop-rule

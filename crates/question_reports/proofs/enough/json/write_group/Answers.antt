@@ -1,6 +1,7 @@
 use Rattle.std.proofs.Common.{◌++◌, List, ℕ, map, string_bytes, ap, ◌∙◌}
 use Rattle.crash_model.specs.Lists.{join_of}
-use Rattle.report_model.specs.Report.{Form, ids_json, write_json}
+use Rattle.report_model.specs.JsonParts.{Form, ids_json}
+use Rattle.report_model.specs.SectionJson.{write_json}
 use Rattle.patch_sets.specs.declared.write.BlockWrite.{BlockWrite}
 use Rattle.question_reports.specs.Chosen.{choices_of}
 use Rattle.question_reports.specs.EnoughFindings.{told_group}

@@ -1,5 +1,5 @@
 use Rattle.std.proofs.Common.{◌≡◌, List, ℕ, ◌++◌, string_bytes, ap, ◌∙◌}
-use Rattle.report_model.specs.Report.{Form}
+use Rattle.report_model.specs.JsonParts.{Form}
 use Rattle.question_model.specs.EnoughReport.{group_json}
 use Rattle.json_values.proofs.Commas.{taken_more}
 use Rattle.question_reports.specs.Chosen.{choices_of}

@@ -1,7 +1,7 @@
 use Rattle.std.proofs.Common.{◌≡◌, ◌++◌, map, string_bytes, take}
-use Rattle.crash_model.specs.Texts.{act_text}
+use Rattle.crash_model.specs.PatchTexts.{act_text}
 use Rattle.crash_model.specs.Lists.{join_of}
-use Rattle.report_model.specs.Report.{json_string}
+use Rattle.report_model.specs.JsonParts.{json_string}
 use Rattle.question_reports.proofs.search.json.write_acts.Given as goal
 
 abbrev pub invariant-loop-at : goal.invariant-loop-at

@@ -1,6 +1,7 @@
 use Rattle.std.proofs.Common.{◌++◌, List, ℕ, map, string_bytes, ap, ◌∙◌}
 use Rattle.crash_model.specs.Lists.{join_of}
-use Rattle.report_model.specs.Report.{Form, json_string, write_json}
+use Rattle.report_model.specs.JsonParts.{Form, json_string}
+use Rattle.report_model.specs.SectionJson.{write_json}
 use Rattle.patch_sets.specs.declared.write.BlockWrite.{BlockWrite}
 use Rattle.question_model.specs.SearchReport.{step_text}
 use Rattle.question_model.specs.Workloads.{steps_at}

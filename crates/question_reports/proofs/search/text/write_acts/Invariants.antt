@@ -1,6 +1,6 @@
 use Rattle.std.proofs.Common.{◌≡◌, ◌++◌, codes, string_bytes, take}
 use Rattle.std.specs.List.{flat_map}
-use Rattle.crash_model.specs.Texts.{act_text}
+use Rattle.crash_model.specs.PatchTexts.{act_text}
 use Rattle.report_model.specs.Report.{line}
 use Rattle.question_reports.proofs.search.text.write_acts.Given as goal
 

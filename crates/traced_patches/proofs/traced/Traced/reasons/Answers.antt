@@ -1,7 +1,8 @@
 use Rattle.std.proofs.Common.{◌≡◌, ℕ, List, Some, sym, ap, ◌∙◌, subst}
 use Rattle.std.specs.Prelude.{slice_get}
 use Rattle.crash_model.specs.Patches.{place, overlap}
-use Rattle.crash_model.specs.Trace.{Emitted, groups_depend, waits_for, rules_between}
+use Rattle.crash_model.specs.Trace.{Emitted, groups_depend, waits_for}
+use Rattle.crash_model.specs.Reasons.{rules_between}
 use Rattle.crash_model.specs.declared.patches.Patch.{Patch}
 use Rattle.crash_model.specs.declared.rules.Rule.{Rule}
 use Rattle.traced_patches.specs.Labels.{emitted_at, emitted_of, links_by}

@@ -1,0 +1,47 @@
+-- A whole report as JSON: one compact object, its keys in ascending order, and a line feed.
+use Rattle.std.specs.Prelude.{ℕ, List, [], ◌++◌, map, if◌then◌else◌, codes, decimal}
+use Rattle.crash_model.specs.Texts.{module_text}
+use Rattle.crash_model.specs.declared.settings.Settings.{Settings}
+use Rattle.report_model.specs.JsonParts.{Form, json_string, json_array}
+use Rattle.report_model.specs.SectionJson.{section_json}
+use Rattle.report_model.specs.OptionKeys.{counted_json, durable_json, promises_json, trace_json, told_waits_json}
+use Rattle.report_model.specs.OptionKeys.{rules_json, before_module, first_json}
+use Rattle.report_model.specs.Summary.{told_fault_json}
+use Rattle.report_model.specs.Needs.{told_rule_json}
+use Rattle.report_model.specs.OptionTexts.{told_without, told_with}
+use Rattle.report_model.specs.Whole.{Body, Sets, Faults, Rules, Report}
+
+-- how the objects of a report on so many patches are written
+abbrev pub form_of : Settings → ℕ → Form
+form_of settings patches = record { patches = patches; numbers = settings.numbers }
+
+-- the body's keys before `module`
+abbrev pub early_json : Form → ℕ → Body → List ℕ
+early_json form failing (Sets sections) = codes ",\"failing\":" ++ json_array (map (section_json form) sections)
+early_json form failing (Faults told) = codes ",\"faults\":" ++ json_array (map (told_fault_json form) told)
+early_json form failing (Rules told) = codes ",\"failing\":" ++ decimal failing
+
+-- and those after `patches`
+abbrev pub late_json : Form → ℕ → Body → List ℕ
+late_json form failing (Sets sections) = []
+late_json form failing (Faults told) = codes ",\"sets\":" ++ decimal failing
+late_json form failing (Rules told) = codes ",\"rules\":" ++ json_array (map (told_rule_json form) told)
+
+unfoldable pub json_report : Settings → Report → List ℕ
+json_report settings r =
+    codes "{" ++ first_json settings r.explanation
+    ++ codes "\"closed\":" ++ decimal r.closed
+    ++ counted_json settings.counted
+    ++ durable_json settings.durable
+    ++ early_json (form_of settings r.patches) r.failing r.body
+    ++ before_module settings ++ json_string (module_text settings.module)
+    ++ codes ",\"patches\":" ++ decimal r.patches
+    ++ promises_json r.patches r.promises
+    ++ late_json (form_of settings r.patches) r.failing r.body
+    ++ (if settings.strict then codes ",\"strict\":true" else [])
+    ++ trace_json r.explanation
+    ++ told_waits_json r.patches r.explanation r.promises
+    ++ (if settings.whole_blocks then codes ",\"whole_blocks\":true" else [])
+    ++ rules_json (codes "with") (told_with settings)
+    ++ rules_json (codes "without") (told_without settings)
+    ++ codes "}\n"

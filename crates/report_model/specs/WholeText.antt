@@ -1,0 +1,40 @@
+-- A whole report as text, and the bytes of a report: its text, or its JSON if that is asked for.
+use Rattle.std.specs.Prelude.{ℕ, List, [], ◌++◌, flat_map, if◌then◌else◌, codes, decimal}
+use Rattle.crash_model.specs.Texts.{module_text}
+use Rattle.crash_model.specs.declared.settings.Settings.{Settings}
+use Rattle.report_model.specs.Report.{line, section_text}
+use Rattle.report_model.specs.OptionTexts.{counted_text, promises_text, explanation_text, told_without, told_with}
+use Rattle.report_model.specs.OptionTexts.{rule_lines, blocks_text}
+use Rattle.report_model.specs.Summary.{told_fault_text}
+use Rattle.report_model.specs.Needs.{told_rule_text}
+use Rattle.report_model.specs.WholeJson.{json_report}
+use Rattle.report_model.specs.Whole.{Body, Sets, Faults, Rules, Report}
+
+-- the lines before the first patch or set
+abbrev pub head_text : Settings → ℕ → ℕ → ℕ → List ℕ
+head_text settings patches closed failing =
+    line (codes "module " ++ module_text settings.module)
+    ++ rule_lines (codes "without") (told_without settings)
+    ++ rule_lines (codes "with") (told_with settings)
+    ++ blocks_text settings.generations settings.whole_blocks
+    ++ (if settings.strict then line (codes "strict") else [])
+    ++ (if settings.atomic then line (codes "atomic") else [])
+    ++ (if settings.durable then line (codes "durable") else [])
+    ++ counted_text settings.counted
+    ++ line (codes "patches " ++ decimal patches)
+    ++ line (codes "closed " ++ decimal closed)
+    ++ line (codes "failing " ++ decimal failing)
+
+abbrev pub body_text : ℕ → Body → List ℕ
+body_text n (Sets sections) = flat_map (section_text n) sections
+body_text n (Faults told) = flat_map (told_fault_text n) told
+body_text n (Rules told) = flat_map (told_rule_text n) told
+
+unfoldable pub text_report : Settings → Report → List ℕ
+text_report settings r =
+    head_text settings r.patches r.closed r.failing ++ explanation_text r.patches r.explanation
+    ++ promises_text r.patches r.promises ++ body_text r.patches r.body
+
+-- the report's bytes
+abbrev pub report : Settings → Report → List ℕ
+report settings r = if settings.json then json_report settings r else text_report settings r
