@@ -1,4 +1,4 @@
-"""DEFINITIONS.md counts the lines that one must read; this compares its numbers with the sources."""
+"""DEFINITIONS.md lists the files that one must read and counts their lines; this compares it with the sources."""
 
 import pathlib
 import re
@@ -6,10 +6,13 @@ import sys
 import unittest
 
 sys.path.insert(0, str(pathlib.Path(__file__).resolve().parent))
-from definitions import ROWS, File, files, plain_run, row
+from definitions import ADDS, ASKED_FOR, CRATES, INSIDE, ROWS, files, imports_of, lines_of, page, plain_run, text_of
 from program import ROOT
 
-MOST_OF_A_PLAIN_RUN = 836
+MOST_OF_A_PLAIN_RUN = 1_165
+
+MODELS = ("state_space", "patch_sets", "crash_model", "report_model", "question_model")
+GHOST = re.compile(r"\s*ghost use Rattle\.(\w+)\.specs\.(\w+)\.\{")
 
 
 class Definitions(unittest.TestCase):
@@ -24,30 +27,71 @@ class Definitions(unittest.TestCase):
         return int(found.group(1).replace(",", ""))
 
     def test_files_and_lines(self):
-        every = [File(name) for name in files()]
-        self.assertEqual(self.number(r"built from (\d+) files"), len(every))
-        self.assertEqual(self.number(r"files have ([\d,]+) lines"), sum(len(one.text) for one in every))
-        self.assertEqual(self.number(r"Of these ([\d,]+) are neither"), sum(len(one.code) for one in every))
+        self.assertEqual(self.number(r"built from (\d+) files"), len(files()))
+        self.assertEqual(self.number(r"files have ([\d,]+) lines"), sum(len(text_of(name)) for name in files()))
+        self.assertEqual(self.number(r"Of these ([\d,]+) are neither"), lines_of(files()))
 
     def test_a_plain_run(self):
-        self.assertEqual(self.number(r"It needs (\d+) lines of code"), len(plain_run()))
-        self.assertLessEqual(len(plain_run()), MOST_OF_A_PLAIN_RUN)
+        self.assertEqual(self.number(r"you read (\d+) files whole"), len(plain_run()))
+        self.assertEqual(self.number(r"They have ([\d,]+) lines of code"), lines_of(plain_run()))
+        self.assertLessEqual(lines_of(plain_run()), MOST_OF_A_PLAIN_RUN)
 
-    def test_each_question(self):
-        for question in ROWS:
-            with self.subTest(question):
-                first, *rest = question.split(" --") if question.startswith("--") else [question]
-                name = f"`{first}`" if first.startswith("--") else first
-                name += "".join(f" with `--{word}`" for word in rest)
-                wanted = len(row(question))
-                self.assertEqual(self.number(rf"\n\| {re.escape(name)}[^|]*\|[^|]*\| (\d+)"), wanted)
+    def test_lists_and_table(self):
+        for part in page().split("\n\n"):
+            for line in part.split("\n"):
+                with self.subTest(line[:60]):
+                    self.assertIn(f"\n{line}\n", self.page)
 
-    def test_each_file_is_named(self):
-        for name in files():
-            crate, stem = name.split("/")
+    def test_each_file_stands_once(self):
+        self.assertEqual(len(plain_run()), len(set(plain_run())))
+        for name, row in ROWS.items():
             with self.subTest(name):
-                self.assertRegex(self.page, rf"`{crate}/specs/({stem}\.antt)?`|`{crate}/specs/{stem}`")
-                self.assertIn(f"`{stem}", self.page.replace(f"{crate}/specs/{stem}`", f"`{stem}`"))
+                self.assertFalse(set(row) & set(plain_run()))
+        for name, names in INSIDE.items():
+            with self.subTest(name):
+                self.assertLessEqual(set(names), set(plain_run()))
+        self.assertLessEqual(set(ADDS), set(ROWS))
+
+
+class Citations(unittest.TestCase):
+    """What the files of a plain run cite."""
+
+    def passed_on(self, name, item):
+        """The file that has a definition, where the file that is named passes it on."""
+        crate, _, stem = name.partition("/")
+        for line in (CRATES / crate / "specs" / f"{stem}.antt").read_text().splitlines():
+            found = re.match(r"pub use Rattle\.(\w+)\.specs\.(\w+)\.\{(.*)\}", line)
+            if found and item in found.group(3).split(", "):
+                return f"{found.group(1)}/{found.group(2)}"
+        return name
+
+    def cited(self, name):
+        return [(self.passed_on(other, item), item) for other, item in imports_of(name)
+                if other.split("/")[0] in MODELS]
+
+    def test_only_what_an_option_asks_for_stands_elsewhere(self):
+        plain = plain_run()
+        found = {name: {item for other, item in self.cited(name) if other not in plain} for name in plain}
+        self.assertEqual({name: items for name, items in found.items() if items},
+                         {name: set(items.split()) for name, items in ASKED_FOR.items()})
+
+    def test_each_file_uses_those_before_it(self):
+        plain = plain_run()
+        late = [(name, item) for k, name in enumerate(plain) for other, item in self.cited(name)
+                if other in plain[k:]]
+        self.assertEqual(late, [])
+
+    def test_each_file_that_is_used_is_named(self):
+        unknown = [(name, item) for name in files() for other, item in self.cited(name) if other not in files()]
+        self.assertEqual(unknown, [])
+
+    def test_devices(self):
+        """The contracts of `serve` and `answer_call` cite no definition of this repository that is not named."""
+        for stem in ("serve", "answer"):
+            for line in (CRATES / f"crash_text/src/{stem}.rt").read_text().splitlines():
+                found = GHOST.match(line)
+                if found and (CRATES / found.group(1)).is_dir():
+                    self.assertIn(f"{found.group(1)}/{found.group(2)}", files())
 
 
 if __name__ == "__main__":
