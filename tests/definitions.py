@@ -52,14 +52,14 @@ ROWS = {
                     "report_model/Summary"],
     "`--needs`": ["crash_model/RuleUse", "crash_model/OtherRules", "report_model/Needs"],
     "`--decide`": ["crash_model/FaultOrder", "crash_model/FirstSets", "question_model/Decided",
-                   "question_model/OrderingText", "question_model/ToldDecided", "question_model/Decision"],
+                   "question_model/OrderingText", "question_model/ListedFault", "question_model/Decision"],
     "`--enough`": ["crash_model/FaultOrder", "crash_model/FirstSets", "crash_model/OtherRules",
-                   "question_model/OrderingText", "question_model/ToldDecided", "question_model/Enough",
+                   "question_model/OrderingText", "question_model/ListedFault", "question_model/Enough",
                    "question_model/EnoughReport"],
     "`--enough` with `--syncs`": ["patch_sets/Ends", "crash_model/ChosenWaits", "question_model/EnoughLines",
                                   "question_model/LinesReport"],
     "`--search`": ["crash_model/FirstSets"] + ["question_model/" + name for name in
-                   ("OrderingText", "Kinds", "Lengths", "Refused", "Sequences", "Workloads", "Found", "SearchReport",
+                   ("OrderingText", "Kinds", "Lengths", "Refused", "Sequences", "Workloads", "SearchCounts", "SearchReport",
                     "PoolAnswer")],
     "`--search` with `--enough`": ["question_model/" + name for name in
                                    ("MinimalRules", "EnoughFor", "SearchRulesReport")],
@@ -82,10 +82,10 @@ ASKED_FOR = {
     "crash_model/ScriptRefusals": "IsTargetWord",
     "report_model/FaultLines": "shows_text",
     "report_model/Report": "broken_shown ReplayedBlock changed_blocks replayed_text",
-    "report_model/OptionTexts": "Promise Explanation wait_text promise_text counted_numbers told_text",
-    "report_model/Whole": "Explanation explanation Promise ToldFault ToldRule",
-    "report_model/WholeText": "told_fault_text told_rule_text json_report",
-    "report_model/Answer": "explanation AreToldFaults AreToldRules",
+    "report_model/OptionTexts": "Promise Explanation wait_text promise_text counted_numbers explained_text",
+    "report_model/Whole": "Explanation explanation Promise CountedFault ListedRule",
+    "report_model/WholeText": "counted_fault_text listed_rule_text json_report",
+    "report_model/Answer": "explanation AreCountedFaults AreListedRules",
     "question_model/Answers": "IsDecision IsEnoughReport IsLinesReport IsLinesRefusal IsSearchReport IsSearchRefusal "
                               "IsSearchRulesReport IsReportedOfPool operations_of",
 }

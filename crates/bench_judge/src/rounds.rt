@@ -32,7 +32,7 @@ pub fn judge_rounds(
     let start = Instant::now(rt)?;
     let failing = count_in_rounds(base, graph, sets)?;
     let took = start.elapsed(rt)?.as_micros();
-    tell(rt, sets.len(), failing, took)
+    report(rt, sets.len(), failing, took)
 }
 
 /// How many of the sets are not good, by one scratch, which judges them again in each round.
@@ -56,7 +56,7 @@ fn count_in_rounds(
 }
 
 /// Prints how many sets there are and how many of them fail, and how many were judged a second.
-fn tell(rt: &HostRuntime, sets: usize, failing: usize, micros: u128) -> Result<(), Fail> {
+fn report(rt: &HostRuntime, sets: usize, failing: usize, micros: u128) -> Result<(), Fail> {
     let judged = sets as u128 * u128::from(ROUNDS);
     println!(rt; "{sets} sets, {failing} failing")?;
     eprintln!(rt; "{} judged a second", judged * 1_000_000 / micros.max(1))?;

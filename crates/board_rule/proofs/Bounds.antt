@@ -15,7 +15,7 @@ use Rattle.state_space.specs.Counts.{IsSome, Outnumbers}
 use Rattle.board_rule.specs.Layout.{writer}
 use Rattle.board_rule.specs.Lists.{row_of, total}
 use Rattle.board_rule.specs.Lives.{is_unsettled, is_settled}
-use Rattle.board_rule.specs.Views.{Told}
+use Rattle.board_rule.specs.Views.{Fixed}
 use Rattle.board_rule.specs.Rule.{weight, LocksOk, RowsOk}
 use Rattle.board_rule.specs.declared.view.View.{View}
 use Rattle.board_rule.proofs.Sums.{snoc_cases}
@@ -157,7 +157,7 @@ some_words P xs apart each = record {
 }
 
 -- the entries of all shards
-pub flat_entries : (t : Told) (rows : List (List ℕ)) (words : List ℕ) → RowsOk t rows words
+pub flat_entries : (t : Fixed) (rows : List (List ℕ)) (words : List ℕ) → RowsOk t rows words
     → IsSome (IsReached t.next t.origin) (concat rows)
 flat_entries t rows words o = some_words (IsReached t.next t.origin) (concat rows)
     (flat_apart 0 rows (λ q b j k. o.apart q j k (omega (arith, b, o.all)))
@@ -172,12 +172,12 @@ flat_has (r ∷ rows) zero j x h b e = Contains-append_left r (concat rows) x
 flat_has (r ∷ rows) (suc q) j x h b e = Contains-append_right r (concat rows) x
     (flat_has rows q j x (omega (arith, h)) b e)
 
-pub more_entries : (t : Told) (rows : List (List ℕ)) (words : List ℕ) → RowsOk t rows words
+pub more_entries : (t : Fixed) (rows : List (List ℕ)) (words : List ℕ) → RowsOk t rows words
     → t.limit < total length rows → Outnumbers (IsReached t.next t.origin) t.limit
 more_entries t rows words o h = (concat rows, flat_entries t rows words o, omega (arith, h, flat_length rows))
 
 -- a full row and a reached word that it lacks
-pub full_row : (t : Told) (rows : List (List ℕ)) (words : List ℕ) (q x : ℕ) → RowsOk t rows words → q < 13
+pub full_row : (t : Fixed) (rows : List (List ℕ)) (words : List ℕ) (q x : ℕ) → RowsOk t rows words → q < 13
     → t.places ≤ length (row_of rows q) → IsReached t.next t.origin x → x % 13 ≡ q
     → ((k : ℕ) → k < length (row_of rows q) → get_or (row_of rows q) k 0 ≢ x)
     → Outnumbers (λ word. IsReached t.next t.origin word × (word % 13 ≡ q)) t.places

@@ -11,7 +11,7 @@ use Rattle.state_space.specs.Reach.{IsReached}
 use Rattle.board_rule.specs.Layout.{writer, place_of}
 use Rattle.board_rule.specs.Lists.{row_of, total}
 use Rattle.board_rule.specs.Lives.{is_unsettled}
-use Rattle.board_rule.specs.Views.{Told, OnLives, OnPending, OnCount}
+use Rattle.board_rule.specs.Views.{Fixed, OnLives, OnPending, OnCount}
 use Rattle.board_rule.specs.Rule.{claims_on, open_lives, PendingOk, CountOk, IsBare, IsKept, Overfills}
 use Rattle.board_rule.specs.Changes.{with_given_up}
 use Rattle.board_rule.specs.Plays.{Announces, Repays, Ends, CountsEntry, Stops, Overflows}
@@ -24,7 +24,7 @@ use Rattle.board_rule.proofs.Turns.{unmoved, rest_turn}
 use Rattle.board_rule.proofs.RowSteps.{reached_successor}
 use Rattle.board_rule.proofs.LifeSteps.{claimed_life}
 
-module _ (t : Told) (good : ℕ → Type 0) (S : Type 0) where
+module _ (t : Fixed) (good : ℕ → Type 0) (S : Type 0) where
   abbrev Rule : State S View → Type 0
   Rule = IsKept t good
 
@@ -149,7 +149,7 @@ module _ (t : Told) (good : ℕ → Type 0) (S : Type 0) where
   -- a published entry is counted: past the places the seat knows that more words are reached
   pub counts_it : (n id : ℕ) (m : Me S View) → t.places ≤ 32768 → m.0.limit ≡ t.limit → m.0.count.uncounted ≡ 1
       → Allows Rule n id m 1 (λ y. (y + 1) % 2 ^ 64) (CountsEntry (step n 1 1 0 none) m)
-  counts_it n id m small told mine s o wide me _ = let x = get_or s.words 1 0 in let y = (x + 1) % 2 ^ 64 in
+  counts_it n id m small informed mine s o wide me _ = let x = get_or s.words 1 0 in let y = (x + 1) % 2 ^ 64 in
       let rows-few : total length o.rows ≤ 13 * t.places = subst (λ (n : ℕ). total length o.rows ≤ n * t.places)
       o.row.all (total_bound o.rows t.places (λ q b. o.row.short q (omega (arith, b, o.row.all)))) in
       let more : x + 1 ≤ total length o.rows = omega (
@@ -179,14 +179,14 @@ module _ (t : Told) (good : ℕ → Type 0) (S : Type 0) where
         tt,
         made (record m.0.count { uncounted = 0; over = 1 }) refl
             (λ _. inl (more_entries t o.rows s.words o.row (omega (arith, past, more)))),
-        (refl, (λ h. absurd (omega (arith, h, past, told))), λ _. refl),
+        (refl, (λ h. absurd (omega (arith, h, past, informed))), λ _. refl),
       ))
       (λ within. (
         record m.0 { count = record m.0.count { uncounted = 0 } },
         keeps,
         tt,
         made (record m.0.count { uncounted = 0 }) refl (o.counts.over id m.0 me),
-        (refl, (λ _. refl), λ h. absurd (within (omega (arith, h, told)))),
+        (refl, (λ _. refl), λ h. absurd (within (omega (arith, h, informed)))),
       ))
 
   -- a store of the stop: the claim of the seat that stores it ends

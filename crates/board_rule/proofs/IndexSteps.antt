@@ -10,7 +10,7 @@ use lib.Seq.{set-get_or}
 use Rattle.atomic_table.specs.Table.{State, Me, step, keeps, Allows}
 use Rattle.board_rule.specs.Layout.{writer, lock_word, length_word, low_word, high_word, index_word, slot}
 use Rattle.board_rule.specs.Lists.{row_of, StartsWith}
-use Rattle.board_rule.specs.Views.{Told}
+use Rattle.board_rule.specs.Views.{Fixed}
 use Rattle.board_rule.specs.Rule.{IndexOk, IsComplete, IsKept}
 use Rattle.board_rule.specs.Changes.{with_seen}
 use Rattle.board_rule.specs.Plays.{Scans, ReadsMark, ScansIndex, Files}
@@ -22,7 +22,7 @@ use Rattle.board_rule.proofs.Rows.{Halves, rows_stay, seat_other, seat_stay}
 use Rattle.board_rule.proofs.Index.{slot_lt, stands_same, index_stay, index_mark}
 use Rattle.board_rule.proofs.Turns.{unmoved, rows_turn}
 
-module _ (t : Told) (good : ℕ → Type 0) (S : Type 0) where
+module _ (t : Fixed) (good : ℕ → Type 0) (S : Type 0) where
   abbrev Rule : State S View → Type 0
   Rule = IsKept t good
 
@@ -53,7 +53,7 @@ module _ (t : Told) (good : ℕ → Type 0) (S : Type 0) where
   -- a load under the right of its shard
   pub reads_mark : (n id : ℕ) (m : Me S View) (i : ℕ) → m.0.places ≡ t.places → 0 < m.0.rows.right
       → Allows Rule n id m i (λ y. y) (ReadsMark (step n i 0 0 none) m)
-  reads_mark n id m i told right s o wide me _ = let k = o.seats id m.0 me in let q = m.0.rows.held in (
+  reads_mark n id m i informed right s o wide me _ = let k = o.seats id m.0 me in let q = m.0.rows.held in (
     m.0,
     keeps,
     tt,
@@ -61,8 +61,9 @@ module _ (t : Told) (good : ℕ → Type 0) (S : Type 0) where
     (
       refl,
       (λ j at low. let here : get_or s.words i 0 ≡ get_or s.words (index_word t.places q j) 0 =
-          ap (λ (x : ℕ). get_or s.words x 0) (at ∙ ap (λ (l : ℕ). index_word l q j) told) in let inside : j < t.places =
-          omega (arith, low, told) in (
+          ap (λ (x : ℕ). get_or s.words x 0)
+          (at ∙ ap (λ (l : ℕ). index_word l q j) informed) in let inside : j < t.places =
+          omega (arith, low, informed) in (
             here ∙ k.marks right j inside,
             omega (
               arith,
@@ -71,7 +72,7 @@ module _ (t : Told) (good : ℕ → Type 0) (S : Type 0) where
               ap length (k.whole right),
             ),
           )),
-      λ none-unfiled. subst (λ (l : ℕ). IsComplete l (row_of m.0.rows.seen q) m.0.rows.marks) (sym told)
+      λ none-unfiled. subst (λ (l : ℕ). IsComplete l (row_of m.0.rows.seen q) m.0.rows.marks) (sym informed)
           (covers s o id m.0 me right none-unfiled),
     ),
   )
@@ -80,7 +81,8 @@ module _ (t : Told) (good : ℕ → Type 0) (S : Type 0) where
   pub scans : (n id : ℕ) (m : Me S View) (i q j : ℕ) → i ≡ index_word t.places q j → q < 13 → j < t.places
       → m.0.places ≡ t.places
       → Allows Rule n id m i (λ y. y) (ScansIndex (step n i 0 0 none) m)
-  scans n id m i q j at near low told s o wide me _ = rw at (let k = o.seats id m.0 me in let row = row_of o.rows q in
+  scans n id m i q j at near low informed s o wide me _ =
+      rw at (let k = o.seats id m.0 me in let row = row_of o.rows q in
       let seen = row_of m.0.rows.seen q in let a = index_word t.places q j in let x = get_or s.words a 0 in
       let words' = set s.words a x in
       let named : x ≤ length row = o.index.named q j near low in let before = starts-length row seen (k.saw q near) in
@@ -129,13 +131,13 @@ module _ (t : Told) (good : ℕ → Type 0) (S : Type 0) where
             (λ p c h b. still (index_word t.places p c)) (λ p c h b held writes owes. inr (held, writes, owes))),
         (
           refl,
-          λ q2 j2 at2 near2 low2. let same : q ≡ q2 = omega (arith, at2, told, near, near2) in
+          λ q2 j2 at2 near2 low2. let same : q ≡ q2 = omega (arith, at2, informed, near, near2) in
               subst (λ (y : ℕ). Scans m.0 y x w) same record {
                 row = more;
                 is = refl;
                 more = take_starts row seen (max (length seen) x) (k.saw q near) (omega arith);
                 long = take_length row (max (length seen) x) (omega (arith, named, before));
-                within = omega (arith, named, o.row.short q near, told);
+                within = omega (arith, named, o.row.short q near, informed);
               },
         ),
       ))

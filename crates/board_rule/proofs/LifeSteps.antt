@@ -12,7 +12,7 @@ use Rattle.atomic_table.proofs.Lists.{exchanged}
 use Rattle.board_rule.specs.Layout.{life_word, place_of}
 use Rattle.board_rule.specs.Lists.{row_of, Has}
 use Rattle.board_rule.specs.Lives.{life_of, is_claimed, is_unsettled, is_settled, verdict_of, Passes}
-use Rattle.board_rule.specs.Views.{Told, OnLives}
+use Rattle.board_rule.specs.Views.{Fixed, OnLives}
 use Rattle.board_rule.specs.Rule.{times_among, claims_at, claims_on, IsBare, IsKept}
 use Rattle.board_rule.specs.Changes.{with_learned, with_claim}
 use Rattle.board_rule.specs.Plays as Plays
@@ -31,7 +31,7 @@ broken_else n a b c = ap {B = Life} (λ x. cond x Waiting (cond (eqb n 1) Claime
     (ne_eqb n 0 a) ∙ ap {B = Life} (λ x. cond x Claimed (cond (eqb n 2) Clean Broken)) (ne_eqb n 1 b)
     ∙ ap {B = Life} (λ x. cond x Clean Broken) (ne_eqb n 2 c)
 
-module _ (t : Told) (good : ℕ → Type 0) (S : Type 0) where
+module _ (t : Fixed) (good : ℕ → Type 0) (S : Type 0) where
   abbrev Rule : State S View → Type 0
   Rule = IsKept t good
 
@@ -59,7 +59,7 @@ module _ (t : Told) (good : ℕ → Type 0) (S : Type 0) where
         pending = record m.0.pending { owed = owed; verdicts = verdicts };
       }) keeps)
   life_turn s o id q k n new_life l owed verdicts m near inside me gain less kept top is-clean is-broken shut on more
-      met sum few told down bare =
+      met sum few informed down bare =
       let p = record m.0.pending { owed = owed; verdicts = verdicts } in
       let w : View = record m.0 { lives = l; pending = p } in let i = life_word t.places q k in
       let words' = set s.words i n in
@@ -77,7 +77,7 @@ module _ (t : Told) (good : ℕ → Type 0) (S : Type 0) where
       (omega (arith, o.sized, short, near)) o.life me (omega (arith, gain, gone (place_of q k)))
       (λ p ne. omega (arith, less p ne, gone p)) top is-clean is-broken shut on more met)
       (pending_turn o.lives (set o.lives q (set (row_of o.lives q) k n)) s.words words' s.views id m.0 w o.pending me
-      (omega (arith, zeroth, u, sum)) (omega (arith, v, few)) (omega (arith, v, told))
+      (omega (arith, zeroth, u, sum)) (omega (arith, v, few)) (omega (arith, v, informed))
       (o.pending.by_writers id m.0 me)
       (λ none-open none-announced. (omega (arith, u, down, none-open), omega arith))
       (λ f. let d = o.pending.done id m.0 me f in (omega (arith, u, down, d.0), omega (arith, a, d.1))))
@@ -98,7 +98,7 @@ module _ (t : Told) (good : ℕ → Type 0) (S : Type 0) where
   pub claims_it : (n id : ℕ) (m : Me S View) (i q k : ℕ) → i ≡ life_word t.places q k → q < 13
       → k < length (row_of m.0.rows.seen q) → m.0.places ≡ t.places → m.0.lives.claims ≡ 0
       → Allows Rule n id m i (λ y. either (eqb y 0) 1 y) (Claims (step n i 0 1 none) m)
-  claims_it n id m i q k at near seen told none-yet s o wide me _ =
+  claims_it n id m i q k at near seen informed none-yet s o wide me _ =
       rw at (let j = life_word t.places q k in let ok = o.seats id m.0 me in let place = place_of q k in
       let x = get_or s.words j 0 in
       let inside : k < length (row_of o.rows q) = omega (
@@ -110,7 +110,7 @@ module _ (t : Told) (good : ℕ → Type 0) (S : Type 0) where
       let w = with_claim m.0 place Claimed in let missed = with_learned m.0 place Claimed in
       let is : x ≡ get_or (row_of o.lives q) k 0 = o.life.shown q k near in_lives in
       let here : (v : View) → (p b : ℕ) → j ≡ life_word m.0.places p b → p < 13
-      → (place_of p b ≡ place) = λ v p b e h. omega (arith, e, told, h, near) in
+      → (place_of p b ≡ place) = λ v p b e h. omega (arith, e, informed, h, near) in
       let never_again : (p b : ℕ) → j ≡ life_word m.0.places p b → p < 13 → get_or (row_of o.lives q) k 0 ≡ 0
       → Contains m.0.lives.given_up (place_of p b) → ⊥ = λ p b e h was gave.
       omega (
@@ -134,7 +134,7 @@ module _ (t : Told) (good : ℕ → Type 0) (S : Type 0) where
             (λ two. absurd (omega (arith, two)))
             (λ life h. passes_claim life (subst (λ (y : ℕ). Passes life (life_of y)) was h)) refl (λ e. cc e)
             (rw was refl) (rw was (omega arith)) (rw was (omega arith)) (rw was (omega arith))
-            (λ none _. absurd (omega (arith, none, told, o.wide))),
+            (λ none _. absurd (omega (arith, none, informed, o.wide))),
         (
           refl,
           λ p b e h. (
@@ -156,7 +156,7 @@ module _ (t : Told) (good : ℕ → Type 0) (S : Type 0) where
             (omega arith) (λ p ne. omega arith) refl (o.life.four q k near) (o.life.clean q k near)
             (o.life.broken q k near) (λ two y. o.life.closed q k y near two)
             (λ life h. h) refl (not_waiting (get_or (row_of o.lives q) k 0) (λ e. miss (is ∙ e))) refl (omega arith)
-            (omega arith) (omega arith) (λ none _. absurd (omega (arith, none, told, o.wide)))),
+            (omega arith) (omega arith) (λ none _. absurd (omega (arith, none, informed, o.wide)))),
         (
           refl,
           λ p b e h. (

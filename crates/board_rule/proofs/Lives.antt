@@ -13,7 +13,7 @@ use lib.ListN.{get_elem?}
 use Rattle.board_rule.specs.Layout.{life_word, place_of}
 use Rattle.board_rule.specs.Lists.{row_of, total, Has}
 use Rattle.board_rule.specs.Lives.{life_of, life_at, is_claimed, is_unsettled, is_settled, verdict_of, Passes}
-use Rattle.board_rule.specs.Views.{Told}
+use Rattle.board_rule.specs.Views.{Fixed}
 use Rattle.board_rule.specs.Rule.{times_among, claims_at, claims_on, LivesOk}
 use Rattle.board_rule.specs.Changes.{with_given_up}
 use Rattle.board_rule.specs.declared.life.Life.{Life}
@@ -130,7 +130,8 @@ learned_on lives lives' met on = All-weaker (λ m. Passes m.1 (life_of (life_at 
     (λ m. Passes m.1 (life_of (life_at lives' m.0))) (λ m. on m.0 m.1) met
 
 -- a step off the lives, after which the seat has no more of a claim
-pub lives_stay : (t : Told) (good : ℕ → Type 0) (rows lives : List (List ℕ)) (words words' : List ℕ) (views : List View)
+pub lives_stay : (t : Fixed) (good : ℕ → Type 0) (rows lives : List (List ℕ)) (words words' : List ℕ)
+    (views : List View)
     (i : ℕ) (v w : View) → LivesOk t good rows lives words views → get_elem? views i ≡ some v
     → ((q k : ℕ) → q < 13 → k < t.places → get_or words' (life_word t.places q k) 0
     ≡ get_or words (life_word t.places q k) 0) → ((q : ℕ) → q < 13 → length (row_of lives q) ≤ t.places)
@@ -157,7 +158,7 @@ lives_stay t good rows lives words words' views i v w o me same short less met =
 }
 
 -- the life at place k of shard q becomes n, and the seat learns of it
-pub lives_turn : (t : Told) (good : ℕ → Type 0) (rows lives : List (List ℕ)) (words : List ℕ) (views : List View)
+pub lives_turn : (t : Fixed) (good : ℕ → Type 0) (rows lives : List (List ℕ)) (words : List ℕ) (views : List View)
     (i : ℕ) (v w : View) (q k n : ℕ) (new_life : Life) → q < 13 → k < length (row_of lives q)
     → life_word t.places q k < length words
     → LivesOk t good rows lives words views → get_elem? views i ≡ some v
@@ -242,7 +243,8 @@ lives_turn t good rows lives words views i v w q k n new_life near inside long o
     }
 
 -- the lives of a row that grows: the new place is waiting
-pub lives_grow : (t : Told) (good : ℕ → Type 0) (rows lives : List (List ℕ)) (words words' : List ℕ) (views : List View)
+pub lives_grow : (t : Fixed) (good : ℕ → Type 0) (rows lives : List (List ℕ)) (words words' : List ℕ)
+    (views : List View)
     (i q x : ℕ) (v w : View) → q < 13 → length rows ≡ 13 → length (row_of rows q) < t.places
     → LivesOk t good rows lives words views → get_elem? views i ≡ some v
     → ((p k : ℕ) → p < 13 → get_or words' (life_word t.places p k) 0 ≡ get_or words (life_word t.places p k) 0)

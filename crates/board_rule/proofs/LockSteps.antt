@@ -9,7 +9,7 @@ use Rattle.atomic_table.specs.Table.{State, Me, step, Act, keeps, Valid, carried
 use Rattle.atomic_table.proofs.Lists.{exchanged}
 use Rattle.board_rule.specs.Layout.{writer, lock_word, length_word, low_word, high_word, index_word, slot, window}
 use Rattle.board_rule.specs.Lists.{row_of, StartsWith, first_values}
-use Rattle.board_rule.specs.Views.{Told, OnRows}
+use Rattle.board_rule.specs.Views.{Fixed, OnRows}
 use Rattle.board_rule.specs.Rule.{weight, Stands, SeatOk, IsKept}
 use Rattle.board_rule.specs.Changes.{with_right, without_right}
 use Rattle.board_rule.specs.Plays.{Takes, Peeks, IsAtShard, TakesRight, Leaves, Measures}
@@ -33,7 +33,7 @@ ap_bound : (i j : ℕ) (words : List ℕ) → i ≡ j → get_or words i 0 < 184
     → get_or words j 0 < 18446744073709551616
 ap_bound i j words e h = subst (λ (x : ℕ). get_or words x 0 < 18446744073709551616) e h
 
-module _ (t : Told) (good : ℕ → Type 0) (S : Type 0) where
+module _ (t : Fixed) (good : ℕ → Type 0) (S : Type 0) where
   abbrev Rule : State S View → Type 0
   Rule = IsKept t good
 
@@ -46,7 +46,7 @@ module _ (t : Told) (good : ℕ → Type 0) (S : Type 0) where
   -- under a right
   pub measures : (n id : ℕ) (m : Me S View) (i : ℕ) → m.0.places ≡ t.places → 0 < m.0.rows.right
       → Allows Rule n id m i (λ y. y) (Measures (step n i 0 0 none) m)
-  measures n id m i told right s o wide me _ = let k = o.seats id m.0 me in (
+  measures n id m i informed right s o wide me _ = let k = o.seats id m.0 me in (
     m.0,
     keeps,
     tt,
@@ -57,7 +57,7 @@ module _ (t : Told) (good : ℕ → Type 0) (S : Type 0) where
           ∙ o.row.stored q (omega (arith, held, k.near)) in (
             here ∙ ap (λ (x : ℕ). length (row_of o.rows x)) (sym held) ∙ ap length (sym (k.whole right))
                 ∙ ap (λ (x : ℕ). length (row_of m.0.rows.seen x)) held,
-            omega (arith, here, o.row.short q (omega (arith, held, k.near)), told),
+            omega (arith, here, o.row.short q (omega (arith, held, k.near)), informed),
           ),
     ),
   )
@@ -123,7 +123,7 @@ module _ (t : Told) (good : ℕ → Type 0) (S : Type 0) where
   takes : (right n id : ℕ) (m : Me S View) (i q old new : ℕ) → i ≡ lock_word q → q < 13 → m.0.places ≡ t.places
       → m.0.rows.right ≡ 0 → m.0.pending.announced ≡ 0 → new ≤ writer → old + right ≤ new
       → Allows Rule n id m i (λ y. either (eqb y old) new y) (TakesRight right (step n i old new none) m)
-  takes right n id m i q old new at near told none-yet none-on-way top gain s o wide me _ =
+  takes right n id m i q old new at near informed none-yet none-on-way top gain s o wide me _ =
       rw at (let j = lock_word q in let row = row_of o.rows q in let marks = marks_of s.words q in
       let w = with_right m.0 q row marks right in let k = o.seats id m.0 me in
       exchanged (get_or s.words j 0) old new (λ y. (v : View) × (a : Act S) × Valid s.homes m.1 a
@@ -142,7 +142,7 @@ module _ (t : Told) (good : ℕ → Type 0) (S : Type 0) where
                 marks = marks;
                 is = refl;
                 more = k.saw q near;
-                short = omega (arith, o.row.short q near, told);
+                short = omega (arith, o.row.short q near, informed);
               }),
           λ ne. absurd (ne hit),
         ),
@@ -152,13 +152,13 @@ module _ (t : Told) (good : ℕ → Type 0) (S : Type 0) where
   pub enters : (n id : ℕ) (m : Me S View) (i q old new : ℕ) → i ≡ lock_word q → q < 13 → m.0.places ≡ t.places
       → m.0.rows.right ≡ 0 → m.0.pending.announced ≡ 0 → new ≡ old + 1 → new < writer
       → Allows Rule n id m i (λ y. either (eqb y old) new y) (TakesRight 1 (step n i old new none) m)
-  enters n id m i q old new at near told none-yet none-on-way more under =
-      takes 1 n id m i q old new at near told none-yet none-on-way (omega (arith, under)) (omega (arith, more))
+  enters n id m i q old new at near informed none-yet none-on-way more under =
+      takes 1 n id m i q old new at near informed none-yet none-on-way (omega (arith, under)) (omega (arith, more))
 
   pub seizes : (n id : ℕ) (m : Me S View) (i q : ℕ) → i ≡ lock_word q → q < 13 → m.0.places ≡ t.places
       → m.0.rows.right ≡ 0 → m.0.pending.announced ≡ 0
       → Allows Rule n id m i (λ y. either (eqb y 0) writer y) (TakesRight writer (step n i 0 writer none) m)
-  seizes n id m i q at near told none-yet none-on-way = takes writer n id m i q 0 writer at near told none-yet
+  seizes n id m i q at near informed none-yet none-on-way = takes writer n id m i q 0 writer at near informed none-yet
       none-on-way (omega arith) (omega arith)
 
   -- it owes nothing to the index, or its word's index words are full
@@ -170,7 +170,7 @@ module _ (t : Told) (good : ℕ → Type 0) (S : Type 0) where
       → m.0.places ≡ t.places → m.0.pending.announced ≡ 0 → n ≤ writer
       → get_or s.words (lock_word m.0.rows.held) 0 ≤ n + m.0.rows.right → HasPaid m.0
       → Rule (stepped s (lock_word m.0.rows.held) n id m.1 (without_right m.0) keeps)
-  drops s o id n m me told none-on-way top gain paid = let q = m.0.rows.held in let w = without_right m.0 in
+  drops s o id n m me informed none-on-way top gain paid = let q = m.0.rows.held in let w = without_right m.0 in
       let k = o.seats id m.0 me in
       lock_turn s o id q n m w.rows k.near me refl (omega (arith, none-on-way)) top
       (omega (arith, gain, weight_here m.0, weight_idle q w refl)) (λ p ne. omega (arith, weight_idle p w refl))
@@ -178,8 +178,8 @@ module _ (t : Told) (good : ℕ → Type 0) (S : Type 0) where
       let x = get_or (row_of o.rows p) c 0 in
       let same : get_or (row_of m.0.rows.seen q) c 0 ≡ x = ap (λ (r : List ℕ). get_or r c 0) (k.whole some-right)
       ∙ ap (λ (y : ℕ). get_or (row_of o.rows y) c 0) held in
-      paid c u owes (subst (λ (l : ℕ). u < window l) (sym told) uw)
-      (ap (λ (l : ℕ). get_or m.0.rows.marks (slot l (get_or (row_of m.0.rows.seen q) c 0) u) 0) told
+      paid c u owes (subst (λ (l : ℕ). u < window l) (sym informed) uw)
+      (ap (λ (l : ℕ). get_or m.0.rows.marks (slot l (get_or (row_of m.0.rows.seen q) c 0) u) 0) informed
       ∙ ap (λ (y : ℕ). get_or m.0.rows.marks (slot t.places y u) 0) same
       ∙ sym (k.marks some-right (slot t.places x u) (slot_lt t.places x u o.wide))
       ∙ ap (λ (y : ℕ). get_or s.words (index_word t.places y (slot t.places x u)) 0) held ∙ z))))
@@ -189,7 +189,7 @@ module _ (t : Told) (good : ℕ → Type 0) (S : Type 0) where
   pub leaves : (n id : ℕ) (m : Me S View) (i : ℕ) → i ≡ lock_word m.0.rows.held → m.0.places ≡ t.places
       → m.0.rows.right ≡ 1 → m.0.pending.announced ≡ 0 → m.0.rows.unfiled ≡ 0
       → Allows Rule n id m i (λ y. (y + (2 ^ 64 - 1)) % 2 ^ 64) (Leaves (step n i 1 0 none) m)
-  leaves n id m i at told reads none-on-way none-unfiled s o wide me under =
+  leaves n id m i at informed reads none-on-way none-unfiled s o wide me under =
       rw at (let q = m.0.rows.held in let k = o.seats id m.0 me in let x = get_or s.words (lock_word q) 0 in
       let low : 1 ≤ x = omega (
         arith,
@@ -203,7 +203,7 @@ module _ (t : Told) (good : ℕ → Type 0) (S : Type 0) where
         without_right m.0,
         keeps,
         tt,
-        drops s o id ((x + (2 ^ 64 - 1)) % 2 ^ 64) m me told none-on-way
+        drops s o id ((x + (2 ^ 64 - 1)) % 2 ^ 64) m me informed none-on-way
             (omega (arith, down, (o.locks q k.near).1)) (omega (arith, down, reads))
             (λ c u owes. absurd (omega (arith, owes, none-unfiled))),
         refl,
@@ -213,11 +213,11 @@ module _ (t : Told) (good : ℕ → Type 0) (S : Type 0) where
   pub gives : (n id : ℕ) (m : Me S View) (i : ℕ) → i ≡ lock_word m.0.rows.held → m.0.places ≡ t.places
       → m.0.rows.right ≡ writer → m.0.pending.announced ≡ 0 → HasPaid m.0
       → Allows Rule n id m i (λ _. 0) (λ _. Leaves (step n i 0 0 none) m 0)
-  gives n id m i at told writes none-on-way paid s o wide me _ = rw at (let k = o.seats id m.0 me in (
+  gives n id m i at informed writes none-on-way paid s o wide me _ = rw at (let k = o.seats id m.0 me in (
     without_right m.0,
     keeps,
     tt,
-    drops s o id 0 m me told none-on-way (omega arith)
+    drops s o id 0 m me informed none-on-way (omega arith)
         (omega (arith, writes, (o.locks m.0.rows.held k.near).1)) paid,
     refl,
   ))

@@ -15,7 +15,7 @@ use Rattle.board_rule.specs.Layout.{half, writer, lock_word, length_word, low_wo
 use Rattle.board_rule.specs.Layout.{size_for, place_of, slot}
 use Rattle.board_rule.specs.Lists.{row_of, total}
 use Rattle.board_rule.specs.Lives.{life_of, life_at, is_claimed, is_unsettled, is_settled, Passes}
-use Rattle.board_rule.specs.Views.{Told}
+use Rattle.board_rule.specs.Views.{Fixed}
 use Rattle.board_rule.specs.Rule.{EachSeat, start_place, open_lives, SeatOk, Stands, IsUnfiled, IsBare, IsKept}
 use Rattle.board_rule.specs.Rule.{Overfills}
 use Rattle.board_rule.specs.Changes.{opening_rows, opening_words, first_view}
@@ -98,7 +98,7 @@ opened places start wide = let q = start % 13 in let near : q < 13 = omega arith
     (omega (arith, wide)) (omega (arith, wide)) (omega (arith, near, low)) in
     record { sized = t.0; pending = t.1; count = t.2; one = t.3; low = t.4; high = t.5; mark = t.6; blank = t.7 }
 
-pub opens : (t : Told) (good : ℕ → Type 0) (S : Type 0) → 0 < t.places
+pub opens : (t : Fixed) (good : ℕ → Type 0) (S : Type 0) → 0 < t.places
     → IsKept t good {S = S} (opening (opening_words t.places t.origin) [] (first_view t.limit t.places t.origin))
 opens t good S wide = let start = t.origin in let places = t.places in let q = start % 13 in
     let near : q < 13 = omega arith in let words = opening_words places start in let w = opened places start wide in
@@ -133,7 +133,7 @@ opens t good S wide = let start = t.origin in let places = t.places in let q = s
       lives = lives;
       wide = wide;
       sized = w.sized;
-      told = only (λ u. 0 < u.places → u.places ≡ places) (λ _. refl);
+      informed = only (λ u. 0 < u.places → u.places ≡ places) (λ _. refl);
       rooted = (0, omega (arith, ap length row), ap (λ (l : List ℕ). get_or l 0 0) row);
       locks = λ p h. let z = w.blank (lock_word p) (omega arith) (λ e. omega (arith, e, h)) (λ e. omega (arith, e, h))
           (λ e. omega (arith, e, h)) (λ e. omega (arith, e, h)) in

@@ -7,7 +7,7 @@ use Rattle.state_space.specs.Reach.{IsReached}
 use Rattle.board_rule.specs.Layout.{writer}
 use Rattle.board_rule.specs.Lists.{row_of, total}
 use Rattle.board_rule.specs.Lives.{is_unsettled, is_settled}
-use Rattle.board_rule.specs.Views.{Told}
+use Rattle.board_rule.specs.Views.{Fixed}
 use Rattle.board_rule.specs.Rule.{open_lives, PendingOk, CountOk, Overfills}
 use Rattle.board_rule.specs.declared.view.View.{View}
 use Rattle.board_rule.proofs.Sums.{total-set, total-append, total_set_or, total_term, seats_turn}
@@ -76,7 +76,7 @@ pending_stay lives words words' views i v w o me same debts writers = let a =
     (λ f. let d = o.done i v me (let g : v.pending.finished ≡ 1 = omega (arith, f, ap (λ p. p.finished) debts) in g) in
     (d.0, omega (arith, a, d.1, ann)))
 
-pub count_turn : (t : Told) (rows rows' : List (List ℕ)) (words words' : List ℕ) (views : List View) (i : ℕ)
+pub count_turn : (t : Fixed) (rows rows' : List (List ℕ)) (words words' : List ℕ) (views : List View) (i : ℕ)
     (v w : View) → CountOk t rows words views → get_elem? views i ≡ some v
     → get_or words' 1 0 + (w.count.uncounted + total length rows) ≡ get_or words 1 0
     + (v.count.uncounted + total length rows') → (w.count.over ≡ 1

@@ -4,7 +4,7 @@ use Rattle.std.proofs.Common.{◌∙◌, subst, arith}
 use Rattle.board_rule.specs.Layout.{half, length_word, low_word, high_word, life_word}
 use Rattle.board_rule.specs.Lists.{row_of, first_values}
 use Rattle.board_rule.specs.Readings.{entry_of, rows_of, lives_of}
-use Rattle.board_rule.specs.Views.{Told}
+use Rattle.board_rule.specs.Views.{Fixed}
 use Rattle.board_rule.specs.Rule.{RowsOk, LivesOk}
 use Rattle.board_rule.specs.declared.view.View.{View}
 
@@ -18,7 +18,8 @@ listed_is f (x ∷ xs) d h = λ i. h zero (omega arith) i ∷ listed_is (λ k. f
 halves_make : (x low high : ℕ) → low ≡ x % half → high ≡ x / half → low + high * half ≡ x
 halves_make x low high a b = omega (arith, a, b)
 
-pub rows_read : (t : Told) (rows : List (List ℕ)) (words : List ℕ) → RowsOk t rows words → rows_of t.places words ≡ rows
+pub rows_read : (t : Fixed) (rows : List (List ℕ)) (words : List ℕ) → RowsOk t rows words
+    → rows_of t.places words ≡ rows
 rows_read t rows words o = let f : ℕ → List ℕ = λ q. first_values (entry_of t.places words q)
     (get_or words (length_word q) 0) in
     subst (λ (n : ℕ). first_values f n ≡ rows) o.all (listed_is f rows []
@@ -28,7 +29,7 @@ rows_read t rows words o = let f : ℕ → List ℕ = λ q. first_values (entry_
     (λ k c. halves_make (get_or (row_of rows q) k 0) (get_or words (low_word q k) 0)
     (get_or words (high_word t.places q k) 0) (o.lows q k near c) (o.highs q k near c))))
 
-pub lives_read : (t : Told) (good : ℕ → Type 0) (rows lives : List (List ℕ)) (words : List ℕ) (views : List View)
+pub lives_read : (t : Fixed) (good : ℕ → Type 0) (rows lives : List (List ℕ)) (words : List ℕ) (views : List View)
     → RowsOk t rows words → LivesOk t good rows lives words views → lives_of t.places words ≡ lives
 lives_read t good rows lives words views o l = let f : ℕ
     → List ℕ = λ q. first_values (λ k. get_or words (life_word t.places q k) 0) (get_or words (length_word q) 0) in

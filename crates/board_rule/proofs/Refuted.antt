@@ -6,7 +6,7 @@ use Rattle.atomic_table.specs.Table.{State, Me, step, Joins, Allows}
 use Rattle.atomic_table.proofs.Lists.{at_set}
 use Rattle.board_rule.specs.Layout.{writer, place_of}
 use Rattle.board_rule.specs.Lists.{row_of}
-use Rattle.board_rule.specs.Views.{Told}
+use Rattle.board_rule.specs.Views.{Fixed}
 use Rattle.board_rule.specs.Rule.{claims_on, times, IsKept}
 use Rattle.board_rule.specs.Changes.{impossible_view, spent_view}
 use Rattle.board_rule.specs.Plays.{never}
@@ -16,7 +16,7 @@ use Rattle.board_rule.proofs.Locks.{alone}
 use Rattle.board_rule.proofs.Lives.{is_claimed_low}
 use Rattle.board_rule.proofs.Added.{published_low}
 
-module _ (t : Told) (good : ℕ → Type 0) (S : Type 0) where
+module _ (t : Fixed) (good : ℕ → Type 0) (S : Type 0) where
   abbrev Rule : State S View → Type 0
   Rule = IsKept t good
 

@@ -15,7 +15,7 @@ use Rattle.board_rule.specs.Layout.{writer, half, lock_word, length_word, low_wo
 use Rattle.board_rule.specs.Layout.{place_of}
 use Rattle.board_rule.specs.Lists.{row_of, StartsWith, Has, total}
 use Rattle.board_rule.specs.Lives.{is_unsettled, is_settled}
-use Rattle.board_rule.specs.Views.{Told, OnRows}
+use Rattle.board_rule.specs.Views.{Fixed, OnRows}
 use Rattle.board_rule.specs.Rule.{weight, Behind, SeatOk, IsKept}
 use Rattle.board_rule.specs.Changes.{with_entry}
 use Rattle.board_rule.specs.Plays.{ReadsLow, ReadsHigh, LaysLow, LaysHigh, Publishes}
@@ -34,7 +34,7 @@ lighter : (p : ℕ) (v w : View) → w.rows.held ≡ v.rows.held → w.rows.righ
 lighter p v w held right = let e : weight p w ≡ weight p v = ap (λ (h : ℕ). cond (eqb h p) w.rows.right 0) held
     ∙ ap (λ (r : ℕ). cond (eqb v.rows.held p) r 0) right in omega (arith, e)
 
-module _ (t : Told) (good : ℕ → Type 0) (S : Type 0) where
+module _ (t : Fixed) (good : ℕ → Type 0) (S : Type 0) where
   abbrev Rule : State S View → Type 0
   Rule = IsKept t good
 
@@ -67,7 +67,7 @@ module _ (t : Told) (good : ℕ → Type 0) (S : Type 0) where
 
   pub glances_high : (n id : ℕ) (m : Me S View) (i : ℕ) → m.0.places ≡ t.places
       → Allows Rule n id m i (λ y. y) (ReadsHigh (step n i 0 0 none) m)
-  glances_high n id m i told s o wide me _ = (
+  glances_high n id m i informed s o wide me _ = (
     m.0,
     keeps,
     tt,
@@ -75,7 +75,7 @@ module _ (t : Told) (good : ℕ → Type 0) (S : Type 0) where
     (
       refl,
       λ q k at near b. let e = seen_inside s o id q k m me near b in
-          ap (λ (x : ℕ). get_or s.words x 0) (at ∙ ap (λ (l : ℕ). high_word l q k) told) ∙ o.row.highs q k near e.0
+          ap (λ (x : ℕ). get_or s.words x 0) (at ∙ ap (λ (l : ℕ). high_word l q k) informed) ∙ o.row.highs q k near e.0
           ∙ ap (λ (x : ℕ). x / half) e.1,
     ),
   )
@@ -268,8 +268,8 @@ module _ (t : Told) (good : ℕ → Type 0) (S : Type 0) where
           lives = set o.lives q (row_of o.lives q ++ 0 ∷ []);
           wide = o.wide;
           sized = length-set s.words j y ∙ o.sized;
-          told = seats_turn (λ u. 0 < u.places → u.places ≡ t.places) s.views id w (o.told id m.0 me)
-              (λ j u ne e. o.told j u e);
+          informed = seats_turn (λ u. 0 < u.places → u.places ≡ t.places) s.views id w (o.informed id m.0 me)
+              (λ j u ne e. o.informed j u e);
           rooted = has_more o.rows q x t.origin k.near o.row.all o.rooted;
           locks = locks_stay s.words words' s.views id m.0 w o.locks me
               (λ p h. get_or-set_other s.words j (lock_word p) y 0 (λ e. omega (arith, e, h))) (λ p. omega arith);

@@ -4,7 +4,7 @@ use Rattle.std.proofs.Common.{◌∙◌, subst, arith, length-set, length-append
 use Rattle.state_space.specs.Reach.{IsReached}
 use Rattle.board_rule.specs.Layout.{writer, half, length_word, low_word, high_word, index_word}
 use Rattle.board_rule.specs.Lists.{row_of, StartsWith}
-use Rattle.board_rule.specs.Views.{Told, OnRows}
+use Rattle.board_rule.specs.Views.{Fixed, OnRows}
 use Rattle.board_rule.specs.Rule.{RowsOk, SeatOk}
 use Rattle.board_rule.proofs.Sums.{starts-refl, starts-trans, snoc_cases, rows_cases}
 
@@ -14,7 +14,7 @@ Halves places words words' q k = (get_or words' (low_word q k) 0 ≡ get_or word
     × (get_or words' (high_word places q k) 0 ≡ get_or words (high_word places q k) 0)
 
 -- a step that changes no length, and no entry that is published
-pub rows_stay : (t : Told) (rows : List (List ℕ)) (words words' : List ℕ) → RowsOk t rows words
+pub rows_stay : (t : Fixed) (rows : List (List ℕ)) (words words' : List ℕ) → RowsOk t rows words
     → ((q : ℕ) → q < 13 → get_or words' (length_word q) 0 ≡ get_or words (length_word q) 0)
     → ((q k : ℕ) → q < 13 → k < length (row_of rows q) → Halves t.places words words' q k) → RowsOk t rows words'
 rows_stay t rows words words' o lens halves = record {
@@ -70,7 +70,7 @@ seat_stay places rows words words' u o halves marks = seat_other places rows row
     (λ p k h ne b. halves p k h b) (λ p j h ne b. marks p j h b)
 
 -- the row of shard q grows by a word that it lacks, both halves of which come after it
-pub rows_grow : (t : Told) (rows : List (List ℕ)) (words : List ℕ) (q x : ℕ) → q < 13 → 216 ≤ length words
+pub rows_grow : (t : Fixed) (rows : List (List ℕ)) (words : List ℕ) (q x : ℕ) → q < 13 → 216 ≤ length words
     → RowsOk t rows words → length (row_of rows q) < t.places
     → get_or words (low_word q (length (row_of rows q))) 0 ≡ x % half
     → get_or words (high_word t.places q (length (row_of rows q))) 0 ≡ x / half → x % 13 ≡ q

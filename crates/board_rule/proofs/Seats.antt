@@ -15,7 +15,7 @@ use Rattle.state_space.specs.Reach.{IsReached}
 use Rattle.board_rule.specs.Layout.{writer, place_of}
 use Rattle.board_rule.specs.Lists.{row_of, StartsWith, total, is_start, longer_row, longer_rows, agree}
 use Rattle.board_rule.specs.Lives.{life_of, life_at, Passes}
-use Rattle.board_rule.specs.Views.{Told}
+use Rattle.board_rule.specs.Views.{Fixed}
 use Rattle.board_rule.specs.Rule.{EachSeat, weight, times, claims_on, open_lives, SeatOk, IsUnfiled, IsKept, Overfills}
 use Rattle.board_rule.specs.Changes.{either_one, both_views, with_half_share, fresh_seat, spent_view}
 use Rattle.board_rule.specs.declared.view.View.{View}
@@ -175,7 +175,7 @@ joined_agree v w h = go (agree v.rows.seen w.rows.seen) h
 abbrev joined_at : View → View → ℕ → View
 joined_at v w h = record (both_views v w) { rows = record (both_views v w).rows { held = h } }
 
-module _ (t : Told) (good : ℕ → Type 0) (S : Type 0) where
+module _ (t : Fixed) (good : ℕ → Type 0) (S : Type 0) where
   abbrev Rule : State S View → Type 0
   Rule = IsKept t good
 
@@ -193,7 +193,7 @@ module _ (t : Told) (good : ℕ → Type 0) (S : Type 0) where
         lives = o.lives;
         wide = o.wide;
         sized = o.sized;
-        told = each (λ x. 0 < x.places → x.places ≡ t.places) o.told (o.told id v me) (o.told id v me);
+        informed = each (λ x. 0 < x.places → x.places ≡ t.places) o.informed (o.informed id v me) (o.informed id v me);
         rooted = o.rooted;
         locks = λ q h. (omega (arith, (o.locks q h).0, same (weight q) refl (weight_idle q u refl)), (o.locks q h).1);
         row = o.row;
@@ -273,7 +273,8 @@ module _ (t : Told) (good : ℕ → Type 0) (S : Type 0) where
         lives = o.lives;
         wide = o.wide;
         sized = o.sized;
-        told = each (λ x. 0 < x.places → x.places ≡ t.places) (o.told id v me) (λ h. absurd (omega (arith, h))) o.told;
+        informed = each (λ x. 0 < x.places → x.places ≡ t.places) (o.informed id v me)
+            (λ h. absurd (omega (arith, h))) o.informed;
         rooted = o.rooted;
         locks = λ q h. (
           omega (

@@ -45,7 +45,7 @@ portion_positive s k some-part = mul-pos some-part (pow_pos (k - s.cuts))
 -- a step after which the seat's share is as it was
 pub shares_turn : (views : List View) (i : ℕ) (v w : View) → SharesOk views → get_elem? views i ≡ some v
     → w.share ≡ v.share → w.places ≡ v.places → (v.places ≡ 0 → IsBare v → IsBare w) → SharesOk (set views i w)
-shares_turn views i v w o me same told bare = record {
+shares_turn views i v w o me same informed bare = record {
   from = o.from;
   cut = seats_turn (λ u. u.share.cuts ≤ o.from) views i w (omega (arith, ap (λ (s : Share). s.cuts) same, o.cut i v me))
       (λ j u ne e. o.cut j u e);
@@ -53,10 +53,10 @@ shares_turn views i v w o me same told bare = record {
       omega (arith, total-set (λ u. portion u.share k) views i v w me, ap (λ (s : Share). portion s k) same) in z)
       ∙ o.whole k h;
   positive = seats_turn (λ u. 0 < u.places → 0 < u.share.parts) views i w
-      (λ wide. omega (arith, ap (λ (s : Share). s.parts) same, o.positive i v me (omega (arith, told, wide))))
+      (λ wide. omega (arith, ap (λ (s : Share). s.parts) same, o.positive i v me (omega (arith, informed, wide))))
       (λ j u ne e. o.positive j u e);
   bare = seats_turn (λ u. u.places ≡ 0 → IsBare u) views i w
-      (λ none. let z : v.places ≡ 0 = sym told ∙ none in bare z (o.bare i v me z)) (λ j u ne e. o.bare j u e);
+      (λ none. let z : v.places ≡ 0 = sym informed ∙ none in bare z (o.bare i v me z)) (λ j u ne e. o.bare j u e);
 }
 
 pub shares_split : (views : List View) (i : ℕ) (v : View) → SharesOk views → get_elem? views i ≡ some v
@@ -103,7 +103,7 @@ pub shares_join : (views : List View) (i j : ℕ) (v w both : View) → SharesOk
     → get_elem? views j ≡ some w → get_elem? (set views i both) j ≡ some w
     → both.share ≡ both_shares v.share w.share → both.places ≡ v.places → 0 < v.places
     → SharesOk (set (set views i both) j spent_view)
-shares_join views i j v w both o me it still sum told wide = let vs = set (set views i both) j spent_view in
+shares_join views i j v w both o me it still sum informed wide = let vs = set (set views i both) j spent_view in
     let a = o.cut i v me in let b = o.cut j w it in
     let top : both.share.cuts ≡ max v.share.cuts w.share.cuts = ap (λ (s : Share). s.cuts) sum in
     let at : (k : ℕ) → o.from ≤ k → portion both.share k ≡ portion v.share k + portion w.share k =
@@ -126,7 +126,7 @@ shares_join views i j v w both o me it still sum told wide = let vs = set (set v
       positive = each (λ x. 0 < x.places → 0 < x.share.parts)
           (λ _. omega (arith, parts, portion_positive v.share (max v.share.cuts w.share.cuts) (o.positive i v me wide)))
           (λ none. absurd (omega (arith, none))) o.positive;
-      bare = each (λ x. x.places ≡ 0 → IsBare x) (λ none. absurd (omega (arith, none, told, wide)))
+      bare = each (λ x. x.places ≡ 0 → IsBare x) (λ none. absurd (omega (arith, none, informed, wide)))
           (λ none. record {
             added = refl;
             claims = refl;

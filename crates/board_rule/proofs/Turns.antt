@@ -8,7 +8,7 @@ use lib.Seq.{set-get_or}
 use Rattle.atomic_table.specs.Table.{State, Me, keeps, stepped}
 use Rattle.atomic_table.proofs.Lists.{set_again}
 use Rattle.board_rule.specs.Layout.{writer, lock_word, length_word, low_word, high_word, index_word}
-use Rattle.board_rule.specs.Views.{Told, OnRows, OnLives, OnPending, OnCount}
+use Rattle.board_rule.specs.Views.{Fixed, OnRows, OnLives, OnPending, OnCount}
 use Rattle.board_rule.specs.Rule.{LocksOk, RowsOk, SeatOk, LivesOk, PendingOk, CountOk, IndexOk, IsBare, IsKept}
 use Rattle.board_rule.specs.declared.view.View.{View}
 use Rattle.board_rule.proofs.Sums.{seats_turn}
@@ -20,7 +20,7 @@ use Rattle.board_rule.proofs.Index.{index_stay}
 use Rattle.board_rule.proofs.Added.{added_stay}
 use Rattle.board_rule.proofs.Shares.{shares_turn}
 
-module _ (t : Told) (good : ℕ → Type 0) (S : Type 0) where
+module _ (t : Fixed) (good : ℕ → Type 0) (S : Type 0) where
   abbrev pub Rule : State S View → Type 0
   Rule = IsKept t good
 
@@ -50,8 +50,8 @@ module _ (t : Told) (good : ℕ → Type 0) (S : Type 0) where
         lives = o.lives;
         wide = o.wide;
         sized = length-set s.words i n ∙ o.sized;
-        told = seats_turn (λ u. 0 < u.places → u.places ≡ t.places) s.views id w (o.told id m.0 me)
-            (λ j u ne e. o.told j u e);
+        informed = seats_turn (λ u. 0 < u.places → u.places ≡ t.places) s.views id w (o.informed id m.0 me)
+            (λ j u ne e. o.informed j u e);
         rooted = o.rooted;
         locks = locks;
         row = row;
@@ -104,8 +104,8 @@ module _ (t : Told) (good : ℕ → Type 0) (S : Type 0) where
         lives = lives';
         wide = o.wide;
         sized = length-set s.words i n ∙ o.sized;
-        told = seats_turn (λ u. 0 < u.places → u.places ≡ t.places) s.views id w (o.told id m.0 me)
-            (λ j u ne e. o.told j u e);
+        informed = seats_turn (λ u. 0 < u.places → u.places ≡ t.places) s.views id w (o.informed id m.0 me)
+            (λ j u ne e. o.informed j u e);
         rooted = o.rooted;
         locks = locks_stay s.words words' s.views id m.0 w o.locks me
             (λ q h. early (lock_word q) (omega arith) (omega (arith, h))) (λ q. omega arith);

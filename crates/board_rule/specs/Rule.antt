@@ -12,7 +12,7 @@ use Rattle.board_rule.specs.Layout.{writer, half, lock_word, length_word, low_wo
 use Rattle.board_rule.specs.Layout.{size_for, place_of, slot, window}
 use Rattle.board_rule.specs.Lists.{row_of, StartsWith, Has, total}
 use Rattle.board_rule.specs.Lives.{life_of, life_at, is_claimed, is_unsettled, is_settled, Passes}
-use Rattle.board_rule.specs.Views.{Told, OnRows, Share, portion}
+use Rattle.board_rule.specs.Views.{Fixed, OnRows, Share, portion}
 use Rattle.board_rule.specs.declared.view.View.{View}
 
 -- a fact of each seat
@@ -30,7 +30,7 @@ LocksOk words views =
     × (slice_index words (lock_word q) ≤ writer)
 
 -- Rows: the words have them, with entries that are reached, each once, in the shard of its number.
-pub record RowsOk (t : Told) (rows : List (List ℕ)) (words : List ℕ) : Type 0 where
+pub record RowsOk (t : Fixed) (rows : List (List ℕ)) (words : List ℕ) : Type 0 where
   pub all : length rows ≡ SHARDS
   pub short : (q : ℕ) → q < SHARDS → length (row_of rows q) ≤ t.places
   pub stored : (q : ℕ) → q < SHARDS → slice_index words (length_word q) ≡ length (row_of rows q)
@@ -95,7 +95,7 @@ claims_on p v = claims_at p v + times_among p v.lives.given_up
 -- Lives: there is one for each entry, with one claim on each claimed entry, which a seat has or has given up, and none
 -- on another. A settled life is the space's verdict, and the successors of its entry are entries. What was learned of a
 -- life stays true.
-pub record LivesOk (t : Told) (good : ℕ → Type 0) (rows lives : List (List ℕ)) (words : List ℕ)
+pub record LivesOk (t : Fixed) (good : ℕ → Type 0) (rows lives : List (List ℕ)) (words : List ℕ)
     (views : List View) : Type 0 where
   pub all : length lives ≡ SHARDS
   pub even : (q : ℕ) → q < SHARDS → length (row_of lives q) ≡ length (row_of rows q)
@@ -133,7 +133,7 @@ abbrev pub Overfills : (ℕ → Type 0) → ℕ → ℕ → Type 0
 Overfills P limit places = Outnumbers P limit ⊎ (q : ℕ) × Outnumbers (λ word. P word × (word % SHARDS ≡ q)) places
 
 -- Count: with what is to be counted yet it is the number of entries, and a seat that knows over is right.
-pub record CountOk (t : Told) (rows : List (List ℕ)) (words : List ℕ) (views : List View) : Type 0 where
+pub record CountOk (t : Fixed) (rows : List (List ℕ)) (words : List ℕ) (views : List View) : Type 0 where
   pub count : slice_index words 1 + total (λ v. v.count.uncounted) views ≡ total length rows
   pub over : EachSeat (λ v. v.count.over ≡ 1 → Overfills (IsReached t.next t.origin) t.limit t.places) views
 
@@ -183,13 +183,13 @@ pub record SharesOk (views : List View) : Type 0 where
   pub positive : EachSeat (λ v. 0 < v.places → 0 < v.share.parts) views
   pub bare : EachSeat (λ v. v.places ≡ 0 → IsBare v) views
 
-pub record IsKept (t : Told) (good : ℕ → Type 0) {S : Type 0} (s : State S View) : Type 0 where
+pub record IsKept (t : Fixed) (good : ℕ → Type 0) {S : Type 0} (s : State S View) : Type 0 where
   pub rows : List (List ℕ)
   pub lives : List (List ℕ)
   pub wide : 0 < t.places
   pub sized : length s.words ≡ size_for t.places
   -- each seat but one that was given up knows how many places a row has
-  pub told : EachSeat (λ v. 0 < v.places → v.places ≡ t.places) s.views
+  pub informed : EachSeat (λ v. 0 < v.places → v.places ≡ t.places) s.views
   pub rooted : Has rows t.origin
   pub locks : LocksOk s.words s.views
   pub row : RowsOk t rows s.words

@@ -4,7 +4,7 @@ use Rattle.board_rule.specs.declared.life.Life.{Life}
 
 -- what is fixed when the table is made: how many entries the board may have and how many a row, the successors of a
 -- word, and the initial word
-pub record Told : Type 0 where
+pub record Fixed : Type 0 where
   pub limit : ℕ
   pub places : ℕ
   pub next : ℕ → List ℕ

@@ -208,14 +208,14 @@ module _ (waits : List Wait) (set : ℕ) (d : Disk) where
   -- ---- the faults of promises
 
   module _ (chosen others : ℕ) (ps : List Promise) (f : Fault) where
-    abbrev told : ℕ → ℕ → Option Fault
-    told lines line = when (breaks_line (map (promise_waiting waits lines) ps) set d line) (BrokenPromise line)
+    abbrev broken_among : ℕ → ℕ → Option Fault
+    broken_among lines line = when (breaks_line (map (promise_waiting waits lines) ps) set d line) (BrokenPromise line)
 
     lines_have_forced : (of : ℕ) → f ≡ BrokenPromise of
         → Contains (broken_lines (map (promise_waiting waits chosen) ps) set d) f → HasForced chosen of
     unfolding broken_lines
     lines_have_forced of is found =
-        let it = from_some_below (told chosen) (lines_end (map (promise_waiting waits chosen) ps)) f found in
+        let it = from_some_below (broken_among chosen) (lines_end (map (promise_waiting waits chosen) ps)) f found in
         let both = when_parts (breaks_line (map (promise_waiting waits chosen) ps) set d it.0) (BrokenPromise it.0) f it.2
         in
         let same : it.0 ≡ of = cc in
@@ -226,11 +226,11 @@ module _ (waits : List Wait) (set : ℕ) (d : Disk) where
         → Contains (broken_lines (map (promise_waiting waits others) ps) set d) f
     unfolding broken_lines
     lines_still_broken has found =
-        let it = from_some_below (told chosen) (lines_end (map (promise_waiting waits chosen) ps)) f found in
+        let it = from_some_below (broken_among chosen) (lines_end (map (promise_waiting waits chosen) ps)) f found in
         let both = when_parts (breaks_line (map (promise_waiting waits chosen) ps) set d it.0) (BrokenPromise it.0) f it.2
         in
         let breaks = line_still_broken chosen others it.0 ps (has it.0 (sym both.1)) both.0 in
-        in_some_below (told others) (lines_end (map (promise_waiting waits others) ps)) it.0 f
+        in_some_below (broken_among others) (lines_end (map (promise_waiting waits others) ps)) it.0 f
         (broken_below set d (map (promise_waiting waits others) ps) it.0 breaks) (rw breaks (ap Some both.1))
 
   -- ---- all faults

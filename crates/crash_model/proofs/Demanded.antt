@@ -13,20 +13,20 @@ use Rattle.crash_model.specs.declared.fault.Fault.{Fault}
 use Rattle.crash_model.specs.declared.fault.Fault.TheVariants.{HalfDone}
 use Rattle.crash_model.proofs.Clean.{nil_left, nil_right, nil_both}
 
-told_none : (test : Bool) → (if test then HalfDone ∷ [] else []) ≡ [] → test ≡ false
-told_none true e = cc
-told_none false e = refl
+listed_none : (test : Bool) → (if test then HalfDone ∷ [] else []) ≡ [] → test ≡ false
+listed_none true e = cc
+listed_none false e = refl
 
-none_told : (test : Bool) → test ≡ false → (if test then HalfDone ∷ [] else []) ≡ []
-none_told test is = rw is refl
+none_listed : (test : Bool) → test ≡ false → (if test then HalfDone ∷ [] else []) ≡ []
+none_listed test is = rw is refl
 
 pub atomic_none : (disks : List Disk) (d : Disk) → atomic_faults disks d ≡ [] → is_half_done disks d ≡ false
 unfolding atomic_faults
-atomic_none disks d = told_none (is_half_done disks d)
+atomic_none disks d = listed_none (is_half_done disks d)
 
 pub none_atomic : (disks : List Disk) (d : Disk) → is_half_done disks d ≡ false → atomic_faults disks d ≡ []
 unfolding atomic_faults
-none_atomic disks d = none_told (is_half_done disks d)
+none_atomic disks d = none_listed (is_half_done disks d)
 
 showing_parts : (disks : Option (List Disk)) (d : Disk) (found : List Fault) → faults_showing disks d found ≡ []
     → (found ≡ []) × ShowsSome disks d

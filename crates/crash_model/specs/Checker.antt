@@ -28,25 +28,25 @@ pub record Demands : Type 0 where
   pub counted : Option ℕ
 
 -- what a checker is asked for: whether it is strict, whether operations are to be atomic, whether each fsync promises,
--- and which faults count; `tells` says whether a line of the script waits or promises, and the module what fsyncs force
+-- and which faults count; whether a line of the script waits or promises, and the module, which says what fsyncs force
 pub record Asked : Type 0 where
   pub strict : Bool
   pub atomic : Bool
   pub durable : Bool
   pub counted : Option ℕ
-  pub tells : Bool
+  pub promising : Bool
   pub kind : Module
 
 -- which inodes are demanded: none, or of a strict checker those that the script keeps
-abbrev pub IsToldKept : Bool → Disk → List Step → Option ℕ → Type 0
-IsToldKept strict base steps None = strict ≡ false
-IsToldKept strict base steps (Some kept) = (strict ≡ true) × IsKept base steps kept
+abbrev pub IsKeptIfStrict : Bool → Disk → List Step → Option ℕ → Type 0
+IsKeptIfStrict strict base steps None = strict ≡ false
+IsKeptIfStrict strict base steps (Some kept) = (strict ≡ true) × IsKept base steps kept
 
 -- what a script demands of the sets that a crash leaves of it
 pub record AreDemands (asked : Asked) (base : Disk) (steps : List Step) (demands : Demands) : Type 0 where
-  pub kept : IsToldKept asked.strict base steps demands.kept
+  pub kept : IsKeptIfStrict asked.strict base steps demands.kept
   pub disks : demands.disks ≡ when asked.atomic (disks_of base steps)
-  pub promises : demands.promises ≡ when asked.tells (promises_of asked.kind asked.durable base steps)
+  pub promises : demands.promises ≡ when asked.promising (promises_of asked.kind asked.durable base steps)
   pub counted : demands.counted ≡ asked.counted
 
 -- the promises that there are

@@ -20,5 +20,5 @@ origin_at line op group waits_for = record { line = line; op = op; group = group
 pub record Emitted : Type 0 where
   pub place : Place
   pub part : Part
-  pub turn : ℕ
+  pub op_number : ℕ
   pub origin : Origin

@@ -19,7 +19,7 @@ pub record Dependency : Type 0 where
   pub reasons : List (List ℕ)
 
 -- the explanation of a patch: its id, what it is, its undo data, and what it depends on, ascending
-pub record ToldPatch : Type 0 where
+pub record ExplainedPatch : Type 0 where
   pub id : ℕ
   pub emitted : Emitted
   pub undo : List ℕ
@@ -46,8 +46,9 @@ dependency rules whole links emitted q id = elim (slice_get emitted id) [
 ]
 
 -- the explanation of an id's patch
-abbrev pub told_patch : List Rule → Bool → List (List ℕ × List ℕ) → List Emitted → List Patch → ℕ → Option ToldPatch
-told_patch rules whole links emitted patches id = elim (slice_get emitted id) [
+abbrev pub explained_patch : List Rule → Bool → List (List ℕ × List ℕ) → List Emitted → List Patch → ℕ
+    → Option ExplainedPatch
+explained_patch rules whole links emitted patches id = elim (slice_get emitted id) [
   | Some q ↦ elim (slice_get patches id) [
     | Some patch ↦ Some (record {
       id = id;
@@ -61,9 +62,10 @@ told_patch rules whole links emitted patches id = elim (slice_get emitted id) [
 ]
 
 -- the explanation of each patch, ascending
-abbrev pub told_patches : List Rule → Bool → List (List ℕ × List ℕ) → List Emitted → List Patch → List ToldPatch
-told_patches rules whole links emitted patches =
-    some_below (length patches) (told_patch rules whole links emitted patches)
+abbrev pub explained_patches : List Rule → Bool → List (List ℕ × List ℕ) → List Emitted → List Patch
+    → List ExplainedPatch
+explained_patches rules whole links emitted patches =
+    some_below (length patches) (explained_patch rules whole links emitted patches)
 
 abbrev pub blocks_of : Disk → List (List ℕ)
 blocks_of disk = map (block_of disk) (range_with_len 0 disk.blocks)
@@ -71,13 +73,13 @@ blocks_of disk = map (block_of disk) (range_with_len 0 disk.blocks)
 -- the base's blocks, the explanation of each patch, and the lines that wait
 pub record Explanation : Type 0 where
   pub base : List (List ℕ)
-  pub patches : List ToldPatch
+  pub patches : List ExplainedPatch
   pub waits : List Wait
 
 abbrev pub explanation : List Rule → Disk → Tracing → List Patch → Explanation
 explanation rules base s patches =
     record {
       base = blocks_of base;
-      patches = told_patches rules s.whole s.links s.emitted patches;
+      patches = explained_patches rules s.whole s.links s.emitted patches;
       waits = s.waits;
     }

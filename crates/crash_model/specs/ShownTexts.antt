@@ -16,12 +16,12 @@ is_hole Hole = true
 is_hole _ = false
 
 -- the slots up to the last that is not empty
-abbrev pub told_slots : List ShownSlot → List ShownSlot
-told_slots [] = []
-told_slots (Hole ∷ slots) = elim (told_slots slots) [ [] ↦ [] | (s ∷ ss) ↦ Hole ∷ s ∷ ss ]
-told_slots (slot ∷ slots) = slot ∷ told_slots slots
+abbrev pub listed_slots : List ShownSlot → List ShownSlot
+listed_slots [] = []
+listed_slots (Hole ∷ slots) = elim (listed_slots slots) [ [] ↦ [] | (s ∷ ss) ↦ Hole ∷ s ∷ ss ]
+listed_slots (slot ∷ slots) = slot ∷ listed_slots slots
 
 abbrev pub shown_text : Shown → List ℕ
 shown_text Nothing = codes "nothing"
 shown_text Directory = codes "directory"
-shown_text (File slots) = codes "file" ++ flat_map (λ slot. codes " " ++ slot_text slot) (told_slots slots)
+shown_text (File slots) = codes "file" ++ flat_map (λ slot. codes " " ++ slot_text slot) (listed_slots slots)

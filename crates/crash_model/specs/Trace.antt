@@ -50,7 +50,8 @@ groups_depend links q p =
 
 -- a rule makes a patch wait for an earlier one
 abbrev pub applies : Rule → Emitted → Emitted → Bool
-applies rule q p = has_part rule.later q.part && (has_part rule.earlier p.part && are_scoped rule.scope q.turn p.turn)
+applies rule q p =
+    has_part rule.later q.part && (has_part rule.earlier p.part && are_scoped rule.scope q.op_number p.op_number)
 
 -- a line before the patch waits for the patch of an id
 abbrev pub waits_for : Emitted → ℕ → Bool
@@ -65,8 +66,8 @@ depends rules whole links q id p =
 -- ---- the patches of an operation
 
 abbrev pub in_place_patch : ℕ → Origin → Change → Emitted
-in_place_patch turn origin c =
-    record { place = place c.block c.offset c.new.items; part = InPlace c.role; turn = turn; origin = origin }
+in_place_patch op_number origin c =
+    record { place = place c.block c.offset c.new.items; part = InPlace c.role; op_number = op_number; origin = origin }
 
 abbrev pub is_file_data : Change → Bool
 is_file_data c = elim c.role [ InitFile ↦ true | NewData ↦ true | _ ↦ false ]
@@ -84,31 +85,31 @@ metadata_changes changes = filter (λ c. not (is_file_data c)) changes
 abbrev pub touched_blocks : ℕ → List Change → List ℕ
 touched_blocks blocks changes = filter (λ b. list_any (λ c. c.block == b) changes) (range_with_len 0 blocks)
 
--- a patch of transaction `turn`
+-- a patch of the transaction that has the number of its operation
 abbrev pub part_of : ℕ → Origin → Part → ℕ → ℕ → List ℕ → Emitted
-part_of turn origin part block offset new =
-    record { place = place block offset new; part = part; turn = turn; origin = origin }
+part_of op_number origin part block offset new =
+    record { place = place block offset new; part = part; op_number = op_number; origin = origin }
 
 -- from journal block j on, a block of `after` in each
 abbrev pub copies : Disk → ℕ → ℕ → Origin → List ℕ → List Emitted
-copies after turn j origin [] = []
-copies after turn j origin (b ∷ bs) =
-    part_of turn origin Copy j 0 (block_of after b) ∷ copies after turn (j + 1) origin bs
+copies after op_number j origin [] = []
+copies after op_number j origin (b ∷ bs) =
+    part_of op_number origin Copy j 0 (block_of after b) ∷ copies after op_number (j + 1) origin bs
 
--- changes that go through the journal, as transaction `turn` with its header at journal block j; `after` is the disk
--- after it
+-- changes that go through the journal, as the transaction of this number with its header at journal block j; `after`
+-- is the disk after it
 abbrev pub journal_patches : Disk → ℕ → ℕ → Origin → List ℕ → List Change → List Emitted
-journal_patches after turn j origin targets changes =
-    copies after turn (j + 1) origin targets
-    ++ (part_of turn origin Commit j 0 (COMMITTED_MARK ∷ turn ∷ length targets ∷ targets)
-    ∷ (map (in_place_patch turn origin) changes
-    ++ (part_of turn origin Done j 0 (DONE_MARK ∷ []) ∷ [])))
+journal_patches after op_number j origin targets changes =
+    copies after op_number (j + 1) origin targets
+    ++ (part_of op_number origin Commit j 0 (COMMITTED_MARK ∷ op_number ∷ length targets ∷ targets)
+    ∷ (map (in_place_patch op_number origin) changes
+    ++ (part_of op_number origin Done j 0 (DONE_MARK ∷ []) ∷ [])))
 
 -- the operation with the file data that go ahead of it
 abbrev pub transaction : Disk → ℕ → ℕ → Origin → List Change → List Emitted
-transaction after turn j origin changes =
-    map (λ c. part_of turn origin (data_part c.role) c.block c.offset c.new.items) (filter is_file_data changes)
-    ++ journal_patches after turn j origin (touched_blocks after.blocks (metadata_changes changes))
+transaction after op_number j origin changes =
+    map (λ c. part_of op_number origin (data_part c.role) c.block c.offset c.new.items) (filter is_file_data changes)
+    ++ journal_patches after op_number j origin (touched_blocks after.blocks (metadata_changes changes))
     (metadata_changes changes)
 
 -- ---- the steps
@@ -120,28 +121,27 @@ journal_blocks Full blocks changes = 1 + length (touched_blocks blocks changes)
 journal_blocks _ blocks changes = 0
 
 abbrev pub patches_by : Module → Disk → ℕ → ℕ → Origin → List Change → List Emitted
-patches_by Meta after turn j origin changes = transaction after turn j origin changes
-patches_by Full after turn j origin changes =
-    journal_patches after turn j origin (touched_blocks after.blocks changes) changes
-patches_by _ after turn j origin changes = map (in_place_patch turn origin) changes
+patches_by Meta after op_number j origin changes = transaction after op_number j origin changes
+patches_by Full after op_number j origin changes =
+    journal_patches after op_number j origin (touched_blocks after.blocks changes) changes
+patches_by _ after op_number j origin changes = map (in_place_patch op_number origin) changes
 
 abbrev pub trace_of_plan : Module → ℕ → Op → Tracing → Result (List Change) FsFault → Result Tracing TraceFault
 trace_of_plan kind line op s (Err e) = Err (trace_fault line e)
 trace_of_plan kind line op s (Ok changes) =
     let after = with_changes s.disk changes in
-    let more = patches_by kind after s.turn s.journal (origin_at line op s.current s.forced) changes in
+    let more = patches_by kind after s.op_number s.journal (origin_at line op s.current s.forced) changes in
     let next = s.journal + journal_blocks kind s.disk.blocks changes in
     unless (nat_lt (JOURNAL_AT + s.disk.journal) next) (no.JournalFull line)
     (unless (nat_lt MAX_PATCHES (length s.emitted + length more)) (no.TooManyPatches line)
-    (Ok (record s { disk = after; emitted = s.emitted ++ more; turn = s.turn + 1; journal = next })))
+    (Ok (record s { disk = after; emitted = s.emitted ++ more; op_number = s.op_number + 1; journal = next })))
 
 abbrev pub is_among : List ℕ → List (List ℕ) → Bool
 is_among name names = list_any (bytes_eq name) names
 
 abbrev pub step : Module → Tracing → ℕ → Act → Result Tracing TraceFault
 step kind s line (Do op) = trace_of_plan kind line op s (plan_of s.disk op)
-step kind s line (Group a) =
-    unless (is_some s.current || is_among a s.opened) (no.GroupFault line)
+step kind s line (Group a) = unless (is_some s.current || is_among a s.opened) (no.GroupFault line)
     (Ok (record s { current = Some a; opened = s.opened ++ a ∷ [] }))
 step kind s line End =
     with_found s.current (no.GroupFault line) (λ a. Ok (record s { current = None; ended = s.ended ++ a ∷ [] }))

@@ -10,7 +10,7 @@ pub record Tracing : Type 0 where
   pub disk : Disk
   pub emitted : List Emitted
   -- the number of the next operation, and the next free journal block
-  pub turn : ℕ
+  pub op_number : ℕ
   pub journal : ℕ
   -- whether blocks are written whole
   pub whole : Bool
@@ -27,7 +27,7 @@ abbrev pub trace_start : Bool → Disk → Tracing
 trace_start whole base = record {
   disk = base;
   emitted = [];
-  turn = 1;
+  op_number = 1;
   journal = JOURNAL_AT;
   whole = whole;
   current = None;

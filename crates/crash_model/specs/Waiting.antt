@@ -73,9 +73,9 @@ abbrev pub is_of_contents : Emitted → Bool
 is_of_contents p = elim p.part [ InPlace _ ↦ true | FileData ↦ true | NewData ↦ true | _ ↦ false ]
 
 -- the last operation of which one of the patches has a property, or 0
-abbrev pub last_turn : (Emitted → Bool) → List Emitted → ℕ
-last_turn test [] = 0
-last_turn test (p ∷ ps) = if test p then max p.turn (last_turn test ps) else last_turn test ps
+abbrev pub last_op_number : (Emitted → Bool) → List Emitted → ℕ
+last_op_number test [] = 0
+last_op_number test (p ∷ ps) = if test p then max p.op_number (last_op_number test ps) else last_op_number test ps
 
 -- `sync` forces each patch; under a journal the file data and the commits
 abbrev pub sync_forces : Module → Emitted → Bool
@@ -90,7 +90,7 @@ fsync_forces Async ranges all p = meets ranges p
 fsync_forces Soft ranges all p = meets ranges p
 fsync_forces _ ranges all p =
     (is_file_data_patch p && meets ranges p)
-    || (is_commit p && p.turn == last_turn (λ q. is_of_contents q && meets ranges q) all)
+    || (is_commit p && p.op_number == last_op_number (λ q. is_of_contents q && meets ranges q) all)
 
 -- the set of the ids, from `id` on, of the patches that have a property
 abbrev pub ids_from : ℕ → (Emitted → Bool) → List Emitted → ℕ

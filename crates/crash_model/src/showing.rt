@@ -3,7 +3,7 @@
 ghost use Rattle.std.specs.Prelude.{◌≡◌, ◌≤◌, length, take, IsAscii};
 ghost use Rattle.hex.specs.Hex.{encode_lower};
 ghost use Rattle.crash_model.specs.Paths.{is_same_slot, are_same_slots, is_same_shown, are_same_shown};
-ghost use Rattle.crash_model.specs.ShownTexts.{is_hole, told_slots};
+ghost use Rattle.crash_model.specs.ShownTexts.{is_hole, listed_slots};
 
 use crate::disk_bytes::SHOWN_BYTES;
 use std::{fmt, str};
@@ -162,7 +162,7 @@ impl fmt::Display for Shown {
             Shown::Directory => write!(f, "directory"),
             Shown::File(slots) => {
                 let words = SlotWords {
-                    slots: &slots[..told(&slots)],
+                    slots: &slots[..listed(&slots)],
                 };
                 write!(f, "file{words}")
             }
@@ -170,10 +170,10 @@ impl fmt::Display for Shown {
     }
 }
 
-/// How many slots are told: those up to the last that is not empty.
-fn told(slots: &[ShownSlot; 4]) -> usize
+/// How many slots are listed: those up to the last that is not empty.
+fn listed(slots: &[ShownSlot; 4]) -> usize
     ensures within { result ≤ length slots.now }
-    ensures told { take result slots.now ≡ told_slots slots.now }
+    ensures listed { take result slots.now ≡ listed_slots slots.now }
 {
     let [first, second, third, fourth] = slots;
     if !fourth.is_hole() {

@@ -18,8 +18,8 @@ use Rattle.crash_model.specs.declared.patches.Patch.{Patch}
 use Rattle.crash_model.specs.declared.settings.Settings.{Settings}
 use Rattle.report_model.proofs.Leading.{sections_lead}
 use Rattle.question_model.specs.Decided.{AreDecided}
-use Rattle.question_model.specs.Decision.{IsDecision, AreToldDecided, decision_bytes}
-use Rattle.question_model.specs.ToldDecided.{ToldDecided}
+use Rattle.question_model.specs.Decision.{IsDecision, AreListedFaults, decision_bytes}
+use Rattle.question_model.specs.ListedFault.{ListedFault}
 use Rattle.question_model.specs.declared.decided_fault.DecidedFault.{DecidedFault}
 use Rattle.traced_patches.specs.Traced.{TracedPatches}
 use Rattle.report_sections.specs.Bodies.{AreClosed, explanation_by}
@@ -35,47 +35,47 @@ decided_closed demands base patches faults are =
 
 -- the text is the report on a decision of traced patches
 pub is_decision : (settings : Settings) (demands : Demands) (base : Disk) (t : TracedPatches) (last : Tracing)
-    (total : ℕ) (faults : List DecidedFault) (told : List ToldDecided) (text : List ℕ)
+    (total : ℕ) (faults : List DecidedFault) (listed : List ListedFault) (text : List ℕ)
     → IsTraceOf settings base t last → CountsClosed t.patches total
-    → AreDecided (HasFault demands base t.patches) faults → map (λ d. d.decided) told ≡ faults
-    → AreSections (detail_of settings demands) base t.patches (map (λ f. f.first) faults) (map (λ d. d.first) told)
+    → AreDecided (HasFault demands base t.patches) faults → map (λ d. d.decided) listed ≡ faults
+    → AreSections (detail_of settings demands) base t.patches (map (λ f. f.first) faults) (map (λ d. d.first) listed)
     → text ≡ decision_bytes settings (record {
       patches = length t.patches;
       closed = total;
       explanation = when settings.explain (explanation_by base t);
       promises = if settings.explain then demands.promises else None;
-      faults = told;
+      faults = listed;
     })
     → IsDecision settings demands base last t.patches text (length faults)
-is_decision settings demands base t last total faults told text is counted decided of_faults are whole_text = record {
+is_decision settings demands base t last total faults listed text is counted decided of_faults are whole_text = record {
   total = total;
   counted = counted;
-  told = told;
-  are = are_told;
+  listed = listed;
+  are = are_listed;
   led = led;
   number_of = ap (λ (fs : List DecidedFault). length fs) (sym of_faults)
-      ∙ length-map told (λ (d : ToldDecided). d.decided);
+      ∙ length-map listed (λ (d : ListedFault). d.decided);
   whole = whole_text ∙ ap (λ (e : Explanation). decision_bytes settings (record {
     patches = length t.patches;
     closed = total;
     explanation = when settings.explain e;
     promises = if settings.explain then demands.promises else None;
-    faults = told;
+    faults = listed;
   })) (same_explanation settings base t last is);
 }
   where
-    same_firsts : map (λ f. f.first) faults ≡ map (λ d. d.decided.first) told
+    same_firsts : map (λ f. f.first) faults ≡ map (λ d. d.decided.first) listed
     same_firsts = ap (map (λ (f : DecidedFault). f.first)) (sym of_faults)
-        ∙ map-map (λ (f : DecidedFault). f.first) (λ (d : ToldDecided). d.decided) told
+        ∙ map-map (λ (f : DecidedFault). f.first) (λ (d : ListedFault). d.decided) listed
 
-    are_told : AreToldDecided (detail_of settings demands) base t.patches told
-    are_told = record {
+    are_listed : AreListedFaults (detail_of settings demands) base t.patches listed
+    are_listed = record {
       decided = subst (AreDecided (HasFault demands base t.patches)) (sym of_faults) decided;
       firsts = subst (λ (firsts : List ℕ). AreSections (detail_of settings demands) base t.patches firsts
-          (map (λ d. d.first) told)) same_firsts are;
+          (map (λ d. d.first) listed)) same_firsts are;
     }
 
-    led : All (λ d. IsLed t.patches d.first) told
-    led = all_of (IsLed t.patches) (λ d. d.first) told (sections_lead base t.patches is.graph.earlier
-        (detail_of settings demands) (map (λ f. f.first) faults) (map (λ d. d.first) told)
+    led : All (λ d. IsLed t.patches d.first) listed
+    led = all_of (IsLed t.patches) (λ d. d.first) listed (sections_lead base t.patches is.graph.earlier
+        (detail_of settings demands) (map (λ f. f.first) faults) (map (λ d. d.first) listed)
         (decided_closed demands base t.patches faults decided) are)

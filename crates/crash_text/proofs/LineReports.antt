@@ -24,10 +24,10 @@ use Rattle.crash_model.specs.declared.refusals.RunFault.TheVariants.{TooManySync
 use Rattle.crash_model.specs.declared.rules.Rule.{Rule}
 use Rattle.crash_model.specs.declared.settings.Settings.{Settings}
 use Rattle.question_model.specs.EnoughLines.{all_waits, AreEnoughLines, IsMinimalLines, IsNeededLines}
-use Rattle.question_model.specs.EnoughReport.{IsToldAny, IsToldFirst, ToldGroup, enough_bytes}
+use Rattle.question_model.specs.EnoughReport.{IsListedIfAny, IsListedFirst, ListedGroup, enough_bytes}
 use Rattle.question_model.specs.LinesReport.{IsLinesReport, line_choices}
 use Rattle.question_model.specs.declared.question.TheConstants.{MAX_SYNCS}
-use Rattle.question_reports.specs.EnoughFindings.{told_first, told_group}
+use Rattle.question_reports.specs.EnoughFindings.{listed_first, listed_group}
 use Rattle.question_reports.specs.declared.enough.findings.FirstFault.{FirstFault}
 use Rattle.question_reports.specs.declared.enough.findings.NeededGroup.{NeededGroup}
 use Rattle.traced_patches.specs.Labels.{wait_by, waits_by}
@@ -72,10 +72,10 @@ none_spared demands base rules s groups all k d within =
     ((all.exactly (get_or groups k d)).0 (Contains-get_or groups k d within)).needed
 
 -- the first fault by these rules if all lines but those of the group wait
-abbrev pub IsToldBy : Settings → Demands → Disk → Tracing → List Rule → ToldGroup → Type 0
-IsToldBy settings demands base s rules told =
-    (rest : ℕ) → IsDifference (all_waits s.waits) told.group rest → HasGraphBy rules base (tracing_waiting rest s)
-    (λ patches. IsToldFirst (detail_of settings (demands_waiting s.waits rest demands)) base patches told.fault)
+abbrev pub IsListedBy : Settings → Demands → Disk → Tracing → List Rule → ListedGroup → Type 0
+IsListedBy settings demands base s rules listed =
+    (rest : ℕ) → IsDifference (all_waits s.waits) listed.group rest → HasGraphBy rules base (tracing_waiting rest s)
+    (λ patches. IsListedFirst (detail_of settings (demands_waiting s.waits rest demands)) base patches listed.fault)
 
 -- the text is the report on the lines that wait of traced patches
 pub is_lines_report : {A : Type 0} (settings : Settings) (demands : Demands) (base : Disk) (t : TracedPatches)
@@ -84,33 +84,33 @@ pub is_lines_report : {A : Type 0} (settings : Settings) (demands : Demands) (ba
     → IsTraceOf settings base t last → length t.waits ≤ MAX_SYNCS → CountsClosed t.patches total
     → AreAllInOrder (IsMinimalLines demands base t.rules last) enough
     → AreAllInOrder (IsNeededLines demands base t.rules last) groups → map (λ n. n.group) needs ≡ groups
-    → All (IsToldBy settings demands base last t.rules) (map told_group needs)
-    → IsToldAny (detail_of settings demands) base t.patches (option_map told_first first)
-    → number ≡ length (option_to_list (option_map (told_first {A = A}) first))
+    → All (IsListedBy settings demands base last t.rules) (map listed_group needs)
+    → IsListedIfAny (detail_of settings demands) base t.patches (option_map listed_first first)
+    → number ≡ length (option_to_list (option_map (listed_first {A = A}) first))
     → text ≡ enough_bytes (line_choices t.waits) settings (record {
       patches = length t.patches;
       closed = total;
       explanation = when settings.explain (explanation_by base t);
       promises = if settings.explain then demands.promises else None;
       enough = enough;
-      needs = map told_group needs;
-      first = option_map told_first first;
+      needs = map listed_group needs;
+      first = option_map listed_first first;
     })
     → IsLinesReport settings demands base last t.patches text number
 is_lines_report {A = A} settings demands base t last total enough groups needs first text number is few counted exactly
-    needed of_groups told any counts whole_text = record {
+    needed of_groups listed any counts whole_text = record {
       few = subst (λ (waits : List Wait). length waits ≤ MAX_SYNCS) is.waits few;
       total = total;
       counted = counted;
       enough = enough;
       exactly = subst (λ (rules : List Rule). AreAllInOrder (IsMinimalLines demands base rules last) enough) is.rules
           exactly;
-      needs = map told_group needs;
+      needs = map listed_group needs;
       needed = subst (AreAllInOrder (IsNeededLines demands base (ordering_rules settings) last)) same_groups
           (subst (λ (rules : List Rule). AreAllInOrder (IsNeededLines demands base rules last) groups) is.rules needed);
-      told = subst (λ (rules : List Rule). All (IsToldBy settings demands base last rules) (map told_group needs))
-          is.rules told;
-      first = option_map told_first first;
+      listed = subst (λ (rules : List Rule). All (IsListedBy settings demands base last rules) (map listed_group needs))
+          is.rules listed;
+      first = option_map listed_first first;
       any = any;
       number_of = counts;
       whole = whole_text ∙ (ap (λ (waits : List Wait). report waits (explanation_by base t)) is.waits
@@ -124,9 +124,9 @@ is_lines_report {A = A} settings demands base t last total enough groups needs f
       explanation = when settings.explain e;
       promises = if settings.explain then demands.promises else None;
       enough = enough;
-      needs = map told_group needs;
-      first = option_map told_first first;
+      needs = map listed_group needs;
+      first = option_map listed_first first;
     })
 
-    same_groups : groups ≡ map (λ (n : ToldGroup). n.group) (map (told_group {A = A}) needs)
-    same_groups = sym of_groups ∙ sym (map-map (λ (n : ToldGroup). n.group) (told_group {A = A}) needs)
+    same_groups : groups ≡ map (λ (n : ListedGroup). n.group) (map (listed_group {A = A}) needs)
+    same_groups = sym of_groups ∙ sym (map-map (λ (n : ListedGroup). n.group) (listed_group {A = A}) needs)

@@ -10,8 +10,8 @@ use Rattle.patch_sets.specs.Closed.{AreEarlier, IsClosed}
 use Rattle.patch_sets.specs.Sets.{Has, IsBefore, AreAllInOrder}
 use Rattle.crash_model.specs.Disk.{Disk}
 use Rattle.crash_model.specs.Checker.{Demands, IsFailingUnder}
-use Rattle.report_model.specs.Needs.{AreToldRules, IsFirstNew, IsRuleUsage, RuleUsage, Unused, TooMany as PastLimit}
-use Rattle.report_model.specs.Needs.{Used, ToldRule}
+use Rattle.report_model.specs.Needs.{AreListedRules, IsFirstNew, IsRuleUsage, RuleUsage, Unused, TooMany as PastLimit}
+use Rattle.report_model.specs.Needs.{Used, ListedRule}
 use Rattle.crash_model.specs.RuleUse.{pairs_of}
 use Rattle.crash_model.specs.Patches.{deps_of}
 use Rattle.report_model.specs.Report.{Detail, AreSections, IsLed}
@@ -23,12 +23,12 @@ use Rattle.crash_model.specs.declared.rules.Rule.{Rule}
 use Rattle.report_model.proofs.Leading.{failing_closed, sections_lead}
 use Rattle.failing_sets.specs.Prevented.{IsFirstOut, IsFirstPrevented}
 use Rattle.report_sections.specs.Sections.{section_of, IsSection}
-use Rattle.report_sections.specs.ToldRules.{told_rule, usage_of}
+use Rattle.report_sections.specs.ListedRules.{listed_rule, usage_of}
 use Rattle.report_sections.specs.declared.rules.RuleUsage as code_usage
-use Rattle.report_sections.specs.declared.rules.ToldRule as code_rule
+use Rattle.report_sections.specs.declared.rules.ListedRule as code_rule
 use Rattle.report_sections.specs.declared.section.Section.{Section}
-use Rattle.report_sections.proofs.Pushed.{is_told}
-use Rattle.crash_text.specs.Telling.{IsUsageBy}
+use Rattle.report_sections.proofs.Pushed.{is_listed}
+use Rattle.crash_text.specs.Reporting.{IsUsageBy}
 
 -- the section of the first set that is not closed under the patches
 first_found : {A : Type 0} (detail : Detail) (base : Disk) (patches changed : List Patch) (sets : List ℕ) (i set : ℕ)
@@ -43,7 +43,7 @@ first_found detail base patches changed sets i set s earlier closed within read 
     let here : IsClosed (deps_of changed) set = subst (IsClosed (deps_of changed)) (sym read) (closed i 0 within) in
     let alone : All (IsClosed (deps_of changed)) (set ∷ []) = All-cons (IsClosed (deps_of changed)) set [] here
     (All-nil (IsClosed (deps_of changed))) in
-    let are : AreSections detail base changed (set ∷ []) (section_of s ∷ []) = is_told detail base changed set s is in
+    let are : AreSections detail base changed (set ∷ []) (section_of s ∷ []) = is_listed detail base changed set s is in
     let led : All (IsLed changed) (section_of s ∷ []) = sections_lead base changed earlier detail (set ∷ [])
     (section_of s ∷ []) alone are in
     (take i sets, set, drop (suc i) sets, split, before, new, are, All-head (IsLed changed) (section_of s) [] led)
@@ -95,9 +95,9 @@ pub usage_of_pairs : (detail : Detail) (limit : ℕ) (rules : List Rule) (base :
     → IsUsageBy detail limit base patches changed pairs usage
     → IsRuleUsage detail limit rules base last patches rule usage
 usage_of_pairs detail limit rules base last patches changed rule pairs Unused same some graph is = absurd is
-usage_of_pairs detail limit rules base last patches changed rule pairs (PastLimit told) same some graph is =
+usage_of_pairs detail limit rules base last patches changed rule pairs (PastLimit listed) same some graph is =
     (is.0 ∙ same, omega (arith, is.0, some), (changed, graph, is.1))
-usage_of_pairs detail limit rules base last patches changed rule pairs (Used told w) same some graph is =
+usage_of_pairs detail limit rules base last patches changed rule pairs (Used listed w) same some graph is =
     (is.0 ∙ same, omega (arith, is.0, some), (changed, graph, is.1))
 
 -- closed sets have ids of the graph alone
@@ -109,38 +109,38 @@ closed_known patches set closed id has =
 
 module _ (detail : Detail) (limit : ℕ) (rules : List Rule) (base : Disk) (last : Tracing) (patches : List Patch) where
   -- one more rule is reported
-  pub rule_pushed : (some : List Rule) (rule : Rule) (told : List ToldRule) (usage : RuleUsage)
-      → AreToldRules detail limit rules base last patches some told
+  pub rule_pushed : (some : List Rule) (rule : Rule) (listed : List ListedRule) (usage : RuleUsage)
+      → AreListedRules detail limit rules base last patches some listed
       → IsRuleUsage detail limit rules base last patches rule usage
-      → AreToldRules detail limit rules base last patches (some ++ rule ∷ [])
-      (told ++ record { rule = rule; usage = usage } ∷ [])
-  rule_pushed [] rule told usage are is = (
+      → AreListedRules detail limit rules base last patches (some ++ rule ∷ [])
+      (listed ++ record { rule = rule; usage = usage } ∷ [])
+  rule_pushed [] rule listed usage are is = (
     usage,
     [],
     is,
     refl,
-    ap (λ (ts : List ToldRule). ts ++ record { rule = rule; usage = usage } ∷ []) are,
+    ap (λ (ts : List ListedRule). ts ++ record { rule = rule; usage = usage } ∷ []) are,
   )
-  rule_pushed (r ∷ some) rule told usage (first, rest, of_first, more, whole) is = (
+  rule_pushed (r ∷ some) rule listed usage (first, rest, of_first, more, whole) is = (
     first,
     rest ++ record { rule = rule; usage = usage } ∷ [],
     of_first,
     rule_pushed some rule rest usage more is,
-    ap (λ (ts : List ToldRule). ts ++ record { rule = rule; usage = usage } ∷ []) whole,
+    ap (λ (ts : List ListedRule). ts ++ record { rule = rule; usage = usage } ∷ []) whole,
   )
 
   -- the rules reported so far, with the next one
-  pub rule_more : {A : Type 0} (items : List Rule) (i : ℕ) (d : Rule) (told after : List (code_rule.ToldRule A))
+  pub rule_more : {A : Type 0} (items : List Rule) (i : ℕ) (d : Rule) (listed after : List (code_rule.ListedRule A))
       (usage : code_usage.RuleUsage A) → i < length items
-      → AreToldRules detail limit rules base last patches (take i items) (map told_rule told)
+      → AreListedRules detail limit rules base last patches (take i items) (map listed_rule listed)
       → IsRuleUsage detail limit rules base last patches (get_or items i d) (usage_of usage)
-      → after ≡ told ++ record { rule = get_or items i d; usage = usage } ∷ []
-      → AreToldRules detail limit rules base last patches (take (i + 1) items) (map told_rule after)
-  rule_more {A} items i d told after usage within are is more =
-      subst (λ (some : List Rule). AreToldRules detail limit rules base last patches some (map told_rule after))
+      → after ≡ listed ++ record { rule = get_or items i d; usage = usage } ∷ []
+      → AreListedRules detail limit rules base last patches (take (i + 1) items) (map listed_rule after)
+  rule_more {A} items i d listed after usage within are is more =
+      subst (λ (some : List Rule). AreListedRules detail limit rules base last patches some (map listed_rule after))
       (sym (take_more items i d within))
-      (subst (λ (ts : List ToldRule). AreToldRules detail limit rules base last patches
+      (subst (λ (ts : List ListedRule). AreListedRules detail limit rules base last patches
       (take i items ++ get_or items i d ∷ []) ts)
-      (sym (ap (λ (ts : List (code_rule.ToldRule A)). map told_rule ts) more
-      ∙ map_push told_rule told (record { rule = get_or items i d; usage = usage })))
-      (rule_pushed (take i items) (get_or items i d) (map told_rule told) (usage_of usage) are is))
+      (sym (ap (λ (ts : List (code_rule.ListedRule A)). map listed_rule ts) more
+      ∙ map_push listed_rule listed (record { rule = get_or items i d; usage = usage })))
+      (rule_pushed (take i items) (get_or items i d) (map listed_rule listed) (usage_of usage) are is))

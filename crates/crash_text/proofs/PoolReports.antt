@@ -15,9 +15,9 @@ use Rattle.crash_model.specs.declared.steps.Step.{Step}
 use Rattle.question_model.specs.SearchReport.{search_of}
 use Rattle.question_model.specs.Workloads.{Search, IsOfPool, keeps_of, places_of}
 use Rattle.kept_promises.specs.Asking.{asked_of}
-use Rattle.pool_judging.proofs.Pools.{tells_lines}
+use Rattle.pool_judging.proofs.Pools.{promising_lines}
 use Rattle.question_model.specs.declared.found.ShownKind.{ShownKind}
-use Rattle.question_reports.specs.SearchFindings.{told_kind}
+use Rattle.question_reports.specs.SearchFindings.{listed_kind}
 use Rattle.question_reports.specs.declared.search.findings.KindCrash.{KindCrash}
 use Rattle.crash_text.specs.Traced.{asks_of}
 
@@ -41,7 +41,7 @@ pub same_search : (settings : Settings) (base : Disk) (lines : List Step) (most 
     → whole ≡ settings.whole_blocks → rules ≡ ordering_rules settings
     → search_under asked most base keeps places kind whole rules ≡ search_of settings most base lines
 same_search settings base lines most asked keeps places kind whole rules all asks are_keeps are_places of_kind is_whole
-    are_rules = rw (asks, are_keeps, are_places, of_kind, is_whole, are_rules, tells_lines lines all) refl
+    are_rules = rw (asks, are_keeps, are_places, of_kind, is_whole, are_rules, promising_lines lines all) refl
 
 -- the number of a search is 1 where a workload fails
 pub number_of_failing : (none : Bool) → from_bool (not none) ≡ (if none then 0 else 1)
@@ -64,7 +64,7 @@ crash_more {A = A} P crashes after crash so_far one more =
     subst (λ (ks : List (KindCrash A)). All P ks) (sym more) (All-push P crashes crash so_far one)
 
 -- the kinds that are reported are those of the crashes
-pub told_shown : {A : Type 0} (pool : List Step) (crashes : List (KindCrash A))
-    → map (λ t. t.shown) (map (told_kind pool) crashes) ≡ map (λ k. k.shown.now) crashes
-told_shown pool [] = refl
-told_shown pool (k ∷ ks) = ap (λ (rest : List ShownKind). k.shown.now ∷ rest) (told_shown pool ks)
+pub listed_shown : {A : Type 0} (pool : List Step) (crashes : List (KindCrash A))
+    → map (λ t. t.shown) (map (listed_kind pool) crashes) ≡ map (λ k. k.shown.now) crashes
+listed_shown pool [] = refl
+listed_shown pool (k ∷ ks) = ap (λ (rest : List ShownKind). k.shown.now ∷ rest) (listed_shown pool ks)

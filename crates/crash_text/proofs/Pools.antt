@@ -9,10 +9,10 @@ use Rattle.crash_model.specs.declared.modules.Module.TheVariants.{Full}
 use Rattle.crash_model.specs.declared.settings.Settings.{Settings}
 use Rattle.crash_model.specs.declared.steps.Step.{Step}
 use Rattle.report_model.specs.ScriptGraph.{ordering_rules}
-use Rattle.question_model.specs.Found.{AreFound}
+use Rattle.question_model.specs.SearchCounts.{AreSearchCounts}
 use Rattle.question_model.specs.SearchReport.{search_of}
 use Rattle.question_model.specs.Workloads.{Search, is_place}
-use Rattle.question_model.specs.declared.found.Found.{Found}
+use Rattle.question_model.specs.declared.found.SearchCounts.{SearchCounts}
 use Rattle.pool_judging.specs.Judging.{IsFullJournal}
 use Rattle.pool_judging.proofs.Full.{nothing_fails, none_failing}
 use Rattle.pool_judging.proofs.Pools.{all_keeps, all_places}
@@ -37,9 +37,10 @@ are_acts bytes before steps script =
     acts_of (length script.before + 2) script.after steps script.traced_steps
 
 -- under the full journal no workload of such a pool fails, so the number that a search reports is 0
-pub none_reported : (settings : Settings) (most : ℕ) (base : Disk) (lines : List Step) (found : Found) (number : ℕ)
+pub none_reported : (settings : Settings) (most : ℕ) (base : Disk) (lines : List Step) (found : SearchCounts)
+    (number : ℕ)
     → settings.module ≡ Full → settings.without.items ≡ [] → IsDisk base → IsSound base → HasZeroJournal base → All (λ step. IsAct step.act) lines
-    → AreFound (search_of settings most base lines) found
+    → AreSearchCounts (search_of settings most base lines) found
     → number ≡ (if found.failing == 0 then 0 else 1) → number ≡ 0
 none_reported settings most base lines found number full none disk sound zeros acts exactly is =
     is ∙ ap (λ (n : ℕ). if n == 0 then 0 else 1) (none_failing s found exactly (nothing_fails s is_full disk sound zeros

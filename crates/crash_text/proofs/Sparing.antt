@@ -15,8 +15,9 @@ use Rattle.crash_model.specs.Tracing.{Tracing}
 use Rattle.crash_model.specs.declared.rules.Rule.{Rule}
 use Rattle.crash_model.specs.declared.settings.Settings.{Settings}
 use Rattle.question_model.specs.Enough.{IsMinimalEnough, IsNeeded}
-use Rattle.question_model.specs.EnoughReport.{IsEnoughReport, IsToldAny, IsToldGroup, ToldGroup, rules_report_bytes}
-use Rattle.question_reports.specs.EnoughFindings.{told_first, told_group}
+use Rattle.question_model.specs.EnoughReport.{IsEnoughReport, IsListedIfAny, IsListedGroup, ListedGroup}
+use Rattle.question_model.specs.EnoughReport.{rules_report_bytes}
+use Rattle.question_reports.specs.EnoughFindings.{listed_first, listed_group}
 use Rattle.question_reports.specs.declared.enough.findings.FirstFault.{FirstFault}
 use Rattle.question_reports.specs.declared.enough.findings.NeededGroup.{NeededGroup}
 use Rattle.traced_patches.specs.Traced.{TracedPatches}
@@ -31,32 +32,32 @@ pub is_enough_report : {A : Type 0} (settings : Settings) (demands : Demands) (b
     → IsTraceOf settings base t last → CountsClosed t.patches total
     → AreAllInOrder (IsMinimalEnough demands base last t.rules) enough
     → AreAllInOrder (IsNeeded demands base last t.rules) groups → map (λ n. n.group) needs ≡ groups
-    → All (IsToldGroup (detail_of settings demands) t.rules base last) (map told_group needs)
-    → IsToldAny (detail_of settings demands) base t.patches (option_map told_first first)
-    → number ≡ length (option_to_list (option_map (told_first {A = A}) first))
+    → All (IsListedGroup (detail_of settings demands) t.rules base last) (map listed_group needs)
+    → IsListedIfAny (detail_of settings demands) base t.patches (option_map listed_first first)
+    → number ≡ length (option_to_list (option_map (listed_first {A = A}) first))
     → text ≡ rules_report_bytes settings (record {
       patches = length t.patches;
       closed = total;
       explanation = when settings.explain (explanation_by base t);
       promises = if settings.explain then demands.promises else None;
       enough = enough;
-      needs = map told_group needs;
-      first = option_map told_first first;
+      needs = map listed_group needs;
+      first = option_map listed_first first;
     })
     → IsEnoughReport settings demands base last t.patches text number
 is_enough_report {A = A} settings demands base t last total enough groups needs first text number is counted exactly
-    needed of_groups told any counts whole_text = record {
+    needed of_groups listed any counts whole_text = record {
       total = total;
       counted = counted;
       enough = enough;
       exactly = subst (λ (rules : List Rule). AreAllInOrder (IsMinimalEnough demands base last rules) enough) is.rules
           exactly;
-      needs = map told_group needs;
+      needs = map listed_group needs;
       needed = subst (AreAllInOrder (IsNeeded demands base last (ordering_rules settings))) same_groups
           (subst (λ (rules : List Rule). AreAllInOrder (IsNeeded demands base last rules) groups) is.rules needed);
-      told = subst (λ (rules : List Rule). All (IsToldGroup (detail_of settings demands) rules base last)
-          (map told_group needs)) is.rules told;
-      first = option_map told_first first;
+      listed = subst (λ (rules : List Rule). All (IsListedGroup (detail_of settings demands) rules base last)
+          (map listed_group needs)) is.rules listed;
+      first = option_map listed_first first;
       any = any;
       number_of = counts;
       whole = whole_text ∙ ap (λ (e : Explanation). rules_report_bytes settings (record {
@@ -65,17 +66,17 @@ is_enough_report {A = A} settings demands base t last total enough groups needs 
         explanation = when settings.explain e;
         promises = if settings.explain then demands.promises else None;
         enough = enough;
-        needs = map told_group needs;
-        first = option_map told_first first;
+        needs = map listed_group needs;
+        first = option_map listed_first first;
       })) (same_explanation settings base t last is);
     }
   where
-    same_groups : groups ≡ map (λ (n : ToldGroup). n.group) (map (told_group {A = A}) needs)
-    same_groups = sym of_groups ∙ sym (map-map (λ (n : ToldGroup). n.group) (told_group {A = A}) needs)
+    same_groups : groups ≡ map (λ (n : ListedGroup). n.group) (map (listed_group {A = A}) needs)
+    same_groups = sym of_groups ∙ sym (map-map (λ (n : ListedGroup). n.group) (listed_group {A = A}) needs)
 
 -- the number is 1 where there is a first fault
 pub number_of : {A : Type 0} (first : Option (FirstFault A))
-    → from_bool (is_some first) ≡ length (option_to_list (option_map (told_first {A = A}) first))
+    → from_bool (is_some first) ≡ length (option_to_list (option_map (listed_first {A = A}) first))
 number_of None = refl
 number_of (Some f) = refl
 

@@ -7,10 +7,10 @@ use Rattle.crash_model.specs.declared.settings.Settings.{Settings}
 use Rattle.crash_model.specs.declared.steps.Step.{Step}
 use Rattle.question_model.specs.Lengths.{operations_of}
 use Rattle.question_model.specs.Workloads.{IsOfPool}
-use Rattle.question_model.specs.declared.found.Found.{Found}
+use Rattle.question_model.specs.declared.found.SearchCounts.{SearchCounts}
 use Rattle.question_model.specs.declared.length.WorkloadLength.{WorkloadLength}
 use Rattle.question_model.specs.EnoughFor.{IsMinimalInSearch, IsNeededInSearch}
-use Rattle.question_model.specs.SearchRulesReport.{IsSearchRulesReport, IsToldNeed, ToldNeed, search_rules_bytes}
+use Rattle.question_model.specs.SearchRulesReport.{IsSearchRulesReport, IsListedNeed, ListedNeed, search_rules_bytes}
 use Rattle.pool_judging.specs.Judging.{search_by}
 use Rattle.pool_judging.specs.declared.judge.PoolJudge.{PoolJudge}
 
@@ -20,11 +20,11 @@ IsRuleSearchOf settings longest base steps text number =
     All IsOfPool steps × IsSearchRulesReport settings (operations_of longest) base steps text number
 
 -- the text is the report on what a judge's search finds and the rules that its workloads need
-pub record IsRuleReportBy {A : Type 0} (settings : Settings) (judge : PoolJudge A) (found : Found)
+pub record IsRuleReportBy {A : Type 0} (settings : Settings) (judge : PoolJudge A) (found : SearchCounts)
     (text : List ℕ) : Type 0 where
   pub enough : List ℕ
   pub minimal : AreAllInOrder (IsMinimalInSearch (search_by judge)) enough
-  pub needs : List ToldNeed
-  pub needed : AreAllInOrder (IsNeededInSearch (search_by judge)) (map (λ told. told.group) needs)
-  pub told : All (IsToldNeed (search_by judge) settings.explain) needs
+  pub needs : List ListedNeed
+  pub needed : AreAllInOrder (IsNeededInSearch (search_by judge)) (map (λ listed. listed.group) needs)
+  pub listed : All (IsListedNeed (search_by judge) settings.explain) needs
   pub whole : text ≡ search_rules_bytes settings (operations_of judge.longest) (length judge.pool.now) found enough needs

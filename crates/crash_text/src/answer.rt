@@ -78,7 +78,7 @@ where
             let answered = answer_call(host, &call, &mut source, &mut sink, err, &OpenGate);
             answered.ended.status
         }
-        Err(error) => tell(out, err, &error).status,
+        Err(error) => print_clap(out, err, &error).status,
     }
 }
 
@@ -264,7 +264,7 @@ fn refused<E: Write>(err: &mut E, fault: RunFault) -> Ended
 }
 
 /// Prints what `clap` says of a command line: help and the version on `out`, a fault on `err`.
-pub fn tell<O: Write, E: Write>(out: &mut O, err: &mut E, error: &clap::Error) -> Ended
+pub fn print_clap<O: Write, E: Write>(out: &mut O, err: &mut E, error: &clap::Error) -> Ended
     ensures { result.status ≤ 2 }
 {
     if error.kind() == ErrorKind::OutOfMemory {

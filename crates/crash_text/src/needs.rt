@@ -6,26 +6,26 @@ ghost use Rattle.patch_sets.specs.Sets.{AreAllInOrder};
 ghost use Rattle.report_model.specs.Answer.{detail_of};
 ghost use Rattle.report_model.specs.ScriptGraph.{ordering_rules};
 ghost use Rattle.crash_model.specs.Checker.{IsFailingUnder};
-ghost use Rattle.report_model.specs.Needs.{AreToldRules, IsFirstNew, IsRuleUsage};
+ghost use Rattle.report_model.specs.Needs.{AreListedRules, IsFirstNew, IsRuleUsage};
 ghost use Rattle.crash_model.specs.Patches.{deps_of};
 ghost use Rattle.crash_model.specs.Tracing.{Tracing};
 ghost use Rattle.crash_model.specs.declared.visit.ReportBy.TheVariants.{ByRule};
 ghost use Rattle.failing_sets.specs.Prevented.{IsFirstPrevented};
 ghost use Rattle.report_sections.specs.Bodies.{AreOnBase};
 ghost use Rattle.report_sections.specs.Sections.{section_of};
-ghost use Rattle.report_sections.specs.ToldRules.{told_rule, usage_of};
-ghost use Rattle.crash_text.specs.Telling.{AreFindings, IsReportOf, IsUsageBy};
+ghost use Rattle.report_sections.specs.ListedRules.{listed_rule, usage_of};
+ghost use Rattle.crash_text.specs.Reporting.{AreFindings, IsReportOf, IsUsageBy};
 ghost use Rattle.crash_text.specs.Traced.{IsTraceOf};
 
 use crate::host::Host;
-use crate::telling::Findings;
+use crate::reporting::Findings;
 use crash_model::refusals::RunFault;
 use crash_model::rules::Rule;
 use explorers::Gate;
 use failing_sets::{Crashes, Finder};
 use order_modules::graph_without;
 use patch_graph::Graph;
-use report_sections::{RuleUsage, Section, ToldRule};
+use report_sections::{ListedRule, RuleUsage, Section};
 use section_maker::SectionMaker;
 use std::alloc::{AllocError, Allocator};
 use std::sync::Wait;
@@ -57,7 +57,7 @@ where
 fn needs<R, A, G>(
     finder: &Finder<'_, R, A, G>,
     findings: &Findings<'_, '_, '_, A>,
-) -> Result<Vec<ToldRule<A>, A>, AllocError>
+) -> Result<Vec<ListedRule<A>, A>, AllocError>
 where
     R: Threads + Wait + Sync,
     A: Allocator + Copy + Send + Sync,
@@ -66,15 +66,15 @@ where
     requires found { AreFindings findings.now }
     ensures { IfOk result (λ rules. (last : Tracing)
         → IsTraceOf findings.now.settings.now findings.now.base.now findings.now.traced.now last
-        → AreToldRules (detail_of findings.now.settings.now findings.now.demands.now) findings.now.visit.limit
+        → AreListedRules (detail_of findings.now.settings.now findings.now.demands.now) findings.now.visit.limit
         (ordering_rules findings.now.settings.now) findings.now.base.now last findings.now.traced.now.patches
-        (ordering_rules findings.now.settings.now) (map told_rule rules.items)) }
+        (ordering_rules findings.now.settings.now) (map listed_rule rules.items)) }
 {
     let mut rules = Vec::new(finder.alloc);
     for rule in findings.traced.rules() {
         let rule = *rule;
         let usage = usage(finder, findings, rule)?;
-        rules.push(ToldRule { rule, usage })?;
+        rules.push(ListedRule { rule, usage })?;
     }
     Ok(rules)
 }

@@ -74,7 +74,7 @@ impl Notes {
         };
         for label in traced.labels() {
             if !parts.is_full() {
-                parts.push((label.part, label.turn));
+                parts.push((label.part, label.op_number));
             }
         }
     }

@@ -5,10 +5,10 @@ ghost use Rattle.std.specs.Prelude.{OnOk, ◌==◌, if◌then◌else◌};
 ghost use Rattle.crash_model.specs.Script.{IsAct};
 ghost use Rattle.crash_model.specs.Sound.{IsSound, HasZeroJournal};
 ghost use Rattle.crash_model.specs.declared.modules.Module.TheVariants.{Full};
-ghost use Rattle.question_model.specs.Found.{AreFound, IsShown};
+ghost use Rattle.question_model.specs.SearchCounts.{AreSearchCounts, IsShown};
 ghost use Rattle.pool_judging.specs.Judging.{search_by};
 ghost use Rattle.pool_judging.specs.Pools.{IsPoolOf};
-ghost use Rattle.crash_text.specs.Searching.{IsPoolRefusal, IsSearchOf, IsReportBy, AreToldKinds};
+ghost use Rattle.crash_text.specs.Searching.{IsPoolRefusal, IsSearchOf, IsReportBy, AreListedKinds};
 
 use crate::host::Host;
 use crate::run::Outcome;
@@ -21,7 +21,7 @@ use explorers::Gate;
 use failing_sets::GateWatch;
 use first_crashes::kind_section;
 use pool_judging::{PoolJudge, PoolSteps, pool_of};
-use question_model::{Found, Request, ShownKind, WorkloadLength};
+use question_model::{Request, SearchCounts, ShownKind, WorkloadLength};
 use question_reports::{KindCrash, SearchFindings, search_report};
 use set_sweep::Workers;
 use std::alloc::{AllocError, Allocator};
@@ -83,14 +83,14 @@ fn search_pool<R, A, G>(
     number: usize,
     gate: &G,
     judge: &PoolJudge<'_, A>,
-) -> Result<Found, AllocError>
+) -> Result<SearchCounts, AllocError>
 where
     R: Threads + Sync,
     A: Allocator + Copy + Send + Sync,
     G: Gate + Sync,
     requires workers { (1 ≤ number) × (number ≤ 16) }
     requires few { length judge.now.pool.now < 2 ^ 62 }
-    ensures { IfOk result (AreFound (search_by judge.now)) }
+    ensures { IfOk result (AreSearchCounts (search_by judge.now)) }
 {
     let watch = GateWatch { gate };
     let workers = Workers {
@@ -112,9 +112,9 @@ fn report_on<R, A: Allocator + Copy>(
     host: &Host<'_, R, A>,
     settings: &Settings,
     judge: &PoolJudge<'_, A>,
-    found: &Found,
+    found: &SearchCounts,
 ) -> Result<Outcome<A>, AllocError>
-    requires found { AreFound (search_by judge.now) found.now }
+    requires found { AreSearchCounts (search_by judge.now) found.now }
     ensures report { IfOk result (λ outcome. IsReportBy settings.now judge.now found.now (string_bytes outcome.text)) }
     ensures number { IfOk result (λ outcome. outcome.number ≡ (if found.now.failing == 0 then 0 else 1)) }
 {
@@ -139,15 +139,15 @@ fn kind_crashes<'found, A: Allocator + Copy>(
     kinds: &'found [ShownKind],
 ) -> Result<Vec<KindCrash<'found, A>, A>, AllocError>
     requires { All (IsShown (search_by judge.now)) kinds.now }
-    ensures { IfOk result (λ crashes. AreToldKinds (search_by judge.now) explain kinds.now crashes.items) }
+    ensures { IfOk result (λ crashes. AreListedKinds (search_by judge.now) explain kinds.now crashes.items) }
 {
     let mut crashes = Vec::new(judge.alloc);
     for shown in kinds {
-        let told = kind_section(judge, explain, shown)?;
+        let listed = kind_section(judge, explain, shown)?;
         crashes.push(KindCrash {
             shown,
-            patches: told.patches,
-            section: told.section,
+            patches: listed.patches,
+            section: listed.section,
         })?;
     }
     Ok(crashes)

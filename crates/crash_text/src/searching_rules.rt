@@ -6,7 +6,7 @@ ghost use Rattle.patch_sets.specs.Sets.{AreAllInOrder};
 ghost use Rattle.crash_model.specs.Script.{IsAct};
 ghost use Rattle.crash_model.specs.Sound.{IsSound, HasZeroJournal};
 ghost use Rattle.crash_model.specs.declared.modules.Module.TheVariants.{Full};
-ghost use Rattle.question_model.specs.Found.{AreFound};
+ghost use Rattle.question_model.specs.SearchCounts.{AreSearchCounts};
 ghost use Rattle.question_model.specs.Sequences.{AreAllSequences};
 ghost use Rattle.question_model.specs.EnoughFor.{IsPassing, IsMinimalInSearch, IsNeededInSearch};
 ghost use Rattle.workload_search.specs.Passing.{AreAllPassing};
@@ -89,7 +89,7 @@ where
     G: Gate + Sync,
     requires workers { (1 ≤ number) × (number ≤ 16) }
     requires few { length judge.now.pool.now < 2 ^ 62 }
-    ensures found { IfOk result (λ searched. AreFound (search_by judge.now) searched.found) }
+    ensures found { IfOk result (λ searched. AreSearchCounts (search_by judge.now) searched.found) }
     ensures passing { IfOk result (λ searched.
         AreAllPassing (search_by judge.now) (map items_of searched.passing.items)) }
 {
@@ -119,7 +119,7 @@ where
     R: Threads + Sync,
     A: Allocator + Copy + Send + Sync,
     requires workers { (1 ≤ request.now.workers) × (request.now.workers ≤ 16) }
-    requires found { AreFound (search_by judge.now) searched.now.found }
+    requires found { AreSearchCounts (search_by judge.now) searched.now.found }
     requires passing { AreAllPassing (search_by judge.now) (map items_of searched.now.passing.items) }
     ensures report { IfOk result (λ outcome.
         IsRuleReportBy request.now.settings judge.now searched.now.found (string_bytes outcome.text)) }

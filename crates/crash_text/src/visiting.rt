@@ -5,13 +5,13 @@ ghost use Rattle.crash_model.specs.Visits.{IsExplorable};
 ghost use Rattle.failing_sets.specs.Limits.{SaysTooMany};
 ghost use Rattle.report_model.specs.Answer.{IsReport};
 ghost use Rattle.report_sections.specs.Bodies.{AreOnBase};
-ghost use Rattle.crash_text.specs.Telling.{AreFindings, IsReportOf};
+ghost use Rattle.crash_text.specs.Reporting.{AreFindings, IsReportOf};
 ghost use Rattle.crash_text.specs.Traced.{IsReportOn, NoneFails};
 
 use crate::host::Host;
 use crate::needs::report_by_rule;
+use crate::reporting::Findings;
 use crate::run::Outcome;
-use crate::telling::Findings;
 use crate::traced_script::TracedScript;
 use crash_model::refusals::RunFault;
 use crash_model::visit::Visit;

@@ -6,7 +6,7 @@ ghost use Rattle.command_line.specs.Ranges.{IsInRanges};
 use byte_io::standard::Counted;
 use command_line::{Call, settings_of};
 use crash_model::refusals::RunFault;
-use crash_text::answer::{Answered, answer_call, refuse, refuse_words, tell};
+use crash_text::answer::{Answered, answer_call, print_clap, refuse, refuse_words};
 use crash_text::host::Host;
 use crash_text::notes::Notes;
 use crash_text::progress::Progress;
@@ -120,7 +120,7 @@ fn say(streams: Streams, error: &clap::Error) -> u8 {
         mut err,
         ..
     } = streams;
-    let ended = tell(&mut out, &mut err, error);
+    let ended = print_clap(&mut out, &mut err, error);
     if ended.refusal == Some(RunFault::CannotWrite) && err.is_terminal() {
         write_output_hint(&mut err);
     }

@@ -46,7 +46,7 @@ free_after b space is_own before after word put free ok not_over not_busy own ea
           puts.has each free.recent;
     }
 
--- a worker that is between two turns stays so where its seat is idle and sees on
+-- a worker that is between two rounds stays so where its seat is idle and sees on
 pub ready_on : {S C A : Type 0} (b : Shown S) (space : S) (is_own : S → C → Type 0) (before : Known)
     (worker : Worker C A) → b.space ≡ space → is_own space worker.scratch → AreMet worker.recent before.seen
     → Counts worker.expanded (claims_made before) → IsIdle b worker.seat → Keeps before worker.seat

@@ -6,9 +6,9 @@ use Rattle.seen_board.specs.Clauses.{IsOf, SeesOn, HasClaim}
 use Rattle.seen_board.specs.Ended.{claims_made}
 use Rattle.seen_board.specs.declared.answers.Place.{Place}
 use Rattle.explorers.specs.RecentlySeen.{AreMet}
-use Rattle.explorers.specs.declared.exploration.Turn.{Turn}
-use Rattle.explorers.specs.declared.exploration.Turn.TheVariants.{Over}
-use Rattle.explorers.specs.declared.worker.Left.{Left}
+use Rattle.explorers.specs.declared.exploration.Round.{Round}
+use Rattle.explorers.specs.declared.exploration.Round.TheVariants.{Over}
+use Rattle.explorers.specs.declared.worker.WorkerOutput.{WorkerOutput}
 use Rattle.explorers.specs.declared.worker.Worker.{Worker}
 
 -- a seat of the board with no right and no claim
@@ -40,8 +40,8 @@ pub record Keeps (before after : Known) : Type 0 where
   pub share : after.share ≡ before.share
 
 -- if the round ends as over, the worker's seat knows that more words are reached than the board may have
-abbrev pub KnowsOver : {C A E : Type 0} → Result Turn E → Worker C A → Type 0
-KnowsOver turn worker = IfOk turn (λ t. t ≡ Over → worker.seat.over ≡ 1)
+abbrev pub KnowsOver : {C A E : Type 0} → Result Round E → Worker C A → Type 0
+KnowsOver round worker = IfOk round (λ t. t ≡ Over → worker.seat.over ≡ 1)
 
 -- the word is an entry that the seat has seen, and the claim is as it was
 pub record PutsIn (word : ℕ) (before after : Known) : Type 0 where
@@ -63,15 +63,15 @@ pub record Expands {S : Type 0} (b : Shown S) (before : List (List ℕ)) (place 
   pub has : (j : ℕ) → j < k → Has s.seen (slice_index next j)
 
 -- the seat is idle, and knows that more words are reached than the board may have if the board said so to its worker
-abbrev pub IsLeft : {S : Type 0} → Shown S → Left → Type 0
-IsLeft b left = IsIdle b left.seat × (left.is_over ≡ true → left.seat.over ≡ 1)
+abbrev pub IsOutput : {S : Type 0} → Shown S → WorkerOutput → Type 0
+IsOutput b output = IsIdle b output.seat × (output.is_over ≡ true → output.seat.over ≡ 1)
 
 -- as many entries were expanded as the seat has made claims
-abbrev pub IsCounted : Left → Type 0
-IsCounted left = Counts left.expanded (claims_made left.seat)
+abbrev pub IsCounted : WorkerOutput → Type 0
+IsCounted output = Counts output.expanded (claims_made output.seat)
 
 -- a worker leaves this, with the share of the board that it began with
-pub record IsLeftBy {S C A : Type 0} (b : Shown S) (worker : Worker C A) (left : Left) : Type 0 where
-  pub idle : IsLeft b left
-  pub counted : IsCounted left
-  pub share : left.seat.share ≡ worker.seat.share
+pub record IsOutputOf {S C A : Type 0} (b : Shown S) (worker : Worker C A) (output : WorkerOutput) : Type 0 where
+  pub idle : IsOutput b output
+  pub counted : IsCounted output
+  pub share : output.seat.share ≡ worker.seat.share

@@ -6,38 +6,42 @@ ghost use Rattle.state_space.specs.Reach.{IsReached};
 ghost use Rattle.board_rule.specs.Rule.{IsWhole, Overfills};
 ghost use Rattle.patch_sets.specs.Explored.{IsExplored};
 ghost use Rattle.explorers.specs.Claims.{HoldsOfAtLeast};
-ghost use Rattle.explorers.specs.Ready.{IsLeft, IsCounted};
+ghost use Rattle.explorers.specs.Ready.{IsOutput, IsCounted};
 ghost use Rattle.explorers.specs.Shares.{MakeWhole};
 
 use crate::collected::collect;
 use crate::exploring::Exploring;
 use crate::rows::Room;
-use crate::worker::Left;
+use crate::worker::WorkerOutput;
 use patch_sets::explored::ExploreFault;
 use seen_board::Board;
 use state_space::{MAX_BOARD, Space};
 use std::alloc::Allocator;
 
 /// What two workers leave, as one.
-fn join<S: Space, A: Allocator>(board: &Board<S, A>, all: Left, other: Left) -> Left
-    requires all { IsLeft board.now all × IsCounted all }
-    requires other { IsLeft board.now other × IsCounted other }
-    ensures left { IsLeft board.now result }
+fn join<S: Space, A: Allocator>(
+    board: &Board<S, A>,
+    all: WorkerOutput,
+    other: WorkerOutput,
+) -> WorkerOutput
+    requires all { IsOutput board.now all × IsCounted all }
+    requires other { IsOutput board.now other × IsCounted other }
+    ensures output { IsOutput board.now result }
     ensures counted { IsCounted result }
     ensures share { result.seat.share ≡ both_shares all.seat.share other.seat.share }
 {
-    let Left {
+    let WorkerOutput {
         mut seat,
         expanded: before,
         is_over: was_over,
     } = all;
-    let Left {
+    let WorkerOutput {
         seat: given,
         expanded,
         is_over,
     } = other;
     board.join(&mut seat, given);
-    Left {
+    WorkerOutput {
         seat,
         expanded: before.saturating_add(expanded),
         is_over: was_over || is_over,
@@ -47,13 +51,13 @@ fn join<S: Space, A: Allocator>(board: &Board<S, A>, all: Left, other: Left) -> 
 /// What many workers leave, joined to what is there. All of them have the whole board.
 pub(crate) fn join_all<S: Space, A: Allocator>(
     board: &Board<S, A>,
-    mut all: Left,
-    mut others: Vec<Left, A>,
-) -> Left
-    requires all { IsLeft board.now all × IsCounted all }
-    requires others { All (λ left. IsLeft board.now left × IsCounted left) others.items }
-    requires shares { MakeWhole all.seat.share (λ left. left.seat.share) others.items }
-    ensures left { IsLeft board.now result }
+    mut all: WorkerOutput,
+    mut others: Vec<WorkerOutput, A>,
+) -> WorkerOutput
+    requires all { IsOutput board.now all × IsCounted all }
+    requires others { All (λ output. IsOutput board.now output × IsCounted output) others.items }
+    requires shares { MakeWhole all.seat.share (λ output. output.seat.share) others.items }
+    ensures output { IsOutput board.now result }
     ensures counted { IsCounted result }
     ensures whole { IsWhole result.seat.share }
 {
@@ -70,12 +74,12 @@ pub(crate) fn answer<S: Space, A: Allocator + Copy>(
     space: &S,
     room: Room,
     board: Board<S, A>,
-    left: Left,
+    output: WorkerOutput,
 ) -> Exploring<A>
     requires board { (board.limit ≡ room.limit) × (board.places ≡ room.places) × (board.space ≡ space.now) }
     requires small { room.places ≤ MAX_BOARD }
-    requires left { IsLeft board left × IsCounted left }
-    requires whole { IsWhole left.seat.share }
+    requires output { IsOutput board output × IsCounted output }
+    requires whole { IsWhole output.seat.share }
     ensures found { IfOk result.found (IsExplored (S.successors space.now) (S.initial space.now) (S.is_good space.now)
         room.limit) }
     ensures too_many { IsErrOf result.found ExploreFault.TooMany
@@ -83,11 +87,11 @@ pub(crate) fn answer<S: Space, A: Allocator + Copy>(
     ensures each_once { IfOk result.found (λ found. result.claims ≡ found.total) }
     ensures at_most_once { HoldsOfAtLeast (IsReached (S.successors space.now) (S.initial space.now)) result.claims }
 {
-    let Left {
+    let WorkerOutput {
         mut seat,
         expanded: claims,
         is_over,
-    } = left;
+    } = output;
     let is_finished = board.finished(&mut seat);
     let contents = board.close(seat);
     if is_finished {

@@ -6,9 +6,9 @@ ghost use Rattle.seen_board.specs.Clauses.{HasClaim, HasPlace, SeesOn, word_at};
 ghost use Rattle.seen_board.specs.Inserts.{IsSuccessor};
 ghost use Rattle.seen_board.specs.Ended.{claims_made};
 ghost use Rattle.explorers.specs.Ready.{Counts, IsFree, IsReady, Keeps, KnowsOver, PutsIn};
-ghost use Rattle.explorers.specs.declared.exploration.Turn.TheVariants as turn;
+ghost use Rattle.explorers.specs.declared.exploration.Round.TheVariants as round;
 
-use crate::exploration::{Exploration, Turn};
+use crate::exploration::{Exploration, Round};
 use crate::gate::Gate;
 use crate::tasks::Task;
 use crate::worker::Worker;
@@ -24,7 +24,7 @@ impl<S: Space, G: Gate, A: Allocator + Copy> Exploration<'_, S, G, A> {
         rt: &R,
         mine: &mut Worker<S::Scratch, A>,
         place: Place,
-    ) -> Result<Turn, AllocError>
+    ) -> Result<Round, AllocError>
         requires ready { IsReady self.now.board.now self.now.space.now S.is_own mine.old }
         ensures ready { IsReady self.now.board.now self.now.space.now S.is_own mine.new }
         ensures one { claims_made mine.new.seat ≤ claims_made mine.old.seat + 1 }
@@ -32,7 +32,7 @@ impl<S: Space, G: Gate, A: Allocator + Copy> Exploration<'_, S, G, A> {
         ensures over { KnowsOver result mine.new }
     {
         if !mine.seat.has_seen(place) {
-            return Ok(Turn::Within);
+            return Ok(Round::Within);
         }
         self.visit(rt, mine, place)
     }
@@ -44,7 +44,7 @@ impl<S: Space, G: Gate, A: Allocator + Copy> Exploration<'_, S, G, A> {
         rt: &R,
         mine: &mut Worker<S::Scratch, A>,
         place: Place,
-    ) -> Result<Turn, AllocError>
+    ) -> Result<Round, AllocError>
         requires ready { IsReady self.now.board.now self.now.space.now S.is_own mine.old }
         requires seen { HasPlace mine.old.seat.seen place }
         ensures ready { IsReady self.now.board.now self.now.space.now S.is_own mine.new }
@@ -54,12 +54,12 @@ impl<S: Space, G: Gate, A: Allocator + Copy> Exploration<'_, S, G, A> {
         ensures over { KnowsOver result mine.new }
     {
         if !self.board.claim(&mut mine.seat, place) {
-            return Ok(Turn::Within);
+            return Ok(Round::Within);
         }
         let word = self.board.at(&mut mine.seat, place);
         self.gate.claimed(mine.number, word);
         match self.expand(rt, mine, place) {
-            Ok(turn) => Ok(turn),
+            Ok(round) => Ok(round),
             Err(refused) => {
                 self.board.stop(&mut mine.seat);
                 Err(refused)
@@ -76,7 +76,7 @@ impl<S: Space, G: Gate, A: Allocator + Copy> Exploration<'_, S, G, A> {
         rt: &R,
         mine: &mut Worker<S::Scratch, A>,
         place: Place,
-    ) -> Result<Turn, AllocError>
+    ) -> Result<Round, AllocError>
         requires free { IsFree self.now.board.now self.now.space.now S.is_own mine.old }
         requires claim { HasClaim mine.old.seat place × HasPlace mine.old.seat.seen place }
         requires counted { Counts mine.old.expanded (mine.old.seat.verdicts + length mine.old.seat.given_up) }
@@ -91,12 +91,12 @@ impl<S: Space, G: Gate, A: Allocator + Copy> Exploration<'_, S, G, A> {
         let word = self.board.at(&mut mine.seat, place);
         let mut ahead = self.space.ahead(word);
         while let Some(next) = self.space.advance(word, &mut ahead) {
-            if let Turn::Over = self.put_in(rt, mine, next)? {
-                return Ok(Turn::Over);
+            if let Round::Over = self.put_in(rt, mine, next)? {
+                return Ok(Round::Over);
             }
         }
         self.judge(mine, place, word)?;
-        Ok(Turn::Within)
+        Ok(Round::Within)
     }
 
     /// Judges the word of a claimed entry, of which all successors are in, and settles the entry.
@@ -129,30 +129,30 @@ impl<S: Space, G: Gate, A: Allocator + Copy> Exploration<'_, S, G, A> {
         rt: &R,
         mine: &mut Worker<S::Scratch, A>,
         word: u128,
-    ) -> Result<Turn, AllocError>
+    ) -> Result<Round, AllocError>
         requires free { IsFree self.now.board.now self.now.space.now S.is_own mine.old }
         requires successor { IsSuccessor (S.successors self.now.space.now) mine.old.seat word }
         ensures free { IsFree self.now.board.now self.now.space.now S.is_own mine.new }
         ensures expanded { mine.new.expanded ≡ mine.old.expanded }
         ensures keeps { Keeps mine.old.seat mine.new.seat }
         ensures sees { SeesOn mine.old.seat.seen mine.new.seat.seen }
-        ensures within { IfOk result (λ t. t ≢ turn.Over → PutsIn word mine.old.seat mine.new.seat) }
-        ensures over { IfOk result (λ t. t ≡ turn.Over → (mine.new.seat.claims ≡ 0) × (mine.new.seat.over ≡ 1)) }
+        ensures within { IfOk result (λ t. t ≢ round.Over → PutsIn word mine.old.seat mine.new.seat) }
+        ensures over { IfOk result (λ t. t ≡ round.Over → (mine.new.seat.claims ≡ 0) × (mine.new.seat.over ≡ 1)) }
     {
         if mine.recent.has(word) {
-            return Ok(Turn::Within);
+            return Ok(Round::Within);
         }
         let put = self.board.insert(rt, &mut mine.seat, word);
         if let Put::Over = put {
-            return Ok(Turn::Over);
+            return Ok(Round::Over);
         }
         mine.recent.keep(word);
         match put {
             Put::New(place) => match mine.tasks.push(Task { word, place }) {
-                Ok(()) => Ok(Turn::Within),
+                Ok(()) => Ok(Round::Within),
                 Err(_) => Err(AllocError),
             },
-            _ => Ok(Turn::Within),
+            _ => Ok(Round::Within),
         }
     }
 }

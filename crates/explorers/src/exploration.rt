@@ -14,7 +14,7 @@ pub(crate) struct Exploration<'a, S: Space, G, A: Allocator + Copy> {
 
 /// How a worker's round ends, if no memory was refused.
 #[derive(Clone, Copy, Debug, PartialEq, Eq, Drop)]
-pub(crate) enum Turn {
+pub(crate) enum Round {
     /// The worker goes on.
     Within,
     /// The board said that more words than the limit are reached.

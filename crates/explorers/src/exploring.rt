@@ -8,7 +8,7 @@ ghost use Rattle.board_rule.specs.Rule.{IsWhole, Overfills};
 ghost use Rattle.patch_sets.specs.Explored.{IsExplored, ReachExceeds};
 ghost use Rattle.seen_board.specs.Ended.{claims_made};
 ghost use Rattle.explorers.specs.Claims.{HoldsOfAtLeast};
-ghost use Rattle.explorers.specs.Ready.{IsIdle, IsReady, IsLeft, IsCounted};
+ghost use Rattle.explorers.specs.Ready.{IsIdle, IsReady, IsOutput, IsCounted};
 ghost use Rattle.explorers.specs.Rooms.{HoldsFullest};
 ghost use Rattle.explorers.specs.Shares.{MakeWhole};
 
@@ -18,7 +18,7 @@ use crate::gate::Gate;
 use crate::recently_seen::RecentlySeen;
 use crate::rows::Room;
 use crate::tasks::{Task, Tasks};
-use crate::worker::{Left, ThreadJob, Worker};
+use crate::worker::{ThreadJob, Worker, WorkerOutput};
 use hands::{Hand, hands};
 use patch_sets::explored::{ExploreFault, Explored};
 use seen_board::{Board, BoardSeat, Place};
@@ -152,8 +152,8 @@ where
         space,
         gate,
     };
-    let left = work_all(rt, alloc, &exploration, seat, hands)?;
-    Ok(answer(alloc, space, room, board, left))
+    let output = work_all(rt, alloc, &exploration, seat, hands)?;
+    Ok(answer(alloc, space, room, board, output))
 }
 
 /// Lets a worker work for each hand, and joins what they leave to the seat, which has the whole board before and after.
@@ -163,7 +163,7 @@ fn work_all<R, A, S, G>(
     exploration: &Exploration<'_, S, G, A>,
     mut seat: BoardSeat,
     hands: Vec<Hand<Task, A>, A>,
-) -> Result<Left, AllocError>
+) -> Result<WorkerOutput, AllocError>
 where
     R: Threads + Wait + Sync,
     A: Allocator + Copy + Send + Sync,
@@ -177,9 +177,9 @@ where
     requires start { Has seat.seen (S.initial exploration.now.space.now) }
     requires few { length hands.items ≤ 16 }
     requires ways { All (λ hand. length hand.ways ≡ length hands.items) hands.items }
-    ensures left { IfOk result (IsLeft exploration.now.board.now) }
+    ensures output { IfOk result (IsOutput exploration.now.board.now) }
     ensures counted { IfOk result IsCounted }
-    ensures whole { IfOk result (λ left. IsWhole left.seat.share) }
+    ensures whole { IfOk result (λ output. IsWhole output.seat.share) }
 {
     let workers = new_workers(
         alloc,
@@ -188,13 +188,13 @@ where
         &mut seat,
         hands,
     )?;
-    let left = run_on_threads(rt, &ThreadJob { rt, exploration }, workers)?;
-    let before = Left {
+    let output = run_on_threads(rt, &ThreadJob { rt, exploration }, workers)?;
+    let before = WorkerOutput {
         seat,
         expanded: 0,
         is_over: false,
     };
-    Ok(join_all(exploration.board, before, left))
+    Ok(join_all(exploration.board, before, output))
 }
 
 /// A hand for each worker. The first has the initial word, which is at `place`, as its task.

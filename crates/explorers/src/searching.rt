@@ -4,7 +4,7 @@ ghost use Rattle.board_rule.specs.Lists.{row_of};
 ghost use Rattle.seen_board.specs.Clauses.{SeesOn};
 ghost use Rattle.explorers.specs.Ready.{IsIdle, IsReady, Keeps, KnowsOver};
 
-use crate::exploration::{Exploration, Turn};
+use crate::exploration::{Exploration, Round};
 use crate::gate::Gate;
 use crate::worker::Worker;
 use seen_board::{Board, BoardSeat, Place, SHARDS};
@@ -18,18 +18,18 @@ impl<S: Space, G: Gate, A: Allocator + Copy> Exploration<'_, S, G, A> {
         &self,
         rt: &R,
         mine: &mut Worker<S::Scratch, A>,
-    ) -> Result<Turn, AllocError>
+    ) -> Result<Round, AllocError>
         requires ready { IsReady self.now.board.now self.now.space.now S.is_own mine.old }
         ensures ready { IsReady self.now.board.now self.now.space.now S.is_own mine.new }
         ensures share { mine.new.seat.share ≡ mine.old.seat.share }
         ensures over { KnowsOver result mine.new }
     {
         for shard in 0..SHARDS as u8 {
-            if let Turn::Over = self.search_shard(rt, mine, shard)? {
-                return Ok(Turn::Over);
+            if let Round::Over = self.search_shard(rt, mine, shard)? {
+                return Ok(Round::Over);
             }
         }
-        Ok(Turn::Within)
+        Ok(Round::Within)
     }
 
     /// Tries to claim each place of a shard that the worker has not tried, and expands what it claims.
@@ -38,7 +38,7 @@ impl<S: Space, G: Gate, A: Allocator + Copy> Exploration<'_, S, G, A> {
         rt: &R,
         mine: &mut Worker<S::Scratch, A>,
         shard: u8,
-    ) -> Result<Turn, AllocError>
+    ) -> Result<Round, AllocError>
         requires ready { IsReady self.now.board.now self.now.space.now S.is_own mine.old }
         requires shard { shard < SHARDS }
         ensures ready { IsReady self.now.board.now self.now.space.now S.is_own mine.new }
@@ -48,11 +48,11 @@ impl<S: Space, G: Gate, A: Allocator + Copy> Exploration<'_, S, G, A> {
         let count = see_shard(rt, self.board, &mut mine.seat, shard);
         for at in mine.tried[shard as usize]..count {
             mine.tried[shard as usize] = at + 1;
-            if let Turn::Over = self.visit(rt, mine, Place { shard, at })? {
-                return Ok(Turn::Over);
+            if let Round::Over = self.visit(rt, mine, Place { shard, at })? {
+                return Ok(Round::Over);
             }
         }
-        Ok(Turn::Within)
+        Ok(Round::Within)
     }
 }
 

@@ -2,7 +2,7 @@
 ghost use Rattle.std.specs.Prelude.{◌≡◌};
 ghost use Rattle.explorers.specs.Ready.{IsReady, KnowsOver};
 
-use crate::exploration::{Exploration, Turn};
+use crate::exploration::{Exploration, Round};
 use crate::gate::Gate;
 use crate::recently_seen::RecentlySeen;
 use crate::stealing::learn;
@@ -62,7 +62,7 @@ impl<C, A: Allocator> Worker<C, A> {
 /// The result of a worker: its seat, how many entries it has expanded, and whether the board said that more words than
 /// the limit are reached.
 #[derive(Drop)]
-pub(crate) struct Left {
+pub(crate) struct WorkerOutput {
     pub seat: BoardSeat,
     pub expanded: usize,
     pub is_over: bool,
@@ -78,31 +78,31 @@ pub(crate) struct ThreadJob<'a, R, S: Space, G, A: Allocator + Copy> {
 impl<'a, R: Wait, S: Space, G: Gate, A: Allocator + Copy> Job for ThreadJob<'a, R, S, G, A> {
     type Worker = Worker<S::Scratch, A>;
 
-    type Left = Left;
+    type Output = WorkerOutput;
 
-    ghost use Rattle.explorers.specs.Ready.{IsReady, IsLeftBy};
+    ghost use Rattle.explorers.specs.Ready.{IsReady, IsOutputOf};
 
     ghost is_ready = { λ job worker.
         IsReady job.exploration.now.board.now job.exploration.now.space.now S.is_own worker };
 
-    ghost is_left = { λ job worker left. IsLeftBy job.exploration.now.board.now worker left };
+    ghost is_output = { λ job worker output. IsOutputOf job.exploration.now.board.now worker output };
 
     /// Works until the board is finished, a stop was read, more words than the limit are reached or memory was
     /// refused.
-    fn work(&self, mut worker: Worker<S::Scratch, A>) -> Left {
+    fn work(&self, mut worker: Worker<S::Scratch, A>) -> WorkerOutput {
         let mut is_over = false;
         for _ in self.rt.forever() {
-            match self.exploration.turn(self.rt, &mut worker) {
-                Ok(Turn::Within) => {}
-                Ok(Turn::Over) => {
+            match self.exploration.round(self.rt, &mut worker) {
+                Ok(Round::Within) => {}
+                Ok(Round::Over) => {
                     is_over = true;
                     break;
                 }
-                Ok(Turn::Ended) | Err(_) => break,
+                Ok(Round::Ended) | Err(_) => break,
             }
         }
         let Worker { seat, expanded, .. } = worker;
-        Left {
+        WorkerOutput {
             seat,
             expanded,
             is_over,
@@ -112,14 +112,14 @@ impl<'a, R: Wait, S: Space, G: Gate, A: Allocator + Copy> Job for ThreadJob<'a, 
 
 impl<S: Space, G: Gate, A: Allocator + Copy> Exploration<'_, S, G, A> {
     /// Takes the newest of its own tasks, else the oldest of another worker's, else passes the round.
-    fn turn<R: Wait>(&self, rt: &R, mine: &mut Worker<S::Scratch, A>) -> Result<Turn, AllocError>
+    fn round<R: Wait>(&self, rt: &R, mine: &mut Worker<S::Scratch, A>) -> Result<Round, AllocError>
         requires ready { IsReady self.now.board.now self.now.space.now S.is_own mine.old }
         ensures ready { IsReady self.now.board.now self.now.space.now S.is_own mine.new }
         ensures share { mine.new.seat.share ≡ mine.old.seat.share }
         ensures over { KnowsOver result mine.new }
     {
         if self.board.stopped(&mut mine.seat) {
-            return Ok(Turn::Ended);
+            return Ok(Round::Ended);
         }
         match self.next_place(rt, mine) {
             Some(place) => {
@@ -145,19 +145,19 @@ impl<S: Space, G: Gate, A: Allocator + Copy> Exploration<'_, S, G, A> {
     }
 
     /// Passes a round in which all deques were found empty, and searches the rows in the last of many.
-    fn pass<R: Wait>(&self, rt: &R, mine: &mut Worker<S::Scratch, A>) -> Result<Turn, AllocError>
+    fn pass<R: Wait>(&self, rt: &R, mine: &mut Worker<S::Scratch, A>) -> Result<Round, AllocError>
         requires ready { IsReady self.now.board.now self.now.space.now S.is_own mine.old }
         ensures ready { IsReady self.now.board.now self.now.space.now S.is_own mine.new }
         ensures share { mine.new.seat.share ≡ mine.old.seat.share }
         ensures over { KnowsOver result mine.new }
     {
         if self.board.finished(&mut mine.seat) {
-            return Ok(Turn::Ended);
+            return Ok(Round::Ended);
         }
         yield_now();
         mine.empty_rounds = mine.empty_rounds.saturating_add(1);
         if mine.empty_rounds < EMPTY_ROUNDS {
-            return Ok(Turn::Within);
+            return Ok(Round::Within);
         }
         mine.empty_rounds = 0;
         self.search(rt, mine)

@@ -137,14 +137,14 @@ module _ (fails allowed : ℕ → Type 0) where
 
   pub counts_joined : (xs ys : List ℕ) (n k m : ℕ) (a b c : Option ℕ) → JoinsCounts n a k b m c
       → IsCount fails allowed xs n a → IsCount fails allowed ys k b → IsCount fails allowed (xs ++ ys) m c
-  counts_joined xs ys n k m a b c joins told later apart short = record {
+  counts_joined xs ys n k m a b c joins tallied later apart short = record {
     number = subst (HoldsOf (Among (xs ++ ys))) (sym (joins.number
         (few_fail (xs ++ ys) (Among (xs ++ ys)) (λ s is. is.0) short (n + k) number))) number;
     first = firsts_joined xs ys a b c joins.first one.first two.first;
   }
     where
       one : AreCounted fails allowed xs n a
-      one = told (left_apart xs ys apart) (omega (arith, short, length-append xs ys))
+      one = tallied (left_apart xs ys apart) (omega (arith, short, length-append xs ys))
 
       two : AreCounted fails allowed ys k b
       two = later (right_apart xs ys apart) (omega (arith, short, length-append xs ys))

@@ -16,7 +16,7 @@ use Rattle.crash_model.specs.declared.fault.Fault.{Fault}
 use Rattle.crash_model.specs.declared.fault.FaultRow.{FaultRow}
 use Rattle.crash_model.specs.declared.patches.Patch.{Patch}
 use Rattle.crash_image.specs.Moves.{Applied}
-use Rattle.failing_sets.specs.Summed.{TellsOnce, AreSummed, HasAmong, faults_after}
+use Rattle.failing_sets.specs.Summed.{HasEachOnce, AreSummed, HasAmong, faults_after}
 use Rattle.failing_sets.proofs.Sorted.{are_rows}
 use Rattle.failing_sets.proofs.Summed.{same_sums}
 
@@ -42,11 +42,11 @@ found_faults demands base patches set built after found made is listed = listed
     ∙ ap (faults_under demands set) (is ∙ ap image_after_replay made)
 
 -- the same of an image that was moved to the set, by what is demanded of it
-pub moved_faults : (told demands : Demands) (base : Disk) (patches : List Patch) (before after : Applied) (set : ℕ)
-    (image : Disk) → told ≡ demands → (before.base ≡ base) × (before.patches ≡ patches)
+pub moved_faults : (tallied demands : Demands) (base : Disk) (patches : List Patch) (before after : Applied) (set : ℕ)
+    (image : Disk) → tallied ≡ demands → (before.base ≡ base) × (before.patches ≡ patches)
     → after ≡ record before { set = set } → image ≡ image_after_replay (image_of after.base after.patches after.set)
-    → faults_under told set image ≡ faults_after demands base patches set
-moved_faults told demands base patches before after set image same own moved is =
+    → faults_under tallied set image ≡ faults_after demands base patches set
+moved_faults tallied demands base patches before after set image same own moved is =
     ap (λ (k : Demands). faults_under k set image) same ∙ ap (faults_under demands set)
     (is ∙ (ap (λ (a : Applied). image_after_replay (image_of a.base a.patches a.set)) moved
     ∙ (ap (λ (d : Disk). image_after_replay (image_of d before.patches set)) own.0
@@ -61,7 +61,7 @@ each_once sets ordered i j d lt within same = before_self (get_or sets j d)
 pub failing_rows : (demands : Demands) (base : Disk) (patches : List Patch) (sets : List ℕ) (old rows : List FaultRow)
     → AreAllInOrder (IsFailingUnder demands base patches) sets
     → AreSummed (HasAmong (faults_after demands base patches) sets) old → IsPermutation old rows
-    → (TellsOnce old → AllPairs (λ a b. IsFaultBefore a.fault b.fault) rows)
+    → (HasEachOnce old → AllPairs (λ a b. IsFaultBefore a.fault b.fault) rows)
     → AreRows (HasFault demands base patches) rows
 failing_rows demands base patches sets old rows all sums moved up =
     are_rows (HasFault demands base patches) old rows (same_sums (HasAmong (faults_after demands base patches) sets)

@@ -15,7 +15,7 @@ use Rattle.crash_model.specs.declared.fault.Fault.{Fault}
 use Rattle.crash_model.specs.declared.fault.FaultRow.{FaultRow}
 use Rattle.crash_model.specs.declared.patches.Patch.{Patch}
 use Rattle.failing_sets.specs.Counted.{CountsFailing}
-use Rattle.failing_sets.specs.Summed.{TellsOnce, HasAmong, faults_after}
+use Rattle.failing_sets.specs.Summed.{HasEachOnce, HasAmong, faults_after}
 use Rattle.failing_sets.specs.Tallied.{AreTallied, IsTally}
 use Rattle.failing_sets.proofs.Ordered.{all_in_order}
 use Rattle.failing_sets.proofs.Sorted.{are_rows}
@@ -31,9 +31,9 @@ module _ (base : Disk) (patches : List Patch) (sets : List ℕ)
   closed_count total counted = (sets, record { distinct = once; each = closed.each; every = closed.every }, counted)
 
   module _ (demands : Demands) (failing : ℕ) (old : List FaultRow) (short : length sets < 2 ^ 64)
-      (told : IsTally (faults_after demands base patches) sets failing old) where
+      (is_tally : IsTally (faults_after demands base patches) sets failing old) where
     tallied : AreTallied (faults_after demands base patches) sets failing old
-    tallied = told once short
+    tallied = is_tally once short
 
     fails : (s : ℕ) → FailsIn (faults_after demands base patches) sets s → IsFailingUnder demands base patches s
     fails s is = record {
@@ -62,7 +62,7 @@ module _ (base : Disk) (patches : List Patch) (sets : List ℕ)
     has_among f s is = (closed.every s is.failing.closed, is.found)
 
     pub swept_rows : (rows : List FaultRow) → IsPermutation old rows
-        → (TellsOnce old → AllPairs (λ a b. IsFaultBefore a.fault b.fault) rows)
+        → (HasEachOnce old → AllPairs (λ a b. IsFaultBefore a.fault b.fault) rows)
         → AreRows (HasFault demands base patches) rows
     swept_rows rows moved up =
         are_rows (HasFault demands base patches) old rows (same_sums (HasAmong (faults_after demands base patches) sets)

@@ -7,7 +7,7 @@ pub mod Sorted
 pub mod Summed
 pub mod FaultsSwept
 pub mod Tallied
-pub mod Told
+pub mod Adding
 pub mod Firsts
 pub mod Rooms
 pub mod Safe

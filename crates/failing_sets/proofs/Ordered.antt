@@ -121,10 +121,10 @@ put_in_order (x ∷ xs) apart = with_rest (put_in_order xs
 
 -- the sets that have a property, in canonical order
 pub all_in_order : (P : ℕ → Type 0) (n : ℕ) → HoldsOf P n → (sets : List ℕ) × AreAllInOrder P sets × (n ≡ length sets)
-all_in_order P n (words, list, count) = told (put_in_order words list.distinct)
+all_in_order P n (words, list, count) = tallied (put_in_order words list.distinct)
   where
-    told : ((sets : List ℕ) × IsOrdered words sets) → (sets : List ℕ) × AreAllInOrder P sets × (n ≡ length sets)
-    told (sets, is) = (
+    tallied : ((sets : List ℕ) × IsOrdered words sets) → (sets : List ℕ) × AreAllInOrder P sets × (n ≡ length sets)
+    tallied (sets, is) = (
       sets,
       record {
         ordered = is.ordered;

@@ -37,7 +37,7 @@ module _ (v : Compared) (deps : List ℕ) (total : ℕ) (tally : Count) (same : 
   once i j d lt within same = let up = closed.ascend i j d lt within in omega (arith, up, same)
 
   counted : AreCounted (IsBad v) (IsAllowed v) sets tally.failing tally.first
-  counted = all.told once (omega (arith, all.counted, short))
+  counted = all.tallied once (omega (arith, all.counted, short))
 
   same_sets : (s : ℕ) → FailsAmong (IsBad v) sets s ↔ IsFailingUnder v.demands v.base v.patches s
   same_sets s = (

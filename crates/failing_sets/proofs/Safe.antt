@@ -9,7 +9,7 @@ use Rattle.failing_sets.specs.declared.crashes.Crashes.{Crashes}
 -- no set is one of those that fail
 pub counts_none : {A : Type 0} (limit : ℕ) (c : Crashes A) (number : Option ℕ) (total : ℕ) → number ≡ Some total
     → MatchOption number (SomeFails c) (AreSafe limit c) → CountsFailing c.demands.now c.base.now c.graph.now 0
-counts_none limit c number total is told = (
+counts_none limit c number total is tallied = (
   [],
   record {
     ordered = λ i j d lt within. absurd (omega arith);
@@ -19,4 +19,4 @@ counts_none limit c number total is told = (
 )
   where
     safe : AreSafe limit c total
-    safe = subst (λ (o : Option ℕ). MatchOption o (SomeFails c) (AreSafe limit c)) is told
+    safe = subst (λ (o : Option ℕ). MatchOption o (SomeFails c) (AreSafe limit c)) is tallied

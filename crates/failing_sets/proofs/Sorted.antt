@@ -18,7 +18,7 @@ use Rattle.crash_model.specs.FaultOrder.{numbers_of, IsFaultBefore}
 use Rattle.crash_model.specs.declared.fault.Fault.{Fault}
 use Rattle.crash_model.specs.declared.fault.FaultRow.{FaultRow}
 use Rattle.crash_model.proofs.FaultNumbers.{same_fault}
-use Rattle.failing_sets.specs.Summed.{fault_of, TellsOnce, AreSummed}
+use Rattle.failing_sets.specs.Summed.{fault_of, HasEachOnce, AreSummed}
 
 abbrev is_fault : Fault → Fault → Bool
 is_fault f g = pointwise nat_eq (numbers_of f) (numbers_of g)
@@ -34,7 +34,7 @@ flips f g = nat_list_eq_equiv.symm (numbers_of f) (numbers_of g)
 
 -- ---- rows that change places
 
-moved_once : (old rows : List FaultRow) → TellsOnce old → IsPermutation old rows → TellsOnce rows
+moved_once : (old rows : List FaultRow) → HasEachOnce old → IsPermutation old rows → HasEachOnce rows
 moved_once old rows once moved =
     AllPairs-from_IsDistinct decides (map fault_of rows)
     (IsDistinct-IsPermutation is_fault flips (map fault_of old) (map fault_of rows)
@@ -55,7 +55,7 @@ abbrev numbers_in : FaultRow → List ℕ
 numbers_in row = numbers_of row.fault
 
 pub in_order : (old rows : List FaultRow) → IsPermutation old rows → IsSortedByKey numbers_in (slice_cmp nat_cmp) rows
-    → TellsOnce old → AllPairs (λ a b. IsFaultBefore a.fault b.fault) rows
+    → HasEachOnce old → AllPairs (λ a b. IsFaultBefore a.fault b.fault) rows
 in_order old rows moved up once i j d lt within =
     let once_there = moved_once old rows once moved in
     let at_i : get_or (map fault_of rows) i (fault_of d) ≡ (get_or rows i d).fault = get_or-map fault_of rows i d in
@@ -67,7 +67,7 @@ in_order old rows moved up once i j d lt within =
     (at_i ∙ (same ∙ sym at_j)))
 
 pub are_rows : (has : Fault → ℕ → Type 0) (old rows : List FaultRow) → AreSummed has old → IsPermutation old rows
-    → (TellsOnce old → AllPairs (λ a b. IsFaultBefore a.fault b.fault) rows) → AreRows has rows
+    → (HasEachOnce old → AllPairs (λ a b. IsFaultBefore a.fault b.fault) rows) → AreRows has rows
 are_rows has old rows sums moved up = record {
   ordered = up sums.once;
   each = All-permutation (IsRow has) old rows moved sums.each;

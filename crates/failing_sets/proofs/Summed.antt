@@ -21,7 +21,7 @@ use Rattle.crash_model.specs.FaultRows.{IsRow}
 use Rattle.crash_model.specs.FirstSets.{IsFirst}
 use Rattle.crash_model.specs.declared.fault.Fault.{Fault}
 use Rattle.crash_model.specs.declared.fault.FaultRow.{FaultRow}
-use Rattle.failing_sets.specs.Summed.{fault_of, TellsOnce, AreSummed, IsEarlier, IsNewRow, IsWiderRow, AddsRow}
+use Rattle.failing_sets.specs.Summed.{fault_of, HasEachOnce, AreSummed, IsEarlier, IsNewRow, IsWiderRow, AddsRow}
 use Rattle.failing_sets.specs.Summed.{AddsRows, AddsFaults, row_of}
 
 -- ---- the same sets by another property
@@ -153,9 +153,10 @@ module _ (has also : Fault → ℕ → Type 0) (row : FaultRow) where
       back s (inl is) = is
       back s (inr more) = absurd (apart more.0)
 
-  module _ (told : IsRow also row) (apart : (s : ℕ) → has row.fault s → also row.fault s → ⊥) (few : AreFew Both) where
+  module _ (tallied : IsRow also row) (apart : (s : ℕ) → has row.fault s → also row.fault s → ⊥)
+      (few : AreFew Both) where
     new_row : ((s : ℕ) → has row.fault s → ⊥) → IsRow Also row
-    new_row none = same_row also Also row (λ s. (λ is. inr (refl, is), back s)) told
+    new_row none = same_row also Also row (λ s. (λ is. inr (refl, is), back s)) tallied
       where
         back : (s : ℕ) → Also row.fault s → also row.fault s
         back s (inl is) = absurd (none s is)
@@ -179,9 +180,9 @@ module _ (has also : Fault → ℕ → Type 0) (row : FaultRow) where
     wider_row : (at : ℕ) (old new : List FaultRow) (w : IsWiderRow at old row new) → IsRow has w.was → IsRow Also w.both
     wider_row at old new w is =
         let number : HoldsOf Both (w.was.sets + row.sets) = both_numbers (has row.fault) (also row.fault) apart
-        w.was.sets row.sets (subst (λ (f : Fault). HoldsOf (has f) w.was.sets) w.same is.number) told.number in
+        w.was.sets row.sets (subst (λ (f : Fault). HoldsOf (has f) w.was.sets) w.same is.number) tallied.number in
         let first : IsFirst Both w.both.first = both_firsts (has row.fault) (also row.fault) apart w.was.first row.first
-        w.both.first w.first (subst (λ (f : Fault). IsFirst (has f) w.was.first) w.same is.first) told.first in
+        w.both.first w.first (subst (λ (f : Fault). IsFirst (has f) w.was.first) w.same is.first) tallied.first in
         record {
           number = subst (λ (f : Fault). HoldsOf (Also f) w.both.sets) (sym w.still)
               (same_numbers Both (Also row.fault) same_both w.both.sets
@@ -273,7 +274,7 @@ WithRows has also rows f s = has f s ⊎ (Contains (map fault_of rows) f × also
 sum_rows : (rows : List FaultRow) (has also : Fault → ℕ → Type 0) (old new : List FaultRow)
     → ((f : Fault) (s : ℕ) → Contains (map fault_of rows) f → has f s → also f s → ⊥)
     → ((f : Fault) → AreFew (Together has also f))
-    → TellsOnce rows → All (IsRow also) rows → AreSummed has old → AddsRows old rows new
+    → HasEachOnce rows → All (IsRow also) rows → AreSummed has old → AddsRows old rows new
     → AreSummed (WithRows has also rows) new
 sum_rows [] has also old new apart few once each sums is =
     subst (AreSummed (WithRows has also [])) (sym is) (same_sums has (WithRows has also [])
@@ -330,7 +331,7 @@ sum_together has also old others new apart few sums more adds =
   where
     to : (f : Fault) (s : ℕ) → WithRows has also others f s → Together has also f s
     to f s (inl is) = inl is
-    to f s (inr told) = inr told.1
+    to f s (inr tallied) = inr tallied.1
 
     from : (f : Fault) (s : ℕ) → Together has also f s → WithRows has also others f s
     from f s (inl is) = inl is
@@ -341,17 +342,17 @@ sum_together has also old others new apart few sums more adds =
 abbrev pub Of : ℕ → List Fault → Fault → ℕ → Type 0
 Of set faults f s = Contains faults f × (s ≡ set)
 
-told_back : (set : ℕ) (faults : List Fault) → map fault_of (map (row_of set) faults) ≡ faults
-told_back set [] = refl
-told_back set (f ∷ fs) = ap (λ (gs : List Fault). f ∷ gs) (told_back set fs)
+tallied_back : (set : ℕ) (faults : List Fault) → map fault_of (map (row_of set) faults) ≡ faults
+tallied_back set [] = refl
+tallied_back set (f ∷ fs) = ap (λ (gs : List Fault). f ∷ gs) (tallied_back set fs)
 
 one_set : (set : ℕ) (faults : List Fault) → AllPairs (λ f g. f ≢ g) faults
     → AreSummed (Of set faults) (map (row_of set) faults)
 one_set set faults once = record {
-  once = subst (AllPairs (λ f g. f ≢ g)) (sym (told_back set faults)) once;
+  once = subst (AllPairs (λ f g. f ≢ g)) (sym (tallied_back set faults)) once;
   each = All-map (IsRow (Of set faults)) (row_of set) faults
       (λ k d within. one_row (get_or faults k d) (Contains-get_or faults k d within));
-  every = λ f s is. subst (λ (fs : List Fault). Contains fs f) (sym (told_back set faults)) is.0;
+  every = λ f s is. subst (λ (fs : List Fault). Contains fs f) (sym (tallied_back set faults)) is.0;
 }
   where
     one_row : (f : Fault) → Contains faults f → IsRow (Of set faults) (row_of set f)
@@ -375,8 +376,9 @@ pub sum_set : (has : Fault → ℕ → Type 0) (set : ℕ) (faults : List Fault)
     → ((f : Fault) → has f set → ⊥) → ((f : Fault) → AreFew (Together has (Of set faults) f))
     → AreSummed has old → AddsFaults old set faults new → AreSummed (Together has (Of set faults)) new
 sum_set has set faults old new none few sums adds =
-    sum_together has (Of set faults) old (map (row_of set) adds.told) new (λ f s is of. none f (subst (has f) of.1 is))
+    sum_together has (Of set faults) old (map (row_of set) adds.tallied) new
+    (λ f s is of. none f (subst (has f) of.1 is))
     few sums
-    (same_sums (Of set adds.told) (Of set faults) (λ f s.
-    (λ is. ((adds.same f).0 is.0, is.1), λ is. ((adds.same f).1 is.0, is.1))) (map (row_of set) adds.told)
-    (one_set set adds.told adds.once)) adds.added
+    (same_sums (Of set adds.tallied) (Of set faults) (λ f s.
+    (λ is. ((adds.same f).0 is.0, is.1), λ is. ((adds.same f).1 is.0, is.1))) (map (row_of set) adds.tallied)
+    (one_set set adds.tallied adds.once)) adds.added

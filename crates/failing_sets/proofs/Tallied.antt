@@ -79,7 +79,7 @@ module _ (faults_of : ℕ → List Fault) where
   -- a set without a fault
   pub clean_set : (sets : List ℕ) (set n : ℕ) (rows : List FaultRow) → faults_of set ≡ []
       → IsTally faults_of sets n rows → IsTally faults_of (sets ++ set ∷ []) n rows
-  clean_set sets set n rows clean told apart short = record {
+  clean_set sets set n rows clean tallied apart short = record {
     number = same_numbers (FailsIn sets) (FailsIn (sets ++ set ∷ []))
         (λ s. (λ is. (Contains-append_left sets (set ∷ []) s is.0, is.1), fails s)) n before.number;
     summed = same_sums (HasAmong faults_of sets) (HasAmong faults_of (sets ++ set ∷ []))
@@ -87,7 +87,7 @@ module _ (faults_of : ℕ → List Fault) where
   }
     where
       before : AreTallied faults_of sets n rows
-      before = told (left_apart sets (set ∷ []) apart) (omega (arith, short, length-append sets (set ∷ [])))
+      before = tallied (left_apart sets (set ∷ []) apart) (omega (arith, short, length-append sets (set ∷ [])))
 
       fails : (s : ℕ) → FailsIn (sets ++ set ∷ []) s → FailsIn sets s
       fails s (there, ill) = elim (Contains-append_cases sets (set ∷ []) s there) [
@@ -106,7 +106,7 @@ module _ (faults_of : ℕ → List Fault) where
   pub failing_set : (sets : List ℕ) (set n m : ℕ) (old new : List FaultRow) → faults_of set ≢ []
       → (n + 1 < 2 ^ 64 → m ≡ n + 1) → AddsFaults old set (faults_of set) new → IsTally faults_of sets n old
       → IsTally faults_of (sets ++ set ∷ []) m new
-  failing_set sets set n m old new ill counted adds told apart short = record {
+  failing_set sets set n m old new ill counted adds tallied apart short = record {
     number = subst (HoldsOf (FailsIn (sets ++ set ∷ [])))
         (sym (counted (few_fail (sets ++ set ∷ []) (FailsIn (sets ++ set ∷ [])) (λ s is. is.0) short (n + 1) number)))
         number;
@@ -114,7 +114,7 @@ module _ (faults_of : ℕ → List Fault) where
   }
     where
       before : AreTallied faults_of sets n old
-      before = told (left_apart sets (set ∷ []) apart) (omega (arith, short, length-append sets (set ∷ [])))
+      before = tallied (left_apart sets (set ∷ []) apart) (omega (arith, short, length-append sets (set ∷ [])))
 
       to : (s : ℕ) → Either (FailsIn sets) (λ t. t ≡ set) s → FailsIn (sets ++ set ∷ []) s
       to s (inl is) = (Contains-append_left sets (set ∷ []) s is.0, is.1)
@@ -139,7 +139,7 @@ module _ (faults_of : ℕ → List Fault) where
   pub tallies_joined : (xs ys : List ℕ) (n k m : ℕ) (old others new : List FaultRow) → (n + k < 2 ^ 64 → m ≡ n + k)
       → AddsRows old others new → IsTally faults_of xs n old → IsTally faults_of ys k others
       → IsTally faults_of (xs ++ ys) m new
-  tallies_joined xs ys n k m old others new counted adds told later apart short = record {
+  tallies_joined xs ys n k m old others new counted adds tallied later apart short = record {
     number = subst (HoldsOf (FailsIn (xs ++ ys))) (sym (counted
         (few_fail (xs ++ ys) (FailsIn (xs ++ ys)) (λ s is. is.0) short (n + k) number))) number;
     summed = more_sets faults_of xs ys old others new (parts_apart xs ys apart)
@@ -147,7 +147,7 @@ module _ (faults_of : ℕ → List Fault) where
   }
     where
       one : AreTallied faults_of xs n old
-      one = told (left_apart xs ys apart) (omega (arith, short, length-append xs ys))
+      one = tallied (left_apart xs ys apart) (omega (arith, short, length-append xs ys))
 
       two : AreTallied faults_of ys k others
       two = later (right_apart xs ys apart) (omega (arith, short, length-append xs ys))

@@ -16,12 +16,12 @@ abbrev pub fault_of : FaultRow → Fault
 fault_of row = row.fault
 
 -- no fault has two rows
-abbrev pub TellsOnce : List FaultRow → Type 0
-TellsOnce rows = AllPairs (λ f g. f ≢ g) (map fault_of rows)
+abbrev pub HasEachOnce : List FaultRow → Type 0
+HasEachOnce rows = AllPairs (λ f g. f ≢ g) (map fault_of rows)
 
 -- each fault that a set has has one row, and no other fault has one
 pub record AreSummed (has : Fault → ℕ → Type 0) (rows : List FaultRow) : Type 0 where
-  pub once : TellsOnce rows
+  pub once : HasEachOnce rows
   pub each : All (IsRow has) rows
   pub every : (fault : Fault) (set : ℕ) → has fault set → Contains (map fault_of rows) fault
 
@@ -61,10 +61,10 @@ row_of set fault = record { fault = fault; sets = 1; first = set }
 
 -- one more set has the faults of the list, each of which counts once
 pub record AddsFaults (old : List FaultRow) (set : ℕ) (faults : List Fault) (new : List FaultRow) : Type 0 where
-  pub told : List Fault
-  pub once : AllPairs (λ f g. f ≢ g) told
-  pub same : (fault : Fault) → Contains told fault ↔ Contains faults fault
-  pub added : AddsRows old (map (row_of set) told) new
+  pub tallied : List Fault
+  pub once : AllPairs (λ f g. f ≢ g) tallied
+  pub same : (fault : Fault) → Contains tallied fault ↔ Contains faults fault
+  pub added : AddsRows old (map (row_of set) tallied) new
 
 -- one of these sets has the fault, where each set has the faults of its list
 abbrev pub HasAmong : (ℕ → List Fault) → List ℕ → Fault → ℕ → Type 0

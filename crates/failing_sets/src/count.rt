@@ -173,7 +173,7 @@ impl<'a, A: Allocator + Copy> Visitor for CountVisitor<'a, A> {
 
     ghost is_own = { λ v scratch. scratch ≡ record { base = v.base; patches = v.patches; demands = v.demands } };
 
-    ghost tells = { λ v sets tally. IsCount (IsBad v) (IsAllowed v) sets tally.failing tally.first };
+    ghost tallies = { λ v sets tally. IsCount (IsBad v) (IsAllowed v) sets tally.failing tally.first };
 
     fn scratch(&self) -> Result<Scratch<'a, A>, AllocError> {
         self.space.scratch()

@@ -25,5 +25,5 @@ pub use finder::Finder;
 pub use finding::{Found, Retained};
 pub use rows::fault_rows;
 pub use summary::Summary;
-pub use tally::{FaultScratch, FaultVisitor, SweptFaults, Tally, sweep_faults};
+pub use tally::{FaultScratch, FaultTally, FaultVisitor, SweptFaults, sweep_faults};
 pub use watching::GateWatch;

@@ -30,7 +30,7 @@ impl<A: Allocator> Model for Summary<A> {
 }
 
 impl<A: Allocator> Summary<A> {
-    ghost use Rattle.failing_sets.specs.Summed.{TellsOnce, IsWiderRow, AddsRow, AddsRows, AddsFaults};
+    ghost use Rattle.failing_sets.specs.Summed.{HasEachOnce, IsWiderRow, AddsRow, AddsRows, AddsFaults};
 
     /// No set, and so no fault.
     pub fn new(alloc: A) -> Summary<A>
@@ -74,7 +74,7 @@ impl<A: Allocator> Summary<A> {
     /// The rows, in the order of their faults.
     pub fn into_rows(self) -> Vec<FaultRow, A>
         ensures same { IsPermutation self result.items }
-        ensures ordered { TellsOnce self → AllPairs (λ a b. IsFaultBefore a.fault b.fault) result.items }
+        ensures ordered { HasEachOnce self → AllPairs (λ a b. IsFaultBefore a.fault b.fault) result.items }
     {
         let mut rows = self.rows;
         rows.sort_unstable_by_key(

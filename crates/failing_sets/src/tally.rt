@@ -60,7 +60,7 @@ where
     ensures too_many { IsErrOf result ExploreFault.TooMany → ExceedsLimit visitor.now.patches limit }
 {
     let swept = workers.sweep_with(visitor, deps, limit)?;
-    let Tally { failing, summary } = swept.tally;
+    let FaultTally { failing, summary } = swept.tally;
     Ok(SweptFaults {
         total: swept.total,
         failing,
@@ -70,7 +70,7 @@ where
 
 /// How many of some sets fail, and their faults.
 #[derive(Drop)]
-pub struct Tally<A: Allocator> {
+pub struct FaultTally<A: Allocator> {
     pub failing: usize,
     pub summary: Summary<A>,
 }
@@ -140,13 +140,13 @@ impl<'a, A: Allocator + Copy> Visitor for FaultVisitor<'a, A> {
 
     type Scratch = FaultScratch<'a, A>;
 
-    type Tally = Tally<A>;
+    type Tally = FaultTally<A>;
 
     ghost is_lawful = { λ v. IsClosed (deps_of v.patches) };
 
     ghost is_own = { λ v scratch. (scratch.images.base ≡ v.base) × (scratch.images.patches ≡ v.patches) };
 
-    ghost tells = { λ v sets tally.
+    ghost tallies = { λ v sets tally.
         IsTally (faults_after v.demands v.base v.patches) sets tally.failing tally.summary };
 
     fn scratch(&self) -> Result<FaultScratch<'a, A>, AllocError> {
@@ -156,8 +156,8 @@ impl<'a, A: Allocator + Copy> Visitor for FaultVisitor<'a, A> {
         })
     }
 
-    fn none(&self) -> Tally<A> {
-        Tally {
+    fn none(&self) -> FaultTally<A> {
+        FaultTally {
             failing: 0,
             summary: Summary::new(self.alloc),
         }
@@ -166,7 +166,7 @@ impl<'a, A: Allocator + Copy> Visitor for FaultVisitor<'a, A> {
     fn visit(
         &self,
         scratch: &mut FaultScratch<'a, A>,
-        tally: &mut Tally<A>,
+        tally: &mut FaultTally<A>,
         set: u128,
     ) -> Result<(), AllocError> {
         scratch.images.move_to(set);
@@ -184,13 +184,13 @@ impl<'a, A: Allocator + Copy> Visitor for FaultVisitor<'a, A> {
         Ok(())
     }
 
-    fn join(&self, tally: &mut Tally<A>, later: Tally<A>) -> Result<(), AllocError> {
+    fn join(&self, tally: &mut FaultTally<A>, later: FaultTally<A>) -> Result<(), AllocError> {
         tally.failing = tally.failing.wrapping_add(later.failing);
         tally.summary.join(&later.summary)?;
         Ok(())
     }
 
-    fn kept(&self, tally: &Tally<A>) -> usize {
+    fn kept(&self, tally: &FaultTally<A>) -> usize {
         tally.failing
     }
 }

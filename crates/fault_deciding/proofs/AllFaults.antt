@@ -18,8 +18,8 @@ use Rattle.crash_model.specs.declared.fault.Fault.TheVariants.{Dangling, Twice, 
 use Rattle.crash_model.specs.declared.fault.Fault.TheVariants.{Lost, NoBlock, HalfDone, BrokenPromise}
 use Rattle.known_bytes.specs.Texts.{lost_there, bare_there, half_done_there, has_fault}
 use Rattle.known_bytes.specs.SetFaults.{set_has_fault}
-use Rattle.known_bytes.proofs.ToldFaults.{HasSmallTargets, disk_faults, disk_there, twice_data}
-use Rattle.known_bytes.proofs.ToldSets.{all_there_of, from_broken, in_counted, from_counted}
+use Rattle.known_bytes.proofs.ListedFaults.{HasSmallTargets, disk_faults, disk_there, twice_data}
+use Rattle.known_bytes.proofs.ListedSets.{all_there_of, from_broken, in_counted, from_counted}
 use Rattle.fault_deciding.specs.Listed.{IsWithin, HasDangling, AreMost, HasFaultsOf, HasSlot, HasTwice, HasLow}
 use Rattle.fault_deciding.specs.Listed.{HasStrictUnder, HasHalfDone, HasPromised}
 use Rattle.fault_deciding.proofs.Pushed.{then_within, dangling_more, twice_more, slots_more, low_more}

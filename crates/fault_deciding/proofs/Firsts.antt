@@ -13,7 +13,7 @@ use Rattle.crash_model.specs.Checker.{Demands, faults_under, IsFailingUnder}
 use Rattle.crash_model.specs.FirstSets.{IsFirst}
 use Rattle.crash_model.specs.declared.fault.Fault.{Fault}
 use Rattle.known_bytes.specs.Chains.{Change}
-use Rattle.known_bytes.proofs.ToldSets.{all_told}
+use Rattle.known_bytes.proofs.ListedSets.{all_listed}
 use Rattle.set_families.specs.Firsts.{IsFirst as ComesFirst, IsFirstIfAny}
 use Rattle.fault_deciding.specs.Asked.{LeavesFault, HasFaultOf, AreFoundByTest, IsFirstWith}
 
@@ -46,7 +46,7 @@ fails_by_test demands c fault set closed leaves = record {
 }
   where
     there : Contains (faults_under demands set (image_after_replay (image_of c.base c.patches set))) fault
-    there = all_told demands set (image_after_replay (image_of c.base c.patches set)) fault leaves
+    there = all_listed demands set (image_after_replay (image_of c.base c.patches set)) fault leaves
 
 module _ (demands : Demands) (c : Change) (fault : Fault) (deps : List ℕ) (about : deps ≡ deps_of c.patches)
     (tested : AreFoundByTest demands c) where

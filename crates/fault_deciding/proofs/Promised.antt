@@ -25,7 +25,7 @@ use Rattle.known_bytes.specs.Family.{Family}
 use Rattle.known_bytes.specs.Reading.{Reading, InEachDisk, IsKnown}
 use Rattle.known_bytes.specs.SetFaults.{does_count, is_of_set}
 use Rattle.known_bytes.specs.Texts.{has_fault}
-use Rattle.known_bytes.proofs.ToldFaults.{left_of, right_of, both}
+use Rattle.known_bytes.proofs.ListedFaults.{left_of, right_of, both}
 use Rattle.set_families.specs.Families.{IsFamily, IsMember as IsClosedMember}
 use Rattle.set_families.specs.Questions.{IsAnswer}
 use Rattle.set_families.specs.declared.family.Family.{Family as Held}

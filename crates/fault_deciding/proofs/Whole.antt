@@ -75,11 +75,11 @@ module _ (has : Fault → ℕ → Type 0) (candidates : List Fault) (blank mixed
           → Contains (map (λ f. f.fault) faults) fault
       found fault set its h = by h.trial.first refl
         where
-          told : IsTried has h.trial
-          told = All-contains (IsTried has) sorted h.trial each_sorted h.there
+          listed : IsTried has h.trial
+          listed = All-contains (IsTried has) sorted h.trial each_sorted h.there
 
           by : (first : Option ℕ) → h.trial.first ≡ first → Contains (map (λ f. f.fault) faults) fault
-          by None e = absurd (none (subst (λ (x : Trial). IsTried has x) plain told))
+          by None e = absurd (none (subst (λ (x : Trial). IsTried has x) plain listed))
             where
               plain : h.trial ≡ record { fault = fault; first = None }
               plain = ap (λ o. record { fault = h.trial.fault; first = o }) e

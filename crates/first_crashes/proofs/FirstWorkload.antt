@@ -8,8 +8,8 @@ use Rattle.crash_model.specs.declared.patches.Patch.{Patch}
 use Rattle.crash_model.specs.declared.steps.Step.{Step}
 use Rattle.enough_deciding.specs.Rules.{IsGraphBy}
 use Rattle.question_model.specs.Enough.{rules_but}
-use Rattle.question_model.specs.EnoughReport.{IsToldAny, IsToldFirst}
-use Rattle.question_reports.specs.EnoughFindings.{told_first}
+use Rattle.question_model.specs.EnoughReport.{IsListedIfAny, IsListedFirst}
+use Rattle.question_reports.specs.EnoughFindings.{listed_first}
 use Rattle.question_reports.specs.declared.enough.findings.FirstFault.{FirstFault}
 use Rattle.fault_deciding.proofs.Firsts.{some_fault}
 use Rattle.pool_judging.specs.Judging.{SomeFails}
@@ -19,8 +19,8 @@ use Rattle.pool_judging.proofs.Workloads.{patches_but}
 use Rattle.question_model.specs.Sequences.{IsFirstSequence}
 use Rattle.question_model.specs.Workloads.{Search, Fails, HasPatches, workload_at}
 use Rattle.question_model.specs.EnoughFor.{FailsBy}
-use Rattle.question_model.specs.SearchRulesReport.{IsToldNeed, search_but}
-use Rattle.question_reports.specs.SearchRulesFindings.{told_need}
+use Rattle.question_model.specs.SearchRulesReport.{IsListedNeed, search_but}
+use Rattle.question_reports.specs.SearchRulesFindings.{listed_need}
 use Rattle.traced_patches.specs.Traced.{TracedPatches}
 
 module _ (s : Search) (group : ℕ) (places : List ℕ)
@@ -38,8 +38,8 @@ module _ (s : Search) (group : ℕ) (places : List ℕ)
       → made ≡ workload_at s places → steps ≡ made → others ≡ made → IsTraceOf s steps t
       → AreDemands s.asked s.base others demands → IsGraphBy (rules_but t.rules group) s.base t patches
       → HasPatches (search_but s group) places demands patches
-  patches_of made steps others t demands patches are same also is told by =
-      patches_but s places steps others t demands (same ∙ are) (also ∙ are) is told group patches by
+  patches_of made steps others t demands patches are same also is listed by =
+      patches_but s places steps others t demands (same ∙ are) (also ∙ are) is listed group patches by
 
   module _ (demands : Demands) (patches : List Patch)
       (has : HasPatches (search_but s group) places demands patches) where
@@ -52,18 +52,18 @@ module _ (s : Search) (group : ℕ) (places : List ℕ)
             (λ k ps. SomeFails k s.base ps) some
 
     -- so there is a first fault
-    pub some_told : (explain : Bool)
-        → ¬ (IsToldAny (record { explain = explain; demands = demands }) s.base patches None)
-    some_told explain none =
+    pub some_listed : (explain : Bool)
+        → ¬ (IsListedIfAny (record { explain = explain; demands = demands }) s.base patches None)
+    some_listed explain none =
         let fault = some_fault demands (record { base = s.base; patches = patches }) some_fails.0 some_fails.1 in
         none fault.0 some_fails.0 fault.1
 
-    pub need_told : {A : Type 0} (explain : Bool) (copy : ArrayVec ℕ) (number : ℕ) (fault : FirstFault A)
+    pub need_listed : {A : Type 0} (explain : Bool) (copy : ArrayVec ℕ) (number : ℕ) (fault : FirstFault A)
         → copy.items ≡ places → number ≡ length patches
-        → IsToldFirst (record { explain = explain; demands = demands }) s.base patches (told_first fault)
-        → IsToldNeed s explain
-        (told_need s.pool (record { group = group; places = copy; patches = number; fault = fault }))
-    need_told explain copy number fault same counted is = record {
+        → IsListedFirst (record { explain = explain; demands = demands }) s.base patches (listed_first fault)
+        → IsListedNeed s explain
+        (listed_need s.pool (record { group = group; places = copy; patches = number; fault = fault }))
+    need_listed explain copy number fault same counted is = record {
       earliest = subst (IsFirstSequence (FailsBy s (rules_but s.rules group))) (sym same) first;
       steps = refl;
       demands = demands;

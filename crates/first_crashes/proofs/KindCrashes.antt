@@ -11,9 +11,9 @@ use Rattle.crash_model.specs.declared.steps.Step.{Step}
 use Rattle.report_model.proofs.Leading.{sections_lead}
 use Rattle.report_sections.specs.Sections.{section_of, IsSection}
 use Rattle.report_sections.specs.declared.section.Section.{Section}
-use Rattle.report_sections.proofs.Pushed.{is_told}
-use Rattle.question_model.specs.Found.{IsShown}
-use Rattle.question_model.specs.SearchReport.{IsToldKind}
+use Rattle.report_sections.proofs.Pushed.{is_listed}
+use Rattle.question_model.specs.SearchCounts.{IsShown}
+use Rattle.question_model.specs.SearchReport.{IsListedKind}
 use Rattle.question_model.specs.Workloads.{Search, HasPatches, steps_at, workload_at}
 use Rattle.question_model.specs.declared.found.ShownKind.{ShownKind}
 use Rattle.pool_judging.specs.Traces.{IsTraced}
@@ -34,13 +34,13 @@ module _ (s : Search) (shown : ShownKind) (is : IsShown s shown) where
       → made ≡ workload_at s places → steps ≡ made → others ≡ made
       → HaveGraph s steps patches → AreDemands s.asked s.base others demands
       → HasPatches s places demands patches
-  patches_of made steps others demands patches are same also graph told =
+  patches_of made steps others demands patches are same also graph demanded =
       let at : HaveGraph s (workload_at s places) patches = subst (λ xs. HaveGraph s xs patches) (same ∙ are) graph in
       record {
         last = at.0;
         traced = at.1;
         graph = at.2;
-        told = subst (λ xs. AreDemands s.asked s.base xs demands) (also ∙ are) told;
+        demanded = subst (λ xs. AreDemands s.asked s.base xs demands) (also ∙ are) demanded;
       }
 
   -- a crash can leave its first set
@@ -48,31 +48,31 @@ module _ (s : Search) (shown : ShownKind) (is : IsShown s shown) where
       → IsClosed (deps_of patches) shown.first
   first_closed demands patches has = (is.first demands patches has).among.1.failing.closed
 
-  pub kind_told : {A : Type 0} (explain : Bool) (demands : Demands) (patches : List Patch) (number : ℕ)
+  pub kind_listed : {A : Type 0} (explain : Bool) (demands : Demands) (patches : List Patch) (number : ℕ)
       (section : Section A) → number ≡ length patches → HasPatches s places demands patches
       → IsSection (record { explain = explain; demands = demands }) s.base patches shown.first section
-      → IsToldKind s explain (record {
+      → IsListedKind s explain (record {
         shown = shown;
         steps = steps_at s.pool places;
         patches = number;
         first = section_of section;
       })
-  kind_told explain demands patches number section same has of_set = record {
+  kind_listed explain demands patches number section same has of_set = record {
     steps = refl;
     demands = demands;
     patches = patches;
     traced = has;
     number = same;
-    section = told;
+    section = demanded;
     led = All-head (IsLed patches) (section_of section) [] (sections_lead s.base patches has.graph.earlier detail
-        (shown.first ∷ []) (section_of section ∷ []) alone told);
+        (shown.first ∷ []) (section_of section ∷ []) alone demanded);
   }
     where
       detail : Detail
       detail = record { explain = explain; demands = demands }
 
-      told : AreSections detail s.base patches (shown.first ∷ []) (section_of section ∷ [])
-      told = is_told detail s.base patches shown.first section of_set
+      demanded : AreSections detail s.base patches (shown.first ∷ []) (section_of section ∷ [])
+      demanded = is_listed detail s.base patches shown.first section of_set
 
       alone : All (IsClosed (deps_of patches)) (shown.first ∷ [])
       alone = All-cons (IsClosed (deps_of patches)) shown.first [] (first_closed demands patches has)

@@ -7,8 +7,8 @@ use Rattle.patch_sets.specs.Sets.{AreAllInOrder}
 use Rattle.crash_model.specs.declared.steps.Step.{Step}
 use Rattle.question_model.specs.Workloads.{Search}
 use Rattle.question_model.specs.EnoughFor.{IsNeededInSearch}
-use Rattle.question_model.specs.SearchRulesReport.{ToldNeed}
-use Rattle.question_reports.specs.SearchRulesFindings.{told_need}
+use Rattle.question_model.specs.SearchRulesReport.{ListedNeed}
+use Rattle.question_reports.specs.SearchRulesFindings.{listed_need}
 use Rattle.question_reports.specs.declared.search_rules.findings.NeededWorkload.{NeededWorkload}
 
 -- the minimal groups of which one is needed are such
@@ -27,10 +27,10 @@ group_more {A = A} groups i needs after needed within so_far is more =
     ∙ (ap₂ (λ (gs : List ℕ) (g : ℕ). gs ++ g ∷ []) so_far is ∙ sym (take_more groups i 0 within)))
 
 -- and what the report says about it
-pub told_more : {A : Type 0} (P : ToldNeed → Type 0) (pool : List Step) (needs after : List (NeededWorkload A))
-    (needed : NeededWorkload A) → All P (map (told_need pool) needs) → P (told_need pool needed)
-    → after ≡ needs ++ needed ∷ [] → All P (map (told_need pool) after)
-told_more {A = A} P pool needs after needed so_far one more =
-    let told : NeededWorkload A → ToldNeed = told_need pool in
-    subst (All P) (sym (ap (map told) more ∙ map_push told needs needed))
-    (All-push P (map told needs) (told needed) so_far one)
+pub listed_more : {A : Type 0} (P : ListedNeed → Type 0) (pool : List Step) (needs after : List (NeededWorkload A))
+    (needed : NeededWorkload A) → All P (map (listed_need pool) needs) → P (listed_need pool needed)
+    → after ≡ needs ++ needed ∷ [] → All P (map (listed_need pool) after)
+listed_more {A = A} P pool needs after needed so_far one more =
+    let listed : NeededWorkload A → ListedNeed = listed_need pool in
+    subst (All P) (sym (ap (map listed) more ∙ map_push listed needs needed))
+    (All-push P (map listed needs) (listed needed) so_far one)

@@ -19,23 +19,23 @@ use Rattle.question_model.specs.declared.decided_fault.DecidedFault.{DecidedFaul
 use Rattle.fault_deciding.specs.Asked.{IsFirstDecided}
 use Rattle.fault_deciding.proofs.Firsts.{some_fault}
 use Rattle.question_model.specs.Enough.{AreEnough, IsNeeded, rules_but}
-use Rattle.question_model.specs.EnoughReport.{IsToldAny, IsToldFirst, ToldGroup}
+use Rattle.question_model.specs.EnoughReport.{IsListedIfAny, IsListedFirst, ListedGroup}
 use Rattle.enough_deciding.specs.Rules.{IsGraphBy, tracing_of}
 use Rattle.enough_deciding.proofs.Tracings.{one_tracing}
-use Rattle.question_reports.specs.EnoughFindings.{told_first, told_group}
+use Rattle.question_reports.specs.EnoughFindings.{listed_first, listed_group}
 use Rattle.question_reports.specs.declared.enough.findings.NeededGroup.{NeededGroup}
 use Rattle.traced_patches.specs.Traced.{TracedPatches}
 use Rattle.report_sections.specs.Sections.{section_of, IsSection}
 use Rattle.report_sections.specs.declared.section.Section.{Section}
-use Rattle.report_sections.proofs.Pushed.{is_told}
+use Rattle.report_sections.proofs.Pushed.{is_listed}
 use Rattle.first_crashes.specs.Sparing.{detail_with}
 
 -- the first fault with the section of its first set
-pub told_some : {A : Type 0} (detail : Detail) (base : Disk) (patches : List Patch) (decided : DecidedFault)
+pub listed_some : {A : Type 0} (detail : Detail) (base : Disk) (patches : List Patch) (decided : DecidedFault)
     (s : Section A) → AreEarlier (deps_of patches) → IsFirstDecided (HasFault detail.demands base patches) decided
     → IsSection detail base patches decided.first s
-    → IsToldFirst detail base patches (told_first (record { decided = decided; section = s }))
-told_some detail base patches decided s earlier is of_set = record {
+    → IsListedFirst detail base patches (listed_first (record { decided = decided; section = s }))
+listed_some detail base patches decided s earlier is of_set = record {
   fault = record { first = is.first; before = is.before };
   section = are;
   led = All-head (IsLed patches) (section_of s) [] (sections_lead base patches earlier detail (decided.first ∷ [])
@@ -43,7 +43,7 @@ told_some detail base patches decided s earlier is of_set = record {
 }
   where
     are : AreSections detail base patches (decided.first ∷ []) (section_of s ∷ [])
-    are = is_told detail base patches decided.first s of_set
+    are = is_listed detail base patches decided.first s of_set
 
     alone : All (IsClosed (deps_of patches)) (decided.first ∷ [])
     alone = All-cons (IsClosed (deps_of patches)) decided.first [] is.first.among.failing.closed
@@ -58,7 +58,7 @@ none_first demands base patches decided none is = none decided.first is.first.am
 -- rules are enough where no set has a fault
 pub enough_where_none : (explain : Bool) (demands : Demands) (base : Disk) (t : TracedPatches) (rules : List Rule)
     (patches : List Patch) → IsGraphBy rules base t patches
-    → IsToldAny (detail_with explain demands) base patches None → AreEnough demands base (tracing_of base t) rules
+    → IsListedIfAny (detail_with explain demands) base patches None → AreEnough demands base (tracing_of base t) rules
 enough_where_none explain demands base t rules patches graph none = (
   patches,
   graph (tracing_of base t) (one_tracing base t),
@@ -83,9 +83,9 @@ group_more {A = A} groups i needs after needed within so_far is more =
     ∙ (ap₂ (λ (gs : List ℕ) (g : ℕ). gs ++ g ∷ []) so_far is ∙ sym (take_more groups i 0 within)))
 
 -- and what is reported of it
-pub told_more : {A : Type 0} (P : ToldGroup → Type 0) (needs after : List (NeededGroup A)) (needed : NeededGroup A)
-    → All P (map told_group needs) → P (told_group needed) → after ≡ needs ++ needed ∷ []
-    → All P (map told_group after)
-told_more {A = A} P needs after needed so_far one more =
-    subst (All P) (sym (ap (map (told_group {A = A})) more ∙ map_push (told_group {A = A}) needs needed))
-    (All-push P (map told_group needs) (told_group needed) so_far one)
+pub listed_more : {A : Type 0} (P : ListedGroup → Type 0) (needs after : List (NeededGroup A)) (needed : NeededGroup A)
+    → All P (map listed_group needs) → P (listed_group needed) → after ≡ needs ++ needed ∷ []
+    → All P (map listed_group after)
+listed_more {A = A} P needs after needed so_far one more =
+    subst (All P) (sym (ap (map (listed_group {A = A})) more ∙ map_push (listed_group {A = A}) needs needed))
+    (All-push P (map listed_group needs) (listed_group needed) so_far one)

@@ -5,18 +5,18 @@ use Rattle.crash_model.specs.Tracing.{Tracing, trace_start}
 use Rattle.crash_model.specs.declared.patches.Patch.{Patch}
 use Rattle.crash_model.specs.declared.steps.Step.{Step}
 use Rattle.report_sections.specs.Sections.{section_of}
-use Rattle.question_model.specs.SearchReport.{ToldKind}
+use Rattle.question_model.specs.SearchReport.{ListedKind}
 use Rattle.question_model.specs.Workloads.{Search, steps_at}
 use Rattle.question_model.specs.declared.found.ShownKind.{ShownKind}
 use Rattle.first_crashes.specs.declared.kinds.KindSection.{KindSection}
 
 -- its steps are at the places of its first workload
-abbrev pub told_kind : {A : Type 0} → List Step → ShownKind → KindSection A → ToldKind
-told_kind pool shown told = record {
+abbrev pub listed_kind : {A : Type 0} → List Step → ShownKind → KindSection A → ListedKind
+listed_kind pool shown listed = record {
   shown = shown;
   steps = steps_at pool shown.places.items;
-  patches = told.patches;
-  first = section_of told.section;
+  patches = listed.patches;
+  first = section_of listed.section;
 }
 
 -- the patches are those of the steps

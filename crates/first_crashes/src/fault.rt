@@ -4,8 +4,8 @@ ghost use Rattle.std.specs.Prelude.{◌≡◌, ℕ, None, option_map, IfOk};
 ghost use Rattle.patch_sets.specs.Closed.{AreEarlier};
 ghost use Rattle.crash_model.specs.Patches.{deps_of};
 ghost use Rattle.crash_model.specs.Checker.{IsFailingUnder};
-ghost use Rattle.question_model.specs.EnoughReport.{IsToldAny};
-ghost use Rattle.question_reports.specs.EnoughFindings.{told_first};
+ghost use Rattle.question_model.specs.EnoughReport.{IsListedIfAny};
+ghost use Rattle.question_reports.specs.EnoughFindings.{listed_first};
 ghost use Rattle.report_sections.specs.Bodies.{AreOnBase};
 ghost use Rattle.first_crashes.specs.Sparing.{detail_with};
 
@@ -26,8 +26,8 @@ pub fn first_fault<A: Allocator + Copy>(
     demands: &Demands<A>,
 ) -> Result<Option<FirstFault<A>>, AllocError>
     requires on_base { AreOnBase base.now graph.now }
-    ensures told { IfOk result (λ first. AreEarlier (deps_of graph.now)
-        → IsToldAny (detail_with explain demands.now) base.now graph.now (option_map told_first first)) }
+    ensures listed { IfOk result (λ first. AreEarlier (deps_of graph.now)
+        → IsListedIfAny (detail_with explain demands.now) base.now graph.now (option_map listed_first first)) }
     ensures safe { ((set : ℕ) → ¬ (IsFailingUnder demands.now base.now graph.now set))
         → IfOk result (λ first. first ≡ None) }
 {

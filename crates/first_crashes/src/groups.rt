@@ -3,9 +3,9 @@
 ghost use Rattle.std.specs.Prelude.{◌≡◌, map, IfOk};
 ghost use Rattle.std.specs.List.{All};
 ghost use Rattle.crash_model.specs.Tracing.{Tracing};
-ghost use Rattle.question_model.specs.EnoughReport.{IsToldGroup};
+ghost use Rattle.question_model.specs.EnoughReport.{IsListedGroup};
 ghost use Rattle.enough_deciding.specs.Rules.{IsTracingOf};
-ghost use Rattle.question_reports.specs.EnoughFindings.{told_first, told_group};
+ghost use Rattle.question_reports.specs.EnoughFindings.{listed_first, listed_group};
 ghost use Rattle.first_crashes.specs.Sparing.{CannotSpare, detail_with};
 
 use crate::fault::first_fault;
@@ -22,9 +22,9 @@ pub fn needed_groups<A: Allocator + Copy>(
 ) -> Result<Vec<NeededGroup<A>, A>, AllocError>
     requires { All (CannotSpare oracle.now) groups.now }
     ensures groups { IfOk result (λ needs. map (λ needed. needed.group) needs.items ≡ groups.now) }
-    ensures told { IfOk result (λ needs. (s : Tracing) → IsTracingOf oracle.now.traced.now s
-        → All (IsToldGroup (detail_with explain oracle.now.demands.now) oracle.now.traced.now.rules
-        oracle.now.base.now s) (map told_group needs.items)) }
+    ensures listed { IfOk result (λ needs. (s : Tracing) → IsTracingOf oracle.now.traced.now s
+        → All (IsListedGroup (detail_with explain oracle.now.demands.now) oracle.now.traced.now.rules
+        oracle.now.base.now s) (map listed_group needs.items)) }
 {
     let mut needs = Vec::new(oracle.alloc);
     for group in groups {
@@ -46,8 +46,8 @@ fn fault_without<A: Allocator + Copy>(
 ) -> Result<FirstFault<A>, AllocError>
     requires { CannotSpare oracle.now group }
     ensures { IfOk result (λ fault. (s : Tracing) → IsTracingOf oracle.now.traced.now s
-        → IsToldGroup (detail_with explain oracle.now.demands.now) oracle.now.traced.now.rules oracle.now.base.now s
-        (record { group = group; fault = told_first fault })) }
+        → IsListedGroup (detail_with explain oracle.now.demands.now) oracle.now.traced.now.rules oracle.now.base.now s
+        (record { group = group; fault = listed_first fault })) }
 {
     let graph = oracle.graph_without(group)?;
     match first_fault(oracle.alloc, oracle.base, &graph, explain, oracle.demands)? {

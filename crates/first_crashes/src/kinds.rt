@@ -2,11 +2,11 @@
 
 ghost use Rattle.std.specs.Prelude.{◌<◌, IfOk};
 ghost use Rattle.std.specs.List.{All};
-ghost use Rattle.question_model.specs.Found.{IsShown};
-ghost use Rattle.question_model.specs.SearchReport.{IsToldKind};
+ghost use Rattle.question_model.specs.SearchCounts.{IsShown};
+ghost use Rattle.question_model.specs.SearchReport.{IsListedKind};
 ghost use Rattle.pool_judging.specs.Judging.{search_by};
 ghost use Rattle.pool_judging.specs.Traces.{IsTraced};
-ghost use Rattle.first_crashes.specs.Kinds.{told_kind, HaveGraph};
+ghost use Rattle.first_crashes.specs.Kinds.{listed_kind, HaveGraph};
 
 use crash_model::steps::Step;
 use patch_graph::Graph;
@@ -32,8 +32,8 @@ pub fn kind_section<A: Allocator + Copy>(
     shown: &ShownKind,
 ) -> Result<KindSection<A>, AllocError>
     requires { IsShown (search_by judge.now) shown.now }
-    ensures { IfOk result (λ told. IsToldKind (search_by judge.now) explain
-        (told_kind judge.now.pool.now shown.now told)) }
+    ensures { IfOk result (λ listed. IsListedKind (search_by judge.now) explain
+        (listed_kind judge.now.pool.now shown.now listed)) }
 {
     let steps = judge.workload_at(&shown.places)?;
     let graph = graph_of(judge, &steps)?;

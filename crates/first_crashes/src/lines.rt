@@ -4,8 +4,8 @@ ghost use Rattle.std.specs.Prelude.{◌≡◌, map, IfOk};
 ghost use Rattle.std.specs.List.{All};
 ghost use Rattle.crash_model.specs.Tracing.{Tracing};
 ghost use Rattle.enough_deciding.specs.Lines.{HasWaits};
-ghost use Rattle.question_reports.specs.EnoughFindings.{told_first, told_group};
-ghost use Rattle.first_crashes.specs.SparingLines.{CannotSpareLines, IsToldWithout};
+ghost use Rattle.question_reports.specs.EnoughFindings.{listed_first, listed_group};
+ghost use Rattle.first_crashes.specs.SparingLines.{CannotSpareLines, IsListedWithout};
 
 use crate::fault::first_fault;
 use enough_deciding::LineOracle;
@@ -21,8 +21,8 @@ pub fn needed_lines<A: Allocator + Copy>(
 ) -> Result<Vec<NeededGroup<A>, A>, AllocError>
     requires { All (CannotSpareLines oracle.now) groups.now }
     ensures groups { IfOk result (λ needs. map (λ needed. needed.group) needs.items ≡ groups.now) }
-    ensures told { IfOk result (λ needs. (s : Tracing) → HasWaits oracle.now.traced.now s
-        → All (IsToldWithout explain oracle.now s) (map told_group needs.items)) }
+    ensures listed { IfOk result (λ needs. (s : Tracing) → HasWaits oracle.now.traced.now s
+        → All (IsListedWithout explain oracle.now s) (map listed_group needs.items)) }
 {
     let mut needs = Vec::new(oracle.alloc);
     for group in groups {
@@ -44,7 +44,7 @@ fn fault_without<A: Allocator + Copy>(
 ) -> Result<FirstFault<A>, AllocError>
     requires { CannotSpareLines oracle.now group }
     ensures { IfOk result (λ fault. (s : Tracing) → HasWaits oracle.now.traced.now s
-        → IsToldWithout explain oracle.now s (record { group = group; fault = told_first fault })) }
+        → IsListedWithout explain oracle.now s (record { group = group; fault = listed_first fault })) }
 {
     let script = oracle.without(group)?;
     match first_fault(

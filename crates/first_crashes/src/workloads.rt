@@ -4,8 +4,8 @@ ghost use Rattle.std.specs.Prelude.{◌≡◌, map, IfOk};
 ghost use Rattle.std.specs.List.{All};
 ghost use Rattle.question_model.specs.Sequences.{AreAllSequences};
 ghost use Rattle.question_model.specs.EnoughFor.{IsPassing, IsNeededInSearch};
-ghost use Rattle.question_model.specs.SearchRulesReport.{IsToldNeed};
-ghost use Rattle.question_reports.specs.SearchRulesFindings.{told_need};
+ghost use Rattle.question_model.specs.SearchRulesReport.{IsListedNeed};
+ghost use Rattle.question_reports.specs.SearchRulesFindings.{listed_need};
 ghost use Rattle.workload_search.specs.Tries.{items_of};
 ghost use Rattle.pool_judging.specs.Judging.{search_by};
 
@@ -32,8 +32,8 @@ pub fn needed_workloads<A: Allocator + Copy>(
     requires whole { AreAllSequences (IsPassing (search_by rules.now.judge.now)) (map items_of passing.now) }
     requires needed { All (IsNeededInSearch (search_by rules.now.judge.now)) groups.now }
     ensures groups { IfOk result (λ needs. map (λ needed. needed.group) needs.items ≡ groups.now) }
-    ensures told { IfOk result (λ needs. All (IsToldNeed (search_by rules.now.judge.now) explain)
-        (map (told_need rules.now.judge.now.pool.now) needs.items)) }
+    ensures listed { IfOk result (λ needs. All (IsListedNeed (search_by rules.now.judge.now) explain)
+        (map (listed_need rules.now.judge.now.pool.now) needs.items)) }
 {
     let mut needs = Vec::new(rules.judge.alloc);
     for group in groups {
@@ -58,8 +58,8 @@ pub fn needed_workload<A: Allocator + Copy>(
 ) -> Result<NeededWorkload<A>, AllocError>
     requires whole { AreAllSequences (IsPassing (search_by rules.now.judge.now)) (map items_of passing.now) }
     requires needed { IsNeededInSearch (search_by rules.now.judge.now) group }
-    ensures { IfOk result (λ told. (told.group ≡ group)
-        × IsToldNeed (search_by rules.now.judge.now) explain (told_need rules.now.judge.now.pool.now told)) }
+    ensures { IfOk result (λ listed. (listed.group ≡ group)
+        × IsListedNeed (search_by rules.now.judge.now) explain (listed_need rules.now.judge.now.pool.now listed)) }
 {
     let judge = rules.judge;
     let places = first_without(rules, passing, group)?;

@@ -138,16 +138,17 @@ module _ (set : ℕ) (d : Disk) where
 
   -- ---- all of them
 
-  pub all_told : (ps : List Promise) (from : ℕ) (old found : List Fault) → from ≤ lines_end ps
+  pub all_listed : (ps : List Promise) (from : ℕ) (old found : List Fault) → from ≤ lines_end ps
       → IsNextBroken ps set d from None → found ≡ old ++ some_below from (broken_at ps)
       → found ≡ old ++ broken_lines ps set d
   unfolding broken_lines
-  all_told ps from old found within none told = told ∙ ap (λ (fs : List Fault). old ++ fs)
+  all_listed ps from old found within none listed = listed ∙ ap (λ (fs : List Fault). old ++ fs)
       (sym (none_between (broken_at ps) from (lines_end ps) within (λ line behind below. rw (none line behind) refl)))
 
-  pub one_told : (ps : List Promise) (from next : ℕ) (old found now : List Fault) → IsNextBroken ps set d from (Some next)
+  pub one_listed : (ps : List Promise) (from next : ℕ) (old found now : List Fault)
+      → IsNextBroken ps set d from (Some next)
       → now ≡ found ++ BrokenPromise next ∷ [] → found ≡ old ++ some_below from (broken_at ps)
       → now ≡ old ++ some_below (next + 1) (broken_at ps)
-  one_told ps from next old found now is push told = pushed (broken_at ps) next (BrokenPromise next) old found now
-      (rw is.1 refl) push (told ∙ ap (λ (fs : List Fault). old ++ fs)
+  one_listed ps from next old found now is push listed = pushed (broken_at ps) next (BrokenPromise next) old found now
+      (rw is.1 refl) push (listed ∙ ap (λ (fs : List Fault). old ++ fs)
       (sym (none_between (broken_at ps) from next is.0 (λ line behind below. rw (is.2 line behind below) refl))))

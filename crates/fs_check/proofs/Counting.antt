@@ -8,7 +8,7 @@ use Rattle.std.specs.Prelude.{option_to_list}
 use Rattle.crash_model.specs.Lists.{each_below, some_below}
 use Rattle.crash_model.proofs.EachBelow.{each_below-zero, each_below-step, some_below-zero, some_below-step}
 use Rattle.crash_model.proofs.EachBelow.{length-some_below}
-use Rattle.fs_check.specs.Tally.{row_of, count_before, IsTally}
+use Rattle.fs_check.specs.TableCounts.{row_of, count_before, IsTally}
 
 -- ---- lengths
 

@@ -6,7 +6,7 @@ use Rattle.crash_model.proofs.EachBelow.{some_below-zero}
 use Rattle.crash_model.specs.Disk.{Disk}
 use Rattle.crash_model.specs.Layout.{is_live, links_of, counts, entry_of, is_entry, target_of}
 use Rattle.crash_model.specs.Faults.{is_dangling, each_entry, entries_to, has_low_links}
-use Rattle.fs_check.specs.Tally.{count_before}
+use Rattle.fs_check.specs.TableCounts.{count_before}
 use Rattle.fs_check.specs.Passed.{HasCleanEntries, HavePassed, entries_of}
 use Rattle.fs_check.proofs.Passed.{passed-empty_row, passed-empty, passed-one, too_many, not_many}
 

@@ -9,18 +9,18 @@ use Rattle.crash_model.specs.declared.fault.Fault.{Fault}
 use Rattle.crash_model.specs.declared.fault.Fault.TheVariants.{HalfDone}
 use Rattle.crash_model.proofs.Demanded.{none_atomic}
 
-told_if : (test : Bool) → ¬ (test ≡ false) → HalfDone ∷ [] ≡ (if test then HalfDone ∷ [] else [])
-told_if true some = refl
-told_if false some = absurd (some refl)
+listed_if : (test : Bool) → ¬ (test ≡ false) → HalfDone ∷ [] ≡ (if test then HalfDone ∷ [] else [])
+listed_if true some = refl
+listed_if false some = absurd (some refl)
 
-told : (disks : List Disk) (d : Disk) → ¬ (is_half_done disks d ≡ false) → HalfDone ∷ [] ≡ atomic_faults disks d
+listed : (disks : List Disk) (d : Disk) → ¬ (is_half_done disks d ≡ false) → HalfDone ∷ [] ≡ atomic_faults disks d
 unfolding atomic_faults
-told disks d some = told_if (is_half_done disks d) some
+listed disks d some = listed_if (is_half_done disks d) some
 
-pub showing-told : (disks : Option (List Disk)) (d : Disk) (found : List Fault) → ¬ (ShowsSome disks d)
+pub showing-listed : (disks : Option (List Disk)) (d : Disk) (found : List Fault) → ¬ (ShowsSome disks d)
     → found ++ HalfDone ∷ [] ≡ faults_showing disks d found
-showing-told None d found some = absurd (some tt)
-showing-told (Some disks) d found some = ap (λ (fs : List Fault). found ++ fs) (told disks d some)
+showing-listed None d found some = absurd (some tt)
+showing-listed (Some disks) d found some = ap (λ (fs : List Fault). found ++ fs) (listed disks d some)
 
 pub showing-none : (disks : Option (List Disk)) (d : Disk) (found : List Fault) → ShowsSome disks d
     → found ≡ faults_showing disks d found

@@ -238,11 +238,11 @@ module _ (counted : ℕ) where
 
     are_half_done : (disks : List Disk) → Are 9 (atomic_faults disks d)
     unfolding atomic_faults
-    are_half_done disks = told (is_half_done disks d)
+    are_half_done disks = listed (is_half_done disks d)
       where
-        told : (test : Bool) → Are 9 (if test then HalfDone ∷ [] else [])
-        told true = all-when (Is 9) true HalfDone refl
-        told false = All-nil (Is 9)
+        listed : (test : Bool) → Are 9 (if test then HalfDone ∷ [] else [])
+        listed true = all-when (Is 9) true HalfDone refl
+        listed false = All-nil (Is 9)
 
     showing_none : (disks : Option (List Disk)) (found : List Fault) → among (faults_showing disks d found) ≡ []
         → (among found ≡ []) × (Has counted 9 → ShowsSome disks d)

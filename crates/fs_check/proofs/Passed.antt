@@ -4,7 +4,7 @@ use Rattle.std.proofs.Common.{Some, None, arith, sym, ap, ◌∙◌, subst, belo
 use Rattle.std.proofs.lemmas.Bool.{cases_eq}
 use Rattle.std.proofs.lemmas.List.{get_or-set_same, get_or-set_other, length-set, get_or-replicate, length-replicate}
 use Rattle.std.specs.Prelude.{option_to_list}
-use Rattle.fs_check.specs.Tally.{count_before}
+use Rattle.fs_check.specs.TableCounts.{count_before}
 use Rattle.fs_check.specs.Passed.{Table, HavePassed}
 use Rattle.fs_check.proofs.Counting.{tally-start, tally-row, tally-empty_row, tally-none, tally-one, count_before-grows}
 use Rattle.fs_check.proofs.Counting.{count_before-more}

@@ -6,7 +6,7 @@ use Rattle.crash_model.proofs.EachBelow.{some_below-zero}
 use Rattle.crash_model.specs.Disk.{Disk}
 use Rattle.crash_model.specs.Layout.{is_live, is_data, map_of, pointer_of, is_pointer}
 use Rattle.crash_model.specs.Faults.{is_tame, is_unwritten, is_marked_free, is_wild, each_slot, namers}
-use Rattle.fs_check.specs.Tally.{count_before}
+use Rattle.fs_check.specs.TableCounts.{count_before}
 use Rattle.fs_check.specs.Passed.{HasCleanPointers, HavePassed, slots_of, is_marked, is_right_block}
 use Rattle.fs_check.proofs.Passed.{passed-empty_row, passed-empty, passed-one, too_many, not_many}
 

@@ -10,7 +10,7 @@ use Rattle.crash_model.specs.Layout.{target_of}
 use Rattle.crash_model.specs.Faults.{is_tame, each_slot, each_entry, entries_to, namers, leads_to, is_twice}
 use Rattle.crash_model.specs.Faults.{has_low_links}
 use Rattle.crash_model.specs.declared.fault.Fault.TheVariants.{Twice, LowLinks}
-use Rattle.fs_check.specs.Tally.{count_before, IsTally}
+use Rattle.fs_check.specs.TableCounts.{count_before, IsTally}
 use Rattle.fs_check.specs.References.{named_at, led_at, twice_at, low_links_at}
 use Rattle.fs_check.proofs.Counting.{tally-empty_row, tally-none, tally-one, count_before-most}
 

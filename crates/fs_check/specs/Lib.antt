@@ -1,4 +1,4 @@
-pub mod Tally
+pub mod TableCounts
 pub mod Passed
 pub mod References
 pub mod Strict

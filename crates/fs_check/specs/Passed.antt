@@ -6,7 +6,7 @@ use Rattle.crash_model.specs.Layout.{kind_of, links_of, map_of, is_data, is_owne
 use Rattle.crash_model.specs.Lists.{when}
 use Rattle.crash_model.specs.Faults.{is_dangling, is_twice, is_unwritten, has_low_links, is_marked_free, is_wild}
 use Rattle.crash_model.specs.Faults.{is_right_mark, names_block, leads_to}
-use Rattle.fs_check.specs.Tally.{IsTally}
+use Rattle.fs_check.specs.TableCounts.{IsTally}
 
 -- no fault of a pointer holds
 pub record HasCleanPointers (d : Disk) : Type 0 where

@@ -12,7 +12,7 @@ ghost use Rattle.fs_check.specs.Counted.{HasNoEntryFault, HasNoPointerFault, Has
 ghost use Rattle.fs_check.specs.Counted.{HasNoDiskFault, HasRightPointers, InNoEntry, InNoSlot, AtNoneBelow, fails};
 ghost use Rattle.fs_check.specs.References.{named_at, led_at, fault_of, wrong_pointers};
 ghost use Rattle.fs_check.specs.Strict.{IsReachOf};
-ghost use Rattle.fs_check.specs.Tally.{IsTally};
+ghost use Rattle.fs_check.specs.TableCounts.{IsTally};
 
 use crate::atomic::shows_some;
 use crate::list::{Test, fault_of};

@@ -5,7 +5,7 @@ ghost use Rattle.std.specs.List.{All, filter_map};
 ghost use Rattle.crash_model.specs.Lists.{some_below};
 ghost use Rattle.crash_model.specs.Faults.{faults};
 ghost use Rattle.crash_model.specs.Checker.{faults_keeping, faults_under};
-ghost use Rattle.fs_check.specs.Tally.{IsTally};
+ghost use Rattle.fs_check.specs.TableCounts.{IsTally};
 ghost use Rattle.fs_check.specs.References.{named_at, led_at, fault_of, twice_at, low_links_at};
 
 use crate::atomic::push_half_done;

@@ -4,7 +4,7 @@ ghost use Rattle.std.specs.Prelude.{◌≡◌, ◌≢◌, [], replicate, ◌+◌
 ghost use Rattle.arrayvec.specs.ArrayVec.{array_vec_len};
 ghost use Rattle.crash_model.specs.Layout.{is_live, counts, pointer_of};
 ghost use Rattle.crash_model.specs.Lists.{some_below};
-ghost use Rattle.fs_check.specs.Tally.{IsTally};
+ghost use Rattle.fs_check.specs.TableCounts.{IsTally};
 ghost use Rattle.fs_check.specs.References.{wrong_at, wrong_pointers, named_at, dangling_at, dangling_entries, led_at};
 
 use crate::clean::is_right_block;

@@ -32,10 +32,10 @@ get-right [] ys i n e = ap (λ (m : ℕ). slice_get ys m) (omega arith)
 get-right (x ∷ xs) ys i zero e = absurd (omega arith)
 get-right (x ∷ xs) ys i (suc n) e = get-right xs ys i n (omega arith)
 
--- an element with its part and turn
+-- an element with its part and number
 pub record IsPart (kind : Part) (t : ℕ) (x : Emitted) : Type 0 where
   pub part : x.part ≡ kind
-  pub turn : x.turn ≡ t
+  pub op_number : x.op_number ≡ t
 
 copy_at : (after : Disk) (t j : ℕ) (g : Origin) (bs : List ℕ) (m : ℕ) → m < length bs → (y : Emitted)
     × (slice_get (copies after t j g bs) m ≡ Some y) × IsPart Copy t y
@@ -43,14 +43,14 @@ copy_at after t j g [] m h = absurd (omega arith)
 copy_at after t j g (b ∷ bs) zero h = (
   part_of t g Copy j 0 (block_of after b),
   refl,
-  record { part = refl; turn = refl },
+  record { part = refl; op_number = refl },
 )
 copy_at after t j g (b ∷ bs) (suc m) h = copy_at after t (j + 1) g bs m (omega arith)
 
 plain_at : (t : ℕ) (g : Origin) (cs : List Change) (m : ℕ) → m < length cs → (y : Emitted) × (role : Role)
     × (slice_get (map (in_place_patch t g) cs) m ≡ Some y) × IsPart (InPlace role) t y
 plain_at t g [] m h = absurd (omega arith)
-plain_at t g (c ∷ cs) zero h = (in_place_patch t g c, c.role, refl, record { part = refl; turn = refl })
+plain_at t g (c ∷ cs) zero h = (in_place_patch t g c, c.role, refl, record { part = refl; op_number = refl })
 plain_at t g (c ∷ cs) (suc m) h = plain_at t g cs m (omega arith)
 
 pub length-copy : (after : Disk) (t j : ℕ) (g : Origin) (bs : List ℕ) → length (copies after t j g bs) ≡ length bs
@@ -92,7 +92,7 @@ parts_of after t j g targets cs =
           (y.0, get-left ps (commit ∷ (ms ++ (done ∷ []))) m y.0 y.1, y.2);
       commit = commit;
       commit_at = get-right ps (commit ∷ (ms ++ (done ∷ []))) 0 k (omega arith);
-      commit_is = record { part = refl; turn = refl };
+      commit_is = record { part = refl; op_number = refl };
       commit_place = refl;
       change = λ m h. let y = plain_at t g cs m h in (
         y.0,
@@ -104,7 +104,7 @@ parts_of after t j g targets cs =
       done = done;
       done_at = get-right ps (commit ∷ (ms ++ (done ∷ []))) (suc (length cs)) (k + 1 + length cs) (omega arith)
           ∙ get-right ms (done ∷ []) 0 (length cs) (omega arith);
-      done_is = record { part = refl; turn = refl };
+      done_is = record { part = refl; op_number = refl };
       done_place = refl;
     }
 
@@ -132,8 +132,9 @@ pub by_row : (whole : Bool) (links : List (List ℕ × List ℕ)) (x : Emitted) 
 by_row whole links x id y a b s t p q h =
     or_right (overlap x.place y.place || shares_block whole x y || groups_depend links x y || waits_for x id)
     (list_any (λ rule. applies rule x y) journal_rules)
-    (ap (λ (m : Part). is_row m x.turn y.part y.turn) p.part ∙ ap (λ (m : ℕ). is_row a m y.part y.turn) p.turn
-    ∙ ap (λ (m : Part). is_row a s m y.turn) q.part ∙ ap (λ (m : ℕ). is_row a s b m) q.turn ∙ h)
+    (ap (λ (m : Part). is_row m x.op_number y.part y.op_number) p.part
+    ∙ ap (λ (m : ℕ). is_row a m y.part y.op_number) p.op_number
+    ∙ ap (λ (m : Part). is_row a s m y.op_number) q.part ∙ ap (λ (m : ℕ). is_row a s b m) q.op_number ∙ h)
 
 -- a done and a commit of one header overlap
 shared : (j t k : ℕ) (targets : List ℕ) → overlap (place j 0 (0xC8 ∷ [])) (place j 0 (0xC7 ∷ t ∷ k ∷ targets)) ≡ true

@@ -10,7 +10,7 @@ use Rattle.crash_model.specs.Sound.{HasZeroJournal}
 use Rattle.crash_model.specs.Patches.{image_of}
 use Rattle.crash_model.specs.Replay.{image_after_replay}
 use Rattle.crash_model.specs.Checker.{Demands, Asked, AreDemands, IsCleanKeeping, IsFailingUnder, faults_keeping}
-use Rattle.crash_model.specs.Checker.{faults_showing, all_faults, counted_among, promised, IsToldKept}
+use Rattle.crash_model.specs.Checker.{faults_showing, all_faults, counted_among, promised, IsKeptIfStrict}
 use Rattle.crash_model.specs.Atomic.{ShowsSome}
 use Rattle.crash_model.specs.FaultKinds.{fault_number}
 use Rattle.crash_model.specs.Promises.{Promise, breaks_line}
@@ -75,10 +75,10 @@ module _ (asked : Asked) (base : Disk) (steps : List Step) (s : Tracing) (patche
   left = image_after_replay (image_of base patches set)
 
   -- none of the eight faults holds of what replay leaves
-  keeps : (kept : Option ℕ) → IsToldKept asked.strict base steps kept → IsCleanKeeping kept left
+  keeps : (kept : Option ℕ) → IsKeptIfStrict asked.strict base steps kept → IsCleanKeeping kept left
   unfolding left
-  keeps None told = record { faultless = recovered.sound.clean.faultless }
-  keeps (Some kept) told = strictly_clean base steps s patches set kept disk told.1 recovered
+  keeps None demanded = record { faultless = recovered.sound.clean.faultless }
+  keeps (Some kept) demanded = strictly_clean base steps s patches set kept disk demanded.1 recovered
 
   -- nothing but broken promises is found, whatever is demanded
   pub only_broken : (demands : Demands) → AreDemands asked base steps demands

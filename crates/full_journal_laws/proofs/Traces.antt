@@ -43,7 +43,7 @@ changes_of log = map (λ (o : Origin × List Change). o.1) log
 pub record IsLogged (n jl : ℕ) (ops : List Op) (s r : Tracing) : Type 0 where
   pub changes : Logged
   pub plans : ArePlans s.disk ops (changes_of changes)
-  pub emits : r.emitted ≡ s.emitted ++ log_emitted n s.disk s.turn s.journal changes
+  pub emits : r.emitted ≡ s.emitted ++ log_emitted n s.disk s.op_number s.journal changes
   pub log : IsLog n jl s.disk s.journal (changes_of changes)
 
 no_ok : (e : TraceFault) (r : Tracing) (x : Result Tracing TraceFault) → x ≡ Err e → x ≡ Ok r → ⊥
@@ -68,9 +68,10 @@ operation n jl line s r xs op (Ok cs) good name is rest h =
     let bs : s.disk.blocks ≡ n = good.blocks in
     let js : s.disk.journal ≡ jl = good.journal in
     let ba : after.blocks ≡ n = size.0 ∙ bs in
-    let more : List Emitted = journal_patches after s.turn s.journal origin (touched_blocks after.blocks cs) cs in
+    let more : List Emitted = journal_patches after s.op_number s.journal origin (touched_blocks after.blocks cs) cs in
     let free : ℕ = s.journal + (1 + length (touched_blocks s.disk.blocks cs)) in
-    let next : Tracing = record s { disk = after; emitted = s.emitted ++ more; turn = s.turn + 1; journal = free } in
+    let next : Tracing =
+    record s { disk = after; emitted = s.emitted ++ more; op_number = s.op_number + 1; journal = free } in
     elim (bool_is (nat_lt (4 + s.disk.journal) free)) [
       | inl full ↦ absurd (no_ok (fault.JournalFull line) r _ refl (rw full at h))
       | inr room ↦ elim (bool_is (nat_lt 124 (length s.emitted + length more))) [
@@ -85,11 +86,13 @@ operation n jl line s r xs op (Ok cs) good name is rest h =
               changes = (origin, cs) ∷ ih.changes;
               plans = (is, ih.plans);
               emits = ih.emits
-                  ∙ append_assoc s.emitted more (log_emitted n after (s.turn + 1) free ih.changes)
-                  ∙ ap (λ (m : ℕ). s.emitted ++ (journal_patches after s.turn s.journal origin (touched_blocks m cs) cs
-                  ++ log_emitted n after (s.turn + 1) free ih.changes)) ba
-                  ∙ ap (λ (m : ℕ). s.emitted ++ (journal_patches after s.turn s.journal origin (touched_blocks n cs) cs
-                  ++ log_emitted n after (s.turn + 1) m ih.changes)) here;
+                  ∙ append_assoc s.emitted more (log_emitted n after (s.op_number + 1) free ih.changes)
+                  ∙ ap (λ (m : ℕ). s.emitted
+                  ++ (journal_patches after s.op_number s.journal origin (touched_blocks m cs) cs
+                  ++ log_emitted n after (s.op_number + 1) free ih.changes)) ba
+                  ∙ ap (λ (m : ℕ). s.emitted
+                  ++ (journal_patches after s.op_number s.journal origin (touched_blocks n cs) cs
+                  ++ log_emitted n after (s.op_number + 1) m ih.changes)) here;
               log = (
                 plan-turn n jl s.disk op cs good name is s.journal (omega arith),
                 subst (λ (m : ℕ). IsLog n jl after m (changes_of ih.changes)) here ih.log,
@@ -104,17 +107,17 @@ operation n jl line s r xs op (Ok cs) good name is rest h =
     within : (a b : ℕ) → nat_lt b a ≡ false → a ≤ b
     within a b h = grind (arith, tests)
 
--- from a state with the same disk and patches, at the same turn and journal block
+-- from a state with the same disk and patches, at the same operation and journal block
 same_log : (n jl : ℕ) (ops : List Op) (s next r : Tracing) → next.disk ≡ s.disk → next.emitted ≡ s.emitted
-    → next.turn ≡ s.turn → next.journal ≡ s.journal → IsLogged n jl ops next r → IsLogged n jl ops s r
+    → next.op_number ≡ s.op_number → next.journal ≡ s.journal → IsLogged n jl ops next r → IsLogged n jl ops s r
 same_log n jl ops s next r d e t j ih = record {
   changes = ih.changes;
   plans = subst (λ (x : Disk). ArePlans x ops (changes_of ih.changes)) d ih.plans;
   emits = ih.emits
-      ∙ ap (λ (x : List Emitted). x ++ log_emitted n next.disk next.turn next.journal ih.changes) e
-      ∙ ap (λ (x : Disk). s.emitted ++ log_emitted n x next.turn next.journal ih.changes) d
+      ∙ ap (λ (x : List Emitted). x ++ log_emitted n next.disk next.op_number next.journal ih.changes) e
+      ∙ ap (λ (x : Disk). s.emitted ++ log_emitted n x next.op_number next.journal ih.changes) d
       ∙ ap (λ (x : ℕ). s.emitted ++ log_emitted n s.disk x next.journal ih.changes) t
-      ∙ ap (λ (x : ℕ). s.emitted ++ log_emitted n s.disk s.turn x ih.changes) j;
+      ∙ ap (λ (x : ℕ). s.emitted ++ log_emitted n s.disk s.op_number x ih.changes) j;
   log = subst (λ (x : ℕ). IsLog n jl s.disk x (changes_of ih.changes)) j
       (subst (λ (x : Disk). IsLog n jl x next.journal (changes_of ih.changes)) d ih.log);
 }

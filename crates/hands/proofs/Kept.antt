@@ -9,7 +9,7 @@ use Rattle.atomic_blocks.specs.Lent.{RowsId}
 use Rattle.hands.specs.Accounts.{with_taken}
 use Rattle.hands.specs.Known.{Way, Known}
 use Rattle.hands.specs.Together.{way_homes, hand_homes, IsWay, AreWays, AreFresh, AreTogether, IsHandOf, IsSameHand}
-use Rattle.hands.specs.Left.{LeadsTo}
+use Rattle.hands.specs.Remaining.{LeadsTo}
 
 module _ {T A : Type 0} where
   -- a way after one steal

@@ -1,5 +1,5 @@
 pub mod Accounts
 pub mod Known
 pub mod Together
-pub mod Left
+pub mod Remaining
 pub mod Steps

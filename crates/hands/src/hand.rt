@@ -5,7 +5,7 @@ ghost use Rattle.hands.specs.Accounts.{with_pushed, with_taken};
 ghost use Rattle.hands.specs.Together.{IsSameHand};
 
 use crate::account::{Accounts, Held, Pushed, Taken};
-use crate::reach::Reach;
+use crate::thief::Thief;
 use crossbeam_deque::Worker;
 use std::alloc::Allocator;
 use std::marker::Model;
@@ -21,7 +21,7 @@ pub(crate) type Deque<T, A> = Worker<T, A, Held<T>, Accounts>;
 #[derive(Drop)]
 pub struct Hand<T, A: Allocator> {
     pub(crate) deque: Deque<T, A>,
-    pub(crate) reaches: Vec<Reach<T, A>, A>,
+    pub(crate) reaches: Vec<Thief<T, A>, A>,
 }
 
 impl<T, A: Allocator> Model for Hand<T, A> {

@@ -4,7 +4,7 @@ ghost use Rattle.crossbeam_deque.specs.Handles.{worker_view, worker_deque};
 ghost use Rattle.hands.specs.Accounts.{weigh};
 ghost use Rattle.hands.specs.Together.{AreTogether};
 ghost use Rattle.hands.specs.Known.{Way};
-ghost use Rattle.hands.specs.Left.{IsLeftIn, LeadsTo, weigh_taken};
+ghost use Rattle.hands.specs.Remaining.{IsRemainingIn, LeadsTo, weigh_taken};
 
 use crate::account::{Balance, Together};
 use crate::hand::{Deque, Hand};
@@ -18,7 +18,7 @@ use std::alloc::Allocator;
 pub fn tasks_left<T: Drop, A: Allocator>(mut hands: Vec<Hand<T, A>, A>, of: usize) -> usize
     requires together { AreTogether hands.items }
     requires of { of < length hands.items }
-    ensures { (left : List T) × (length left ≡ result) × IsLeftIn hands.items of left }
+    ensures { (left : List T) × (length left ≡ result) × IsRemainingIn hands.items of left }
 {
     let Hand {
         mut deque,

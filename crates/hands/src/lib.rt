@@ -8,7 +8,7 @@ mod account;
 mod hand;
 mod left;
 mod making;
-mod reach;
+mod thief;
 
 pub use hand::Hand;
 pub use left::tasks_left;

@@ -5,7 +5,7 @@ ghost use Rattle.hands.specs.Steps.{IsBare, with_one_less, new_way};
 
 use crate::account::OnePart;
 use crate::hand::Hand;
-use crate::reach::Reach;
+use crate::thief::Thief;
 use crossbeam_deque::Worker;
 use std::alloc::{AllocError, Allocator};
 
@@ -53,7 +53,7 @@ fn without_ways<T: Drop, A: Allocator + Copy>(
 fn ways_to_all<T: Drop, A: Allocator + Copy>(
     alloc: A,
     hands: &mut Vec<Hand<T, A>, A>,
-) -> Result<Vec<Reach<T, A>, A>, AllocError>
+) -> Result<Vec<Thief<T, A>, A>, AllocError>
     requires parts { All (λ hand. 1 < hand.own.parts) hands.old.items }
     ensures ways { IfOk result (λ ways. ways.items ≡ map new_way hands.old.items) }
     ensures given { IfOk result (λ _. hands.new.items ≡ map with_one_less hands.old.items) }
@@ -67,17 +67,17 @@ fn ways_to_all<T: Drop, A: Allocator + Copy>(
 
 impl<T: Drop, A: Allocator> Hand<T, A> {
     /// A new way to the hand's own deque.
-    fn way(&mut self) -> Result<Reach<T, A>, AllocError>
+    fn way(&mut self) -> Result<Thief<T, A>, AllocError>
         requires { 1 < self.old.own.parts }
         ensures way { IfOk result (λ way. way ≡ new_way self.old) }
         ensures given { IfOk result (λ _. self.new ≡ with_one_less self.old) }
     {
         let stealer = self.deque.stealer()?;
         let pass = self.deque.another::<OnePart>();
-        Ok(Reach { stealer, pass })
+        Ok(Thief { stealer, pass })
     }
 
-    fn set_ways(&mut self, ways: Vec<Reach<T, A>, A>)
+    fn set_ways(&mut self, ways: Vec<Thief<T, A>, A>)
         ensures { self.new ≡ record self.old { ways = ways.items } }
     {
         self.reaches = ways;

@@ -105,20 +105,20 @@ fn damage(image: &mut Image<Global>, noise: &mut Noise) {
 /// Fills the journal with transactions whose copies are of any blocks.
 fn log_transactions(image: &mut Image<Global>, noise: &mut Noise) {
     let mut at = 4;
-    for turn in 1..=40 {
+    for transaction in 1..=40 {
         let count = 1 + noise.below(3);
         let size = 1 + usize::from(count);
         if at >= 128 || at + size > 4 + image.journal() {
             return;
         }
-        log_one(image, noise, at, turn, count);
+        log_one(image, noise, at, transaction, count);
         at += size;
     }
 }
 
 /// Puts one transaction at block `at`.
-fn log_one(image: &mut Image<Global>, noise: &mut Noise, at: usize, turn: u8, count: u8) {
-    let header = header(noise, image.journal(), turn, count);
+fn log_one(image: &mut Image<Global>, noise: &mut Noise, at: usize, transaction: u8, count: u8) {
+    let header = header(noise, image.journal(), transaction, count);
     if at < image.blocks() {
         image.put(at, 0, &header);
     }
@@ -135,7 +135,7 @@ fn log_one(image: &mut Image<Global>, noise: &mut Noise, at: usize, turn: u8, co
 }
 
 /// A header for up to three blocks, in one of six with a byte changed.
-fn header(noise: &mut Noise, journal: usize, turn: u8, count: u8) -> [u8; 6] {
+fn header(noise: &mut Noise, journal: usize, transaction: u8, count: u8) -> [u8; 6] {
     let mark = if noise.below(4) == 0 { 0xC8 } else { 0xC7 };
     let root = u8::try_from(journal).unwrap_or(0).saturating_add(4);
     let targets = [
@@ -144,7 +144,7 @@ fn header(noise: &mut Noise, journal: usize, turn: u8, count: u8) -> [u8; 6] {
         root.saturating_add(2 + noise.below(2)),
     ];
     let first = noise.below(4u8.saturating_sub(count).max(1));
-    let mut header = [mark, turn, count, 0, 0, 0];
+    let mut header = [mark, transaction, count, 0, 0, 0];
     for (place, target) in header
         .iter_mut()
         .skip(3)

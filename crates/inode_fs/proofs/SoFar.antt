@@ -9,7 +9,7 @@ use Rattle.crash_model.specs.Lists.{when}
 use Rattle.crash_model.specs.Atomic.{with_disk, disks_from, disks_of}
 use Rattle.crash_model.specs.Strict.{stays_live}
 use Rattle.crash_model.specs.StepDisks.{disk_after}
-use Rattle.crash_model.specs.Checker.{IsToldKept}
+use Rattle.crash_model.specs.Checker.{IsKeptIfStrict}
 use Rattle.crash_model.specs.declared.steps.Step.{Step}
 use Rattle.inode_fs.specs.Demanding.{disk_after_all, SoFar, IsSoFar, TakesStep, AreStillKept}
 
@@ -38,25 +38,25 @@ disks_more disks d (y ∷ ys) x = disks_more (with_disk disks d) (disk_after d y
 
 module _ (base : Disk) (steps : List Step) (x : Step) (next : Disk)
     (after : next ≡ disk_after (disk_after_all base steps) x.act) where
-  told_kept_more : (strict : Bool) (kept left : Option ℕ) → AreStillKept kept next left
-      → IsToldKept strict base steps kept → IsToldKept strict base (steps ++ x ∷ []) left
-  told_kept_more strict None None still old = old
-  told_kept_more strict None (Some left) still old = absurd still
-  told_kept_more strict (Some kept) None still old = absurd still
-  told_kept_more strict (Some kept) (Some left) still (is, old) = (
+  demanded_kept_more : (strict : Bool) (kept left : Option ℕ) → AreStillKept kept next left
+      → IsKeptIfStrict strict base steps kept → IsKeptIfStrict strict base (steps ++ x ∷ []) left
+  demanded_kept_more strict None None still old = old
+  demanded_kept_more strict None (Some left) still old = absurd still
+  demanded_kept_more strict (Some kept) None still old = absurd still
+  demanded_kept_more strict (Some kept) (Some left) still (is, old) = (
     is,
     λ i. still i ∙ (ap (λ (b : Bool). b && is_live next i) (old i)
         ∙ (ap (λ (d : Disk). stays_live base steps i && is_live d i) after ∙ sym (stays_more base steps x i))),
   )
 
-  told_disks_more : (atomic : Bool) (disks left : Option (List Disk))
+  demanded_disks_more : (atomic : Bool) (disks left : Option (List Disk))
       → left ≡ option_map (λ ds. with_disk ds next) disks → disks ≡ when atomic (disks_of base steps)
       → left ≡ when atomic (disks_of base (steps ++ x ∷ []))
-  told_disks_more true disks left added old =
+  demanded_disks_more true disks left added old =
       added ∙ (ap (option_map (λ ds. with_disk ds next)) old
       ∙ ap (λ (ds : List Disk). Some ds)
       (ap (with_disk (disks_of base steps)) after ∙ sym (disks_more [] base steps x)))
-  told_disks_more false disks left added old = added ∙ ap (option_map (λ ds. with_disk ds next)) old
+  demanded_disks_more false disks left added old = added ∙ ap (option_map (λ ds. with_disk ds next)) old
 
 -- with a disk
 one_some : (a b : Disk) → Some a ≡ Some b → a ≡ b
@@ -76,8 +76,9 @@ taken x old new d next had has moved still added none all strict atomic base ste
     record {
       disk = has ∙ (some ∙ ap (when (strict || atomic)) (after ∙ sym (after_more base steps x)));
       demands = record {
-        kept = told_kept_more base steps x next after strict old.demands.kept new.demands.kept still is.demands.kept;
-        disks = told_disks_more base steps x next after atomic old.demands.disks new.demands.disks added
+        kept =
+            demanded_kept_more base steps x next after strict old.demands.kept new.demands.kept still is.demands.kept;
+        disks = demanded_disks_more base steps x next after atomic old.demands.disks new.demands.disks added
             is.demands.disks;
         promises = none;
         counted = all;
@@ -90,10 +91,10 @@ neither false false d is = (refl, refl)
 neither true atomic d is = absurd (let some : None ≡ Some d = is in cc)
 neither false true d is = absurd (let some : None ≡ Some d = is in cc)
 
-told_none : (base : Disk) (steps more : List Step) (kept : Option ℕ) → IsToldKept false base steps kept
-    → IsToldKept false base more kept
-told_none base steps more None is = is
-told_none base steps more (Some kept) (is, old) = absurd (let not : false ≡ true = is in cc)
+demanded_none : (base : Disk) (steps more : List Step) (kept : Option ℕ) → IsKeptIfStrict false base steps kept
+    → IsKeptIfStrict false base more kept
+demanded_none base steps more None is = is
+demanded_none base steps more (Some kept) (is, old) = absurd (let not : false ≡ true = is in cc)
 
 pub passed_by : (x : Step) (old : SoFar) → old.disk ≡ None → TakesStep x old old
 passed_by x old had strict atomic base steps is = go strict atomic (neither strict atomic _ (sym had ∙ is.disk)) is
@@ -103,7 +104,7 @@ passed_by x old had strict atomic base steps is = go strict atomic (neither stri
     go false false none so_far = record {
       disk = so_far.disk;
       demands = record {
-        kept = told_none base steps (steps ++ x ∷ []) old.demands.kept so_far.demands.kept;
+        kept = demanded_none base steps (steps ++ x ∷ []) old.demands.kept so_far.demands.kept;
         disks = so_far.demands.disks;
         promises = so_far.demands.promises;
         counted = so_far.demands.counted;

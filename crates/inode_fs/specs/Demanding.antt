@@ -5,7 +5,7 @@ use Rattle.crash_model.specs.Disk.{Disk}
 use Rattle.crash_model.specs.Layout.{is_live}
 use Rattle.crash_model.specs.Lists.{when}
 use Rattle.crash_model.specs.Atomic.{disks_of}
-use Rattle.crash_model.specs.Checker.{Demands, IsToldKept}
+use Rattle.crash_model.specs.Checker.{Demands, IsKeptIfStrict}
 use Rattle.crash_model.specs.StepDisks.{disk_after}
 use Rattle.crash_model.specs.declared.steps.Step.{Step}
 
@@ -24,7 +24,7 @@ abbrev pub image_demands : Option ℕ → Option (List Disk) → Demands
 image_demands kept disks = record { kept = kept; disks = disks; promises = None; counted = None }
 
 pub record AreImageDemands (strict atomic : Bool) (base : Disk) (steps : List Step) (demands : Demands) : Type 0 where
-  pub kept : IsToldKept strict base steps demands.kept
+  pub kept : IsKeptIfStrict strict base steps demands.kept
   pub disks : demands.disks ≡ when atomic (disks_of base steps)
   pub promises : demands.promises ≡ None
   pub counted : demands.counted ≡ None

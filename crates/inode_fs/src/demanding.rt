@@ -4,7 +4,7 @@ ghost use Rattle.std.specs.Prelude.{◌≡◌, [], ◌∷◌, IfOk, OnOk, option
 ghost use Rattle.std.specs.List.{list_any};
 ghost use Rattle.crash_model.specs.Atomic.{is_same_disk, with_disk, disks_of};
 ghost use Rattle.crash_model.specs.Lists.{when};
-ghost use Rattle.crash_model.specs.Checker.{IsToldKept};
+ghost use Rattle.crash_model.specs.Checker.{IsKeptIfStrict};
 ghost use Rattle.inode_fs.specs.Demanding.{IsSoFar, TakesStep, AreStillKept, AreImageDemands};
 
 use crate::applying::advance;

@@ -48,18 +48,18 @@ apart_from x (b ∷ bs) other = (other 0 (omega arith), apart_from x bs (λ k be
 pub unchanged : (d : Disk) → DifferAtMost 0 d d
 unchanged d = record { same = λ block below out. refl }
 
-pub header_changes : (start d e : Disk) (at turn : ℕ) (h : Head) (xs : List ℕ) (set next : ℕ)
-    → IsWalking start d at turn → IsHeaderAt d at turn h → xs ≡ h.targets
+pub header_changes : (start d e : Disk) (at transaction : ℕ) (h : Head) (xs : List ℕ) (set next : ℕ)
+    → IsWalking start d at transaction → IsHeaderAt d at transaction h → xs ≡ h.targets
     → e ≡ with_copies d (at + 1) xs → IsSubset set next → HasFirst next (length xs) xs → DifferAtMost set start d
     → DifferAtMost next start e
-header_changes start d e at turn h xs set next w is same here sub first differ = record {
+header_changes start d e at transaction h xs set next w is same here sub first differ = record {
   same = λ block below out.
       let within : block < d.blocks = omega (arith, w.blocks) in
       ap (λ (f : Disk). block_of f block) here
       ∙ copied_none d.blocks d.journal d (at + 1) block xs (shaped-disk d w.disk)
-      (header_inside d at turn h xs w.disk is same)
+      (header_inside d at transaction h xs w.disk is same)
       (subst (λ (ys : List ℕ). AreTargets d.blocks d.journal ys) (sym (same ∙ is.targets))
-      (header_targets d at turn w.disk is.is)) within
+      (header_targets d at transaction w.disk is.is)) within
       (apart_from block xs (λ k less e. out (subst (λ (x : ℕ). Has next x) (sym e) (first.each k less))))
       ∙ differ.same block below (λ member. out (sub block member));
 }

@@ -199,14 +199,15 @@ walk_from (suc most) n jl d e j t b cur s r room least same less out at =
 -- ---- the loop
 
 -- what is left of the walk from block `at` on leads to where the whole walk does
-pub record IsWalking (start d : Disk) (at turn : ℕ) : Type 0 where
+pub record IsWalking (start d : Disk) (at transaction : ℕ) : Type 0 where
   pub inside : at ≤ 4 + d.journal
   pub from : 4 ≤ at
-  pub counted : turn + 3 ≤ at
+  pub counted : transaction + 3 ≤ at
   pub journal : d.journal ≡ start.journal
   pub blocks : d.blocks ≡ start.blocks
   pub disk : IsDisk d
-  pub rest : (most : ℕ) × (4 + d.journal ≤ at + most) × (disk_after_walk most d at turn ≡ disk_after_walk start.journal
+  pub rest : (most : ℕ) × (4 + d.journal ≤ at + most)
+      × (disk_after_walk most d at transaction ≡ disk_after_walk start.journal
       start 4 1)
 
 pub walking-start : (d : Disk) → IsDisk d → IsWalking d d 4 1
@@ -268,31 +269,31 @@ row_shaped d at row i fits t = elim (bool_is (slice_index row 0 == 0xC7)) [
   | inr done ↦ rw done (shaped-disk d i)
 ]
 
-row_disk : (d : Disk) (at turn : ℕ) → IsDisk d → is_header d at turn (block_of d at) ≡ true
+row_disk : (d : Disk) (at transaction : ℕ) → IsDisk d → is_header d at transaction (block_of d at) ≡ true
     → IsShaped d.blocks d.journal (with_row_copies d at (block_of d at))
-row_disk d at turn i is =
+row_disk d at transaction i is =
     let row : List ℕ = block_of d at in
-    let a : at < 4 + d.journal = header_in d at turn row is in
+    let a : at < 4 + d.journal = header_in d at transaction row is in
     let room : d.journal + 6 ≤ d.blocks = i.room in
-    let fits : at + count_of row ≤ 3 + d.journal = header_fits d at turn row is in
-    let same : length (targets_of row) ≡ count_of row = count_targets d at turn i (omega arith) is in
-    row_shaped d at row i (omega arith) (header_targets d at turn i is)
+    let fits : at + count_of row ≤ 3 + d.journal = header_fits d at transaction row is in
+    let same : length (targets_of row) ≡ count_of row = count_targets d at transaction i (omega arith) is in
+    row_shaped d at row i (omega arith) (header_targets d at transaction i is)
 
-pub walking-step : (start d e : Disk) (at turn len : ℕ) → IsWalking start d at turn
-    → is_header d at turn (block_of d at) ≡ true → len ≡ length (targets_of (block_of d at))
-    → e ≡ with_row_copies d at (block_of d at) → IsWalking start e (at + (1 + len)) (turn + 1)
-walking-step start d e at turn len w is long here =
+pub walking-step : (start d e : Disk) (at transaction len : ℕ) → IsWalking start d at transaction
+    → is_header d at transaction (block_of d at) ≡ true → len ≡ length (targets_of (block_of d at))
+    → e ≡ with_row_copies d at (block_of d at) → IsWalking start e (at + (1 + len)) (transaction + 1)
+walking-step start d e at transaction len w is long here =
     let i : IsDisk d = w.disk in
     let row : List ℕ = block_of d at in
-    let a : at < 4 + d.journal = header_in d at turn row is in
+    let a : at < 4 + d.journal = header_in d at transaction row is in
     let room : d.journal + 6 ≤ d.blocks = i.room in
-    let some : 1 ≤ count_of row = header_some d at turn row is in
-    let fits : at + count_of row ≤ 3 + d.journal = header_fits d at turn row is in
-    let same : length (targets_of row) ≡ count_of row = count_targets d at turn i (omega arith) is in
+    let some : 1 ≤ count_of row = header_some d at transaction row is in
+    let fits : at + count_of row ≤ 3 + d.journal = header_fits d at transaction row is in
+    let same : length (targets_of row) ≡ count_of row = count_targets d at transaction i (omega arith) is in
     let first : 4 ≤ at = w.from in
-    let counted : turn + 3 ≤ at = w.counted in
+    let counted : transaction + 3 ≤ at = w.counted in
     let s : IsShaped d.blocks d.journal e = subst (λ (f : Disk). IsShaped d.blocks d.journal f) (sym here)
-    (row_disk d at turn i is) in
+    (row_disk d at transaction i is) in
     let j : e.journal ≡ d.journal = s.journal in
     record {
       inside = omega arith;
@@ -304,40 +305,44 @@ walking-step start d e at turn len w is long here =
       rest = rest_of w.rest.0 w.rest.1 w.rest.2 a same j;
     }
   where
-    rest_of : (most : ℕ) → 4 + d.journal ≤ at + most → disk_after_walk most d at turn ≡ disk_after_walk start.journal
+    rest_of : (most : ℕ) → 4 + d.journal ≤ at + most
+        → disk_after_walk most d at transaction ≡ disk_after_walk start.journal
         start 4 1 → at < 4 + d.journal → length (targets_of (block_of d at)) ≡ count_of (block_of d at)
         → e.journal ≡ d.journal
         → (next : ℕ) × (4 + e.journal ≤ at + (1 + len) + next)
-        × (disk_after_walk next e (at + (1 + len)) (turn + 1) ≡ disk_after_walk start.journal start 4 1)
+        × (disk_after_walk next e (at + (1 + len)) (transaction + 1) ≡ disk_after_walk start.journal start 4 1)
     rest_of zero enough leads a same j = absurd (omega arith)
     rest_of (suc next) enough leads a same j = (
       next,
       omega arith,
-      ap (λ (f : Disk). disk_after_walk next f (at + (1 + len)) (turn + 1)) here
-          ∙ ap (λ (k : ℕ). disk_after_walk next (with_row_copies d at (block_of d at)) k (turn + 1)) (omega arith)
-          ∙ sym (walk_opened next d at turn is) ∙ leads,
+      ap (λ (f : Disk). disk_after_walk next f (at + (1 + len)) (transaction + 1)) here
+          ∙ ap (λ (k : ℕ). disk_after_walk next (with_row_copies d at (block_of d at)) k (transaction + 1))
+          (omega arith)
+          ∙ sym (walk_opened next d at transaction is) ∙ leads,
     )
 
 -- the same by what was read of the header
-pub header_known : (d : Disk) (at turn : ℕ) (h : Head) (xs : List ℕ) → IsDisk d → IsHeaderAt d at turn h
+pub header_known : (d : Disk) (at transaction : ℕ) (h : Head) (xs : List ℕ) → IsDisk d → IsHeaderAt d at transaction h
     → xs ≡ h.targets → All (λ b. b < d.blocks) xs
-header_known d at turn h xs i is same = All-same (λ b. b < d.blocks) xs (targets_of (block_of d at)) (same ∙ is.targets)
-    (targets_known d at turn i is.is)
+header_known d at transaction h xs i is same =
+    All-same (λ b. b < d.blocks) xs (targets_of (block_of d at)) (same ∙ is.targets)
+    (targets_known d at transaction i is.is)
 
-pub header_inside : (d : Disk) (at turn : ℕ) (h : Head) (xs : List ℕ) → IsDisk d → IsHeaderAt d at turn h
+pub header_inside : (d : Disk) (at transaction : ℕ) (h : Head) (xs : List ℕ) → IsDisk d → IsHeaderAt d at transaction h
     → xs ≡ h.targets → (at + 1) + length xs ≤ d.blocks
-header_inside d at turn h xs i is same =
+header_inside d at transaction h xs i is same =
     let row : List ℕ = block_of d at in
-    let a : at < 4 + d.journal = header_in d at turn row is.is in
+    let a : at < 4 + d.journal = header_in d at transaction row is.is in
     let room : d.journal + 6 ≤ d.blocks = i.room in
-    let fits : at + count_of row ≤ 3 + d.journal = header_fits d at turn row is.is in
-    let counted : length (targets_of row) ≡ count_of row = count_targets d at turn i (omega arith) is.is in
+    let fits : at + count_of row ≤ 3 + d.journal = header_fits d at transaction row is.is in
+    let counted : length (targets_of row) ≡ count_of row = count_targets d at transaction i (omega arith) is.is in
     let long : length xs ≡ length (targets_of row) = ap (λ (ys : List ℕ). length ys) (same ∙ is.targets) in
     omega arith
 
-pub header_copied : (d : Disk) (at turn : ℕ) (h : Head) (xs : List ℕ) → IsHeaderAt d at turn h → xs ≡ h.targets
+pub header_copied : (d : Disk) (at transaction : ℕ) (h : Head) (xs : List ℕ) → IsHeaderAt d at transaction h
+    → xs ≡ h.targets
     → h.committed ≡ true → with_copies d (at + 1) xs ≡ with_row_copies d at (block_of d at)
-header_copied d at turn h xs is same held =
+header_copied d at transaction h xs is same held =
     let t : (slice_index (block_of d at) 0 == 0xC7) ≡ true = sym is.held ∙ held in
     ap (λ (ys : List ℕ). with_copies d (at + 1) ys) (same ∙ is.targets) ∙ taken d at (block_of d at) t
   where
@@ -345,23 +350,25 @@ header_copied d at turn h xs is same held =
         → with_copies d (at + 1) (targets_of row) ≡ with_row_copies d at row
     taken d at row t = rw t refl
 
-pub header_left : (d : Disk) (at turn : ℕ) (h : Head) → IsHeaderAt d at turn h → h.committed ≡ false
+pub header_left : (d : Disk) (at transaction : ℕ) (h : Head) → IsHeaderAt d at transaction h → h.committed ≡ false
     → d ≡ with_row_copies d at (block_of d at)
-header_left d at turn h is done =
+header_left d at transaction h is done =
     let f : (slice_index (block_of d at) 0 == 0xC7) ≡ false = sym is.held ∙ done in
     left d at (block_of d at) f
   where
     left : (d : Disk) (at : ℕ) (row : List ℕ) → (slice_index row 0 == 0xC7) ≡ false → d ≡ with_row_copies d at row
     left d at row f = rw f refl
 
-pub header_step : (start d e : Disk) (at turn len : ℕ) (h : Head) → IsWalking start d at turn → IsHeaderAt d at turn h
-    → len ≡ length h.targets → e ≡ with_row_copies d at (block_of d at) → IsWalking start e (at + (1 + len)) (turn + 1)
-header_step start d e at turn len h w is long here = walking-step start d e at turn len w is.is
+pub header_step : (start d e : Disk) (at transaction len : ℕ) (h : Head) → IsWalking start d at transaction
+    → IsHeaderAt d at transaction h
+    → len ≡ length h.targets → e ≡ with_row_copies d at (block_of d at)
+    → IsWalking start e (at + (1 + len)) (transaction + 1)
+header_step start d e at transaction len h w is long here = walking-step start d e at transaction len w is.is
     (long ∙ ap (λ (xs : List ℕ). length xs) is.targets) here
 
-pub walking-end : (start d : Disk) (at turn : ℕ) → IsWalking start d at turn
-    → is_header d at turn (block_of d at) ≡ false → d ≡ disk_after_walk start.journal start 4 1
-walking-end start d at turn w none = ended w.rest.0 d at turn none ∙ w.rest.2
+pub walking-end : (start d : Disk) (at transaction : ℕ) → IsWalking start d at transaction
+    → is_header d at transaction (block_of d at) ≡ false → d ≡ disk_after_walk start.journal start 4 1
+walking-end start d at transaction w none = ended w.rest.0 d at transaction none ∙ w.rest.2
   where
     ended : (most : ℕ) (d : Disk) (j t : ℕ) → is_header d j t (block_of d j) ≡ false → d ≡ disk_after_walk most d j t
     ended zero d j t none = refl
@@ -471,15 +478,16 @@ disk_after_walk-image_after_replay d i =
     (joined_blocks d.blocks e (λ block. block_of d (copy_after d block block (headers d))) s.long
     (λ b below. disk_after_walk-block d b i below))
 
-pub replay_ends : (start d : Disk) (at turn : ℕ) → IsDisk start → IsWalking start d at turn
-    → is_header d at turn (block_of d at) ≡ false → d ≡ image_after_replay start
-replay_ends start d at turn i w none = walking-end start d at turn w none ∙ disk_after_walk-image_after_replay start i
+pub replay_ends : (start d : Disk) (at transaction : ℕ) → IsDisk start → IsWalking start d at transaction
+    → is_header d at transaction (block_of d at) ≡ false → d ≡ image_after_replay start
+replay_ends start d at transaction i w none =
+    walking-end start d at transaction w none ∙ disk_after_walk-image_after_replay start i
 
-pub replay_keeps_journal : (start d : Disk) (at turn block : ℕ) → IsDisk start → IsWalking start d at turn
-    → is_header d at turn (block_of d at) ≡ false → 4 ≤ block → block < 4 + start.journal
+pub replay_keeps_journal : (start d : Disk) (at transaction block : ℕ) → IsDisk start → IsWalking start d at transaction
+    → is_header d at transaction (block_of d at) ≡ false → 4 ≤ block → block < 4 + start.journal
     → block_of d block ≡ block_of start block
-replay_keeps_journal start d at turn block i w none from to =
-    ap (λ (e : Disk). block_of e block) (walking-end start d at turn w none)
+replay_keeps_journal start d at transaction block i w none from to =
+    ap (λ (e : Disk). block_of e block) (walking-end start d at transaction w none)
     ∙ disk_after_walk-journal start block i from to
 
 -- the image after replay is a disk

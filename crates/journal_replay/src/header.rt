@@ -49,15 +49,19 @@ impl Header {
     }
 }
 
-/// The header of transaction `turn` in journal block `at`, if the block's bytes are one.
-pub fn header_at<A: Allocator + Copy>(image: &Image<A>, at: usize, turn: usize) -> Option<Header>
+/// The header of the transaction with this number in journal block `at`, if the block's bytes are one.
+pub fn header_at<A: Allocator + Copy>(
+    image: &Image<A>,
+    at: usize,
+    transaction: usize,
+) -> Option<Header>
     requires { at < image.now.blocks }
     ensures { MatchOption result
-        (is_header image.now at turn (block_of image.now at) ≡ false)
-        (IsHeaderAt image.now at turn) }
+        (is_header image.now at transaction (block_of image.now at) ≡ false)
+        (IsHeaderAt image.now at transaction) }
 {
     let row = image.block(at);
-    if !is_header(image, row, at, turn) {
+    if !is_header(image, row, at, transaction) {
         return None;
     }
     let mut numbers = [0; MOST_TARGETS];
@@ -69,16 +73,21 @@ pub fn header_at<A: Allocator + Copy>(image: &Image<A>, at: usize, turn: usize) 
     })
 }
 
-/// Whether a block's bytes make it the header of transaction `turn` in journal block `at`.
-fn is_header<A: Allocator + Copy>(image: &Image<A>, row: &[u8], at: usize, turn: usize) -> bool
+/// Whether a block's bytes make it the header of the transaction with this number in journal block `at`.
+fn is_header<A: Allocator + Copy>(
+    image: &Image<A>,
+    row: &[u8],
+    at: usize,
+    transaction: usize,
+) -> bool
     requires block { length row.now ≡ BLOCK_SIZE }
     requires inside { at < image.now.blocks }
-    ensures { result ≡ is_header image.now at turn row.now }
+    ensures { result ≡ is_header image.now at transaction row.now }
 {
     let count = usize::from(row[2]);
     at < JOURNAL_AT + image.journal()
         && (row[0] == COMMITTED_MARK || row[0] == DONE_MARK)
-        && usize::from(row[1]) == turn
+        && usize::from(row[1]) == transaction
         && 1 <= count
         && count <= MOST_TARGETS
         && at + count <= 3 + image.journal()

@@ -25,17 +25,17 @@ pub fn replay<A: Allocator + Copy>(image: &mut Image<A>) -> u128
     ensures others { DifferAtMost result image.old image.new }
 {
     let mut at = JOURNAL_AT;
-    let mut turn = 1;
+    let mut transaction = 1;
     let mut written = 0;
     let _journal = image.journal();
-    while let Some(header) = header_at(image, at, turn) {
+    while let Some(header) = header_at(image, at, transaction) {
         let targets = header.targets();
         if header.is_committed() {
             copy_blocks(image, at + 1, targets);
             written = with_all(written, targets);
         }
         at += 1 + targets.len();
-        turn += 1;
+        transaction += 1;
     }
     written
 }

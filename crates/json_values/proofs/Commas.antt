@@ -30,8 +30,8 @@ comma_none (suc n) none = absurd (omega arith)
 pub item_more : (items : List (List ℕ)) (at : ℕ) (old so_far after item : List ℕ) → at ≡ length items
     → so_far ≡ old ++ join_of 44 items → after ≡ so_far ++ comma_before at ++ item
     → after ≡ old ++ join_of 44 (items ++ item ∷ [])
-item_more items at old so_far after item place told more =
-    more ∙ (ap (λ (t : List ℕ). t ++ comma_before at ++ item) told
+item_more items at old so_far after item place listed more =
+    more ∙ (ap (λ (t : List ℕ). t ++ comma_before at ++ item) listed
     ∙ (regroup old (join_of 44 items) (comma_before at) item
     ∙ ap (λ (t : List ℕ). old ++ t) (sym (joined_at items item at place))))
   where
@@ -42,8 +42,8 @@ item_more items at old so_far after item place told more =
 pub mapped_more : {X : Type 0} (form : X → List ℕ) (items : List X) (item : X) (at : ℕ) (old so_far after text : List ℕ)
     → at ≡ length items → so_far ≡ old ++ join_of 44 (map form items) → text ≡ form item
     → after ≡ so_far ++ comma_before at ++ text → after ≡ old ++ join_of 44 (map form (items ++ item ∷ []))
-mapped_more form items item at old so_far after text place tells written more =
-    item_more (map form items) at old so_far after (form item) (place ∙ sym (length-map items form)) tells
+mapped_more form items item at old so_far after text place listing written more =
+    item_more (map form items) at old so_far after (form item) (place ∙ sym (length-map items form)) listing
     (more ∙ ap (λ (t : List ℕ). so_far ++ comma_before at ++ t) written)
     ∙ ap (λ (ts : List (List ℕ)). old ++ join_of 44 ts) (sym (map-append form items (item ∷ [])))
 
@@ -51,8 +51,8 @@ mapped_more form items item at old so_far after text place tells written more =
 pub taken_more : {X : Type 0} (form : X → List ℕ) (xs : List X) (at : ℕ) (d : X) (old so_far after text : List ℕ)
     → at < length xs → so_far ≡ old ++ join_of 44 (map form (take at xs)) → text ≡ form (get_or xs at d)
     → after ≡ so_far ++ comma_before at ++ text → after ≡ old ++ join_of 44 (map form (take (at + 1) xs))
-taken_more form xs at d old so_far after text within tells written more =
-    mapped_more form (take at xs) (get_or xs at d) at old so_far after text place tells written more
+taken_more form xs at d old so_far after text within listing written more =
+    mapped_more form (take at xs) (get_or xs at d) at old so_far after text place listing written more
     ∙ ap (λ ys. old ++ join_of 44 (map form ys)) (sym (take_more xs at d within))
   where
     place : at ≡ length (take at xs)

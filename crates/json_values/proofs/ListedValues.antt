@@ -11,15 +11,15 @@ use Rattle.serde_json.specs.Data.{Data}
 pub listed_more : {X : Type 0} (form : X → Data) (xs : List X) (at : ℕ) (d : X) (so_far after : List Data)
     (value : Data) → at < length xs → so_far ≡ map form (take at xs) → value ≡ form (get_or xs at d)
     → after ≡ so_far ++ value ∷ [] → after ≡ map form (take (at + 1) xs)
-listed_more form xs at d so_far after value within tells is more =
+listed_more form xs at d so_far after value within listing is more =
     more
-    ∙ (ap (λ (ds : List Data). ds ++ value ∷ []) tells
+    ∙ (ap (λ (ds : List Data). ds ++ value ∷ []) listing
     ∙ (ap (λ (e : Data). map form (take at xs) ++ e ∷ []) is
     ∙ (sym (map-append form (take at xs) (get_or xs at d ∷ [])) ∙ ap (map form) (sym (take_more xs at d within)))))
 
 pub all_listed : {X : Type 0} (form : X → Data) (xs : List X) (at : ℕ) (values : List Data) → length xs ≤ at
     → values ≡ map form (take at xs) → values ≡ map form xs
-all_listed form xs at values ended tells = tells ∙ ap (map form) (take_all at xs ended)
+all_listed form xs at values ended listing = listing ∙ ap (map form) (take_all at xs ended)
 
 listed_form : {X : Type 0} (form : X → Data) (o : Option X)
     → option_to_list (option_map form o) ≡ map form (option_to_list o)

@@ -12,8 +12,8 @@ use Rattle.serde_json.specs.View.{view}
 use Rattle.serde_json.specs.Written.{compact_text, has_float}
 use Rattle.serde_json.specs.Data.{Data, string}
 use Rattle.serde_json.specs.declared.value.Value.{Value}
-use Rattle.crash_model.specs.Reasons.{Dependency, ToldPatch, reasons}
-use Rattle.report_model.specs.Explain.{told_json, dependency_json}
+use Rattle.crash_model.specs.Reasons.{Dependency, ExplainedPatch, reasons}
+use Rattle.report_model.specs.Explain.{explained_json, dependency_json}
 use Rattle.crash_model.specs.PatchTexts.{op_text, part_text}
 use Rattle.crash_model.specs.Lists.{some_below, when}
 use Rattle.crash_model.specs.Names.{is_name_byte, IsName}
@@ -40,9 +40,9 @@ use Rattle.crash_model.specs.declared.rules.Scope.{Scope}
 use Rattle.crash_model.specs.declared.rules.Scope.TheVariants.{Same, Previous, Before}
 use Rattle.crash_model.specs.declared.rules.Rule.{Rule}
 use Rattle.crash_model.specs.declared.steps.Act.TheVariants.{Do}
-use Rattle.traced_patches.specs.Traced.{TracedPatches, told_at, dependency_at}
+use Rattle.traced_patches.specs.Traced.{TracedPatches, explained_at, dependency_at}
 use Rattle.json_values.specs.Written.{IsWritten}
-use Rattle.json_values.specs.Patches.{texts_data, dependency_data, dependencies_data, patch_data, told_data}
+use Rattle.json_values.specs.Patches.{texts_data, dependency_data, dependencies_data, patch_data, explained_data}
 use Rattle.json_values.specs.Patches.{IsPlainPatch}
 use Rattle.json_values.specs.Patches.{hex_data}
 use Rattle.json_values.proofs.Bytes.{IsPlain, plain-append, string_bytes, array_bytes_of, hex_bytes, none_float}
@@ -183,10 +183,10 @@ regroup_5 a b c d e = sym (append_assoc (a ++ b ++ c) d e
     ∙ (append_assoc (a ++ b) c (d ++ e) ∙ append_assoc a b (c ++ (d ++ e))))
 
 -- a plain text, if it is there, before plain texts
-told_plain : (told : Bool) (text : List ℕ) (texts : List (List ℕ)) → IsPlain text → All IsPlain texts
-    → All IsPlain ((if told then text ∷ [] else []) ++ texts)
-told_plain true text texts plain rest = All-cons IsPlain text texts plain rest
-told_plain false text texts plain rest = rest
+explained_plain : (listed : Bool) (text : List ℕ) (texts : List (List ℕ)) → IsPlain text → All IsPlain texts
+    → All IsPlain ((if listed then text ∷ [] else []) ++ texts)
+explained_plain true text texts plain rest = All-cons IsPlain text texts plain rest
+explained_plain false text texts plain rest = rest
 
 reasons_of_plain : (overlap block group wait : Bool) (rs : List Rule)
     → All IsPlain ((if overlap then codes "overlap" ∷ [] else []) ++ (if block then codes "block" ∷ [] else [])
@@ -198,21 +198,21 @@ reasons_of_plain overlap block group wait rs =
     let groups : List (List ℕ) = if group then codes "group" ∷ [] else [] in
     let blocks : List (List ℕ) = if block then codes "block" ∷ [] else [] in
     let overlaps : List (List ℕ) = if overlap then codes "overlap" ∷ [] else [] in
-    let last : All IsPlain (waits ++ rules) = told_plain wait (codes "wait") rules refl (rules_plain rs) in
+    let last : All IsPlain (waits ++ rules) = explained_plain wait (codes "wait") rules refl (rules_plain rs) in
     let third : All IsPlain (groups ++ (waits ++ rules)) =
-    told_plain group (codes "group") (waits ++ rules) refl last in
+    explained_plain group (codes "group") (waits ++ rules) refl last in
     let next : All IsPlain (blocks ++ (groups ++ (waits ++ rules))) =
-    told_plain block (codes "block") (groups ++ (waits ++ rules)) refl third in
+    explained_plain block (codes "block") (groups ++ (waits ++ rules)) refl third in
     let all : All IsPlain (overlaps ++ (blocks ++ (groups ++ (waits ++ rules)))) =
-    told_plain overlap (codes "overlap") (blocks ++ (groups ++ (waits ++ rules))) refl next in
+    explained_plain overlap (codes "overlap") (blocks ++ (groups ++ (waits ++ rules))) refl next in
     subst (All IsPlain) (regroup_5 overlaps blocks groups waits rules) all
 
 dependency_plain : (t : TracedPatches) (q : Emitted) (id : ℕ)
     → All HasPlainReasons (option_to_list (dependency_at t q id))
 dependency_plain t q id = by_patch (slice_get t.emitted id)
   where
-    told : Option Emitted → Option Dependency
-    told o = elim o [
+    listed : Option Emitted → Option Dependency
+    listed o = elim o [
       | Some p ↦ when (depends t.rules t.whole t.links q id p)
           (record { id = id; reasons = reasons t.rules t.whole t.links q id p })
       | None ↦ None
@@ -224,7 +224,7 @@ dependency_plain t q id = by_patch (slice_get t.emitted id)
         (reasons_of_plain _ _ _ _ _) (All-nil HasPlainReasons)
     by_test p false = All-nil HasPlainReasons
 
-    by_patch : (o : Option Emitted) → All HasPlainReasons (option_to_list (told o))
+    by_patch : (o : Option Emitted) → All HasPlainReasons (option_to_list (listed o))
     by_patch None = All-nil HasPlainReasons
     by_patch (Some p) = by_test p (depends t.rules t.whole t.links q id p)
 
@@ -251,10 +251,10 @@ regroup_17 : (a b c d e f g h i j k l m n o p q : List ℕ)
     ≡ a ++ b ++ c ++ d ++ e ++ f ++ g ++ h ++ i ++ j ++ k ++ l ++ m ++ n ++ o ++ p ++ q
 regroup_17 a b c d e f g h i j k l m n o p q = simp append_assoc
 
-pub told_bytes : (t : ToldPatch) → IsPlainPatch t → All HasPlainReasons t.after
-    → compact_text (told_data t) ≡ told_json t
+pub explained_bytes : (t : ExplainedPatch) → IsPlainPatch t → All HasPlainReasons t.after
+    → compact_text (explained_data t) ≡ explained_json t
 unfolding escape_byte
-told_bytes t plain why =
+explained_bytes t plain why =
     let e = t.emitted in
     let block = decimal e.place.block in
     let line = decimal e.origin.line in
@@ -263,7 +263,7 @@ told_bytes t plain why =
     ++ (after ++ (codes ",\"block\":" ++ (block ++ (codes ",\"line\":" ++ (line ++ (codes ",\"new\":" ++ (new
     ++ (codes ",\"offset\":" ++ (offset ++ (codes ",\"part\":"
     ++ (part ++ (codes ",\"step\":" ++ (step ++ (codes ",\"undo\":" ++ (undo ++ codes "}"))))))))))))))) in
-    let spelt : compact_text (told_data t) ≡ form (compact_text (dependencies_data t.after))
+    let spelt : compact_text (explained_data t) ≡ form (compact_text (dependencies_data t.after))
     (compact_text (hex_data e.place.new)) (compact_text (string (part_text e.part)))
     (compact_text (string (op_text e.origin.op))) (compact_text (hex_data t.undo)) = refl in
     let after = array_bytes_of HasPlainReasons dependency_data dependency_json dependency_bytes t.after why in
@@ -291,28 +291,28 @@ told_bytes t plain why =
 dependency_no_float : (w : Dependency) → has_float (dependency_data w) ≡ false
 dependency_no_float w = rw (none_float string (λ _. refl) w.reasons) refl
 
-pub told_no_float : (t : ToldPatch) → has_float (told_data t) ≡ false
-told_no_float t = rw (none_float dependency_data dependency_no_float t.after) refl
+pub explained_no_float : (t : ExplainedPatch) → has_float (explained_data t) ≡ false
+explained_no_float t = rw (none_float dependency_data dependency_no_float t.after) refl
 
 -- the explanation of an id's patch, as it was emitted and with its undo
-abbrev pub told_of : TracedPatches → ℕ → Emitted → List ℕ → ToldPatch
-told_of t id q undo = record { id = id; emitted = q; undo = undo; after = some_below id (dependency_at t q) }
+abbrev pub explained_of : TracedPatches → ℕ → Emitted → List ℕ → ExplainedPatch
+explained_of t id q undo = record { id = id; emitted = q; undo = undo; after = some_below id (dependency_at t q) }
 
-pub told_written : {E : Type 0} (t : TracedPatches) (id : ℕ) (q : Emitted) (undo : List ℕ) (after : Data)
-    (r : Result Value E) → told_at t id ≡ Some (told_of t id q undo)
+pub explained_written : {E : Type 0} (t : TracedPatches) (id : ℕ) (q : Emitted) (undo : List ℕ) (after : Data)
+    (r : Result Value E) → explained_at t id ≡ Some (explained_of t id q undo)
     → after ≡ dependencies_data (some_below id (dependency_at t q))
     → IfOk r (λ value. view value ≡ patch_data after q undo) → OnOk r (IsBytes q.place.new) → OnOk r (IsBytes undo)
-    → OnOk r (IsAct (Do q.origin.op)) → IfOk r (λ value. (told : ToldPatch) × (told_at t id ≡ Some told)
-    × IsWritten (view value) (told_json told))
-told_written t id q undo after (Ok value) at waits is new bytes act =
-    let told = told_of t id q undo in
-    let shown : view value ≡ told_data told = is ∙ ap (λ (d : Data). patch_data d q undo) waits in
-    let plain : IsPlainPatch told = record { new = new; undo = bytes; step = act } in (
-      told,
+    → OnOk r (IsAct (Do q.origin.op)) → IfOk r (λ value. (listed : ExplainedPatch) × (explained_at t id ≡ Some listed)
+    × IsWritten (view value) (explained_json listed))
+explained_written t id q undo after (Ok value) at waits is new bytes act =
+    let listed = explained_of t id q undo in
+    let shown : view value ≡ explained_data listed = is ∙ ap (λ (d : Data). patch_data d q undo) waits in
+    let plain : IsPlainPatch listed = record { new = new; undo = bytes; step = act } in (
+      listed,
       at,
       record {
-        whole = ap compact_text shown ∙ told_bytes told plain (dependencies_plain t q id);
-        plain = ap has_float shown ∙ told_no_float told;
+        whole = ap compact_text shown ∙ explained_bytes listed plain (dependencies_plain t q id);
+        plain = ap has_float shown ∙ explained_no_float listed;
       },
     )
-told_written t id q undo after (Err e) at waits is new bytes act = tt
+explained_written t id q undo after (Err e) at waits is new bytes act = tt

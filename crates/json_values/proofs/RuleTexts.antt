@@ -4,12 +4,12 @@ use Rattle.crash_model.specs.RuleTexts.{rule_text}
 use Rattle.crash_model.specs.declared.rules.Rule.{Rule}
 use Rattle.report_model.specs.JsonParts.{Form}
 use Rattle.report_model.specs.Needs as needs
-use Rattle.report_model.specs.Needs.{Without, first_json, told_rule_json}
+use Rattle.report_model.specs.Needs.{Without, first_json, listed_rule_json}
 
 -- a rule that applies to no pair
 pub unused_text : (form : Form) (rule : Rule) (old new : List ℕ)
     → new ≡ old ++ (codes "{\"pairs\":0,\"rule\":\"" ++ (rule_text rule ++ codes "\"}"))
-    → new ≡ old ++ told_rule_json form (record { rule = rule; usage = needs.Unused })
+    → new ≡ old ++ listed_rule_json form (record { rule = rule; usage = needs.Unused })
 unused_text form rule old new is = is ∙ ap (λ (t : List ℕ). old ++ t)
     (regroup (codes "{") (codes "\"pairs\":0") (codes ",\"rule\":") (codes "\"") (rule_text rule) (codes "}"))
   where
@@ -20,7 +20,7 @@ unused_text form rule old new is = is ∙ ap (λ (t : List ℕ). old ++ t)
 pub too_many_text : (form : Form) (rule : Rule) (pairs : ℕ) (old new : List ℕ)
     → new ≡ old ++ (codes "{\"pairs\":" ++ (decimal pairs ++ (codes ",\"rule\":\"" ++ (rule_text rule
     ++ codes "\",\"too_many\":true}"))))
-    → new ≡ old ++ told_rule_json form (record { rule = rule; usage = needs.TooMany pairs })
+    → new ≡ old ++ listed_rule_json form (record { rule = rule; usage = needs.TooMany pairs })
 too_many_text form rule pairs old new is = is ∙ ap (λ (t : List ℕ). old ++ t)
     (regroup (codes "{") (codes "\"pairs\":") (decimal pairs) (codes ",\"rule\":") (codes "\"") (rule_text rule)
     (codes ",\"too_many\":true") (codes "}"))
@@ -35,7 +35,7 @@ pub used_text : (form : Form) (rule : Rule) (pairs : ℕ) (w : Without) (old one
     ++ codes ","))))
     → two ≡ one ++ first_json form w.first
     → new ≡ two ++ (codes "\"pairs\":" ++ (decimal pairs ++ (codes ",\"rule\":\"" ++ (rule_text rule ++ codes "\"}"))))
-    → new ≡ old ++ told_rule_json form (record { rule = rule; usage = needs.Used pairs w })
+    → new ≡ old ++ listed_rule_json form (record { rule = rule; usage = needs.Used pairs w })
 used_text form rule pairs w old one two new first second third =
     let section = first_json form w.first in
     let end = codes "\"pairs\":" ++ (decimal pairs ++ (codes ",\"rule\":\"" ++ (rule_text rule ++ codes "\"}"))) in

@@ -8,7 +8,7 @@ use Rattle.report_model.specs.Report.{Section}
 use Rattle.report_model.specs.JsonParts.{Form, ids_json}
 use Rattle.report_model.specs.Replayed.{ReplayedBlock, replayed_json}
 use Rattle.report_model.specs.SectionJson.{replay_json, section_json, write_json, writes_json, shows_json}
-use Rattle.report_model.specs.Summary.{told_fault_json}
+use Rattle.report_model.specs.Summary.{counted_fault_json}
 use Rattle.json_values.specs.Items.{crash_json, fault_shows_json, last_json, leading_json}
 
 pub three_pieces : (before one two after a b c : List ℕ) → one ≡ before ++ a → two ≡ one ++ b → after ≡ two ++ c
@@ -108,7 +108,7 @@ pub row_pieces : (form : Form) (row : FaultRow) (s : Section) (before one two th
     → five ≡ four ++ (codes ",\"sets\":" ++ decimal row.sets)
     → six ≡ five ++ fault_shows_json row.fault s
     → after ≡ six ++ last_json form.patches s
-    → after ≡ before ++ told_fault_json form (record { row = row; first = s })
+    → after ≡ before ++ counted_fault_json form (record { row = row; first = s })
 row_pieces form row s before one two three four five six after first second third fourth fifth sixth seventh =
     let head = fault_head form.numbers row.fault in
     let replay = replay_json s.replay in

@@ -31,9 +31,9 @@ together_at (x ∷ xs) y at place = together_push x xs y
 pub shown_more : (xs : List Shown) (at : ℕ) (d : Shown) (old so_far bar after : List ℕ) → at < length xs
     → so_far ≡ old ++ together (take at xs) → bar ≡ so_far ++ bar_before at
     → after ≡ bar ++ shown_text (get_or xs at d) → after ≡ old ++ together (take (at + 1) xs)
-shown_more xs at d old so_far bar after within tells barred more =
+shown_more xs at d old so_far bar after within listing barred more =
     let item = shown_text (get_or xs at d) in
-    more ∙ (ap (λ (t : List ℕ). t ++ item) (barred ∙ ap (λ (t : List ℕ). t ++ bar_before at) tells)
+    more ∙ (ap (λ (t : List ℕ). t ++ item) (barred ∙ ap (λ (t : List ℕ). t ++ bar_before at) listing)
     ∙ (regroup old (together (take at xs)) (bar_before at) item
     ∙ ap (λ (t : List ℕ). old ++ t) (sym (together_at (take at xs) (get_or xs at d) at place)
     ∙ ap together (sym (take_more xs at d within)))))
@@ -53,16 +53,16 @@ shows_pieces shows before one two after = array_pieces before one two after (cod
     (join_of 44 (map (λ shown. json_string (together shown)) shows))
 
 -- the same for one fault
-pub shows_told : {X Y : Type 0} (o : Option X) (g : X → Y) (f : Y → List (List Shown)) (before one two after : List ℕ)
+pub shows_listed : {X Y : Type 0} (o : Option X) (g : X → Y) (f : Y → List (List Shown)) (before one two after : List ℕ)
     → is_some o ≡ true → one ≡ before ++ codes ",\"shows\":["
     → two ≡ one ++ join_of 44 (map (λ shown. json_string (together shown)) (shows_if (option_map f (option_map g o))))
     → after ≡ two ++ codes "]" → after ≡ before ++ shows_json (option_map f (option_map g o))
-shows_told None g f before one two after is first second third = cc
-shows_told (Some x) g f before one two after is first second third =
+shows_listed None g f before one two after is first second third = cc
+shows_listed (Some x) g f before one two after is first second third =
     shows_pieces (f (g x)) before one two after first second third
 
--- where nothing is told
-pub shows_untold : {X Y : Type 0} (o : Option X) (g : X → Y) (f : Y → List (List Shown)) (before : List ℕ)
+-- where nothing is listed
+pub shows_unlisted : {X Y : Type 0} (o : Option X) (g : X → Y) (f : Y → List (List Shown)) (before : List ℕ)
     → is_some o ≡ false → before ≡ before ++ shows_json (option_map f (option_map g o))
-shows_untold None g f before is = sym (append-nil before)
-shows_untold (Some x) g f before is = cc
+shows_unlisted None g f before is = sym (append-nil before)
+shows_unlisted (Some x) g f before is = cc

@@ -16,7 +16,7 @@ abbrev pub bar_before : ℕ → List ℕ
 bar_before zero = []
 bar_before (suc n) = codes " | "
 
--- what is shown where the fault is a broken promise, as a key with a comma before it, if that is told
+-- what is shown where the fault is a broken promise, as a key with a comma before it, if that is listed
 abbrev pub fault_shows_json : Fault → Section → List ℕ
 fault_shows_json fault s = shows_json (option_map (shown_of fault s.found) s.shows)
 

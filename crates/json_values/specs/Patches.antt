@@ -3,7 +3,7 @@ use Rattle.std.specs.Prelude.{ℕ, List, map, codes}
 use Rattle.hex.specs.Hex.{encode_lower, IsBytes}
 use Rattle.serde_json.specs.Data.{Data, Members, number, unsigned, string, array, object, member, no_members, put}
 use Rattle.serde_json.specs.View.{items_of}
-use Rattle.crash_model.specs.Reasons.{Dependency, ToldPatch}
+use Rattle.crash_model.specs.Reasons.{Dependency, ExplainedPatch}
 use Rattle.crash_model.specs.PatchTexts.{op_text, part_text}
 use Rattle.crash_model.specs.Patches.{Place}
 use Rattle.crash_model.specs.Script.{IsAct}
@@ -50,11 +50,11 @@ place_put p undo members =
     put (codes "undo") (hex_data undo) (put (codes "offset") (number_data p.offset)
     (put (codes "new") (hex_data p.new) (put (codes "block") (number_data p.block) members)))
 
-abbrev pub told_data : ToldPatch → Data
-told_data t = patch_data (dependencies_data t.after) t.emitted t.undo
+abbrev pub explained_data : ExplainedPatch → Data
+explained_data t = patch_data (dependencies_data t.after) t.emitted t.undo
 
 -- the data of a patch are bytes and an operation that a script can have
-pub record IsPlainPatch (t : ToldPatch) : Type 0 where
+pub record IsPlainPatch (t : ExplainedPatch) : Type 0 where
   pub new : IsBytes t.emitted.place.new
   pub undo : IsBytes t.undo
   pub step : IsAct (Do t.emitted.origin.op)

@@ -1,7 +1,7 @@
 //! The entries of faults.
 
 ghost use Rattle.std.specs.Prelude.{◌≡◌, ◌++◌, string_bytes, OnOk};
-ghost use Rattle.report_model.specs.Summary.{told_fault_json};
+ghost use Rattle.report_model.specs.Summary.{counted_fault_json};
 ghost use Rattle.report_sections.specs.Sections.{section_of};
 
 use crate::known::KnownTexts;
@@ -20,7 +20,7 @@ impl KnownTexts {
         first: &Section<A>,
     ) -> Result<(), AllocError>
         ensures text { OnOk result (string_bytes out.new ≡ string_bytes out.old
-            ++ told_fault_json self.old (record { row = row.now; first = section_of first.now })) }
+            ++ counted_fault_json self.old (record { row = row.now; first = section_of first.now })) }
         ensures kept { self.new ≡ self.old }
     {
         self.push_fault_head(out, row.fault)?;

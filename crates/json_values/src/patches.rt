@@ -2,8 +2,8 @@
 
 ghost use Rattle.std.specs.Prelude.{◌≡◌, ◌++◌, ◌<◌, length, map, IfOk, OnOk, Some};
 ghost use Rattle.std.specs.Prelude.{option_map, option_to_list, slice_get};
-ghost use Rattle.crash_model.specs.Reasons.{ToldPatch};
-ghost use Rattle.report_model.specs.Explain.{told_json};
+ghost use Rattle.crash_model.specs.Reasons.{ExplainedPatch};
+ghost use Rattle.report_model.specs.Explain.{explained_json};
 ghost use Rattle.crash_model.specs.PatchTexts.{op_text};
 ghost use Rattle.crash_model.specs.Lists.{some_below};
 ghost use Rattle.crash_model.specs.Patches.{place};
@@ -13,7 +13,7 @@ ghost use Rattle.crash_model.specs.declared.steps.Act.TheVariants.{Do};
 ghost use Rattle.hex.specs.Hex.{IsBytes};
 ghost use Rattle.traced_patches.specs.Labels.{emitted_at, emitted_of};
 ghost use Rattle.traced_patches.specs.Reasons.{reason_text};
-ghost use Rattle.traced_patches.specs.Traced.{told_at, dependency_at};
+ghost use Rattle.traced_patches.specs.Traced.{explained_at, dependency_at};
 ghost use Rattle.json_values.specs.Written.{IsWritten};
 ghost use Rattle.json_values.specs.Patches.{texts_data, dependency_data, dependencies_data, patch_data};
 ghost use Rattle.json_values.specs.Patches.{hex_data, label_put, place_put};
@@ -34,8 +34,8 @@ pub fn patch_value<A: Allocator + Copy>(
 ) -> Result<Value, AllocError>
     requires patch { id < length traced.now.patches }
     requires emitted { length traced.now.emitted ≡ length traced.now.patches }
-    ensures { IfOk result (λ value. (told : ToldPatch) × (told_at traced.now id ≡ Some told)
-        × IsWritten (view value) (told_json told)) }
+    ensures { IfOk result (λ value. (listed : ExplainedPatch) × (explained_at traced.now id ≡ Some listed)
+        × IsWritten (view value) (explained_json listed)) }
 {
     let after = dependencies_value(heap, traced, id)?;
     patch_object(heap, after, traced.label(id), traced.graph().patch(id))

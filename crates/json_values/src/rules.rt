@@ -1,12 +1,12 @@
 //! The entries of rules.
 
 ghost use Rattle.std.specs.Prelude.{◌≡◌, ◌++◌, option_map, string_bytes, OnOk};
-ghost use Rattle.report_model.specs.Needs.{first_json, told_rule_json};
+ghost use Rattle.report_model.specs.Needs.{first_json, listed_rule_json};
 ghost use Rattle.report_sections.specs.Sections.{section_of};
-ghost use Rattle.report_sections.specs.ToldRules.{told_rule};
+ghost use Rattle.report_sections.specs.ListedRules.{listed_rule};
 
 use crate::known::KnownTexts;
-use report_sections::{RuleUsage, Section, ToldRule};
+use report_sections::{ListedRule, RuleUsage, Section};
 use std::alloc::{AllocError, Allocator};
 
 impl KnownTexts {
@@ -15,14 +15,14 @@ impl KnownTexts {
     pub fn push_rule<A: Allocator, B: Allocator + Copy>(
         &mut self,
         out: &mut String<B>,
-        told: &ToldRule<A>,
+        listed: &ListedRule<A>,
     ) -> Result<(), AllocError>
         ensures text { OnOk result (string_bytes out.new
-            ≡ string_bytes out.old ++ told_rule_json self.old (told_rule told.now)) }
+            ≡ string_bytes out.old ++ listed_rule_json self.old (listed_rule listed.now)) }
         ensures kept { self.new ≡ self.old }
     {
-        let rule = told.rule;
-        match &told.usage {
+        let rule = listed.rule;
+        match &listed.usage {
             RuleUsage::Unused => write!(out, "{{\"pairs\":0,\"rule\":\"{rule}\"}}")?,
             RuleUsage::TooMany { pairs } => {
                 let pairs = *pairs;

@@ -10,7 +10,7 @@ ghost use Rattle.report_model.specs.Replayed.{replayed_json};
 ghost use Rattle.report_model.specs.Shows.{together};
 ghost use Rattle.json_values.specs.Known.{fault_json};
 ghost use Rattle.json_values.specs.Items.{bar_before, crash_json, fault_shows_json, leading_json, last_json};
-ghost use Rattle.report_sections.specs.Replay.{told_block, told_replay};
+ghost use Rattle.report_sections.specs.Replay.{listed_block, listed_replay};
 ghost use Rattle.report_sections.specs.Sections.{section_of};
 ghost use Rattle.report_sections.specs.Showing.{shown_once};
 
@@ -129,7 +129,7 @@ impl KnownTexts {
     }
 }
 
-/// The key of what the paths of broken promises show, with a comma before it, if that is told: of all. It fails only
+/// The key of what the paths of broken promises show, with a comma before it, if that is listed: of all. It fails only
 /// when out of memory.
 pub fn push_all_shows<A: Allocator, B: Allocator>(
     out: &mut String<B>,
@@ -256,7 +256,7 @@ pub fn push_replay<A: Allocator, B: Allocator + Copy>(
     out: &mut String<B>,
     replay: &Option<Vec<ReplayedBlock, A>>,
 ) -> Result<(), AllocError>
-    ensures { OnOk result (string_bytes out.new ≡ string_bytes out.old ++ replay_json (told_replay replay.now)) }
+    ensures { OnOk result (string_bytes out.new ≡ string_bytes out.old ++ replay_json (listed_replay replay.now)) }
 {
     let Some(blocks) = replay else {
         return Ok(());
@@ -273,7 +273,7 @@ fn push_replayed_blocks<B: Allocator + Copy>(
     replay: &[ReplayedBlock],
 ) -> Result<(), AllocError>
     ensures { OnOk result (string_bytes out.new
-        ≡ string_bytes out.old ++ join_of COMMA (map replayed_json (map told_block replay.now))) }
+        ≡ string_bytes out.old ++ join_of COMMA (map replayed_json (map listed_block replay.now))) }
 {
     for (at, replayed) in replay.iter().enumerate() {
         write_comma(out, at)?;
@@ -288,7 +288,7 @@ fn push_replayed<B: Allocator + Copy>(
     replayed: &ReplayedBlock,
 ) -> Result<(), AllocError>
     ensures { OnOk result (string_bytes out.new
-        ≡ string_bytes out.old ++ replayed_json (told_block replayed.now)) }
+        ≡ string_bytes out.old ++ replayed_json (listed_block replayed.now)) }
 {
     let block = replayed.block;
     write!(out, "{{\"block\":{block},\"bytes\":")?;

@@ -43,10 +43,10 @@ module _ {A : Type 0} where
   mapped_option (Some u) = refl
 
   -- with the promise of the step itself
-  pub with_begun : (ys : List (Underway A)) (o : Option (Underway A)) (us : List Under) (begins : Option Under)
+  pub with_started : (ys : List (Underway A)) (o : Option (Underway A)) (us : List Under) (begins : Option Under)
       → map under_of ys ≡ us → option_map under_of o ≡ begins
       → map under_of (ys ++ option_to_list o) ≡ us ++ option_to_list begins
-  with_begun ys o us begins so_far is =
+  with_started ys o us begins so_far is =
       map-append under_of ys (option_to_list o)
       ∙ (ap (λ (vs : List Under). vs ++ map under_of (option_to_list o)) so_far
       ∙ ap (λ (vs : List Under). us ++ vs) (mapped_option o ∙ ap (λ (b : Option Under). option_to_list b) is))

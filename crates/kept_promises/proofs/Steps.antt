@@ -24,7 +24,7 @@ use Rattle.kept_promises.specs.declared.promising.Promising.{Promising}
 pub record IsPromising {A : Type 0} (kind : Module) (is_durable : Bool) (base : Disk) (steps : List Step) (i : ℕ)
     (t : Trace) (p : Promising A) : Type 0 where
   pub same_kind : t.log.kind ≡ kind
-  pub turns : t.tracing.turn ≤ i + 1
+  pub op_numbers : t.tracing.op_number ≤ i + 1
   pub accepted : (last : Tracing) × (trace_from kind t.tracing (drop i steps) ≡ Ok last)
   pub found : all_finished kind is_durable t.tracing (drop i steps) (unders_of p) ≡ promises_of kind is_durable base steps
   pub at : AreAt p t.tracing
@@ -47,7 +47,7 @@ module _ {A : Type 0} (kind : Module) (is_durable : Bool) (base : Disk) (steps :
       → AreAt p t.tracing → p.is_durable ≡ is_durable → IsPromising kind is_durable base steps 0 t p
   begin whole t p same start accepted none at durable = record {
     same_kind = same;
-    turns = rw start (omega arith);
+    op_numbers = rw start (omega arith);
     accepted = rw start accepted;
     found = rw (start, none) (begins kind is_durable whole base steps);
     at = at;
@@ -82,7 +82,7 @@ module _ {A : Type 0} (kind : Module) (is_durable : Bool) (base : Disk) (steps :
         let same : taken.0 ≡ u.tracing = let both : Ok taken.0 ≡ Ok u.tracing = sym taken.1 ∙ goes in cc in
         record {
           same_kind = moves.kind ∙ is.same_kind;
-          turns = omega (arith, moves.turns, is.turns);
+          op_numbers = omega (arith, moves.op_numbers, is.op_numbers);
           accepted = (
             is.accepted.0,
             subst (λ (next : Tracing). trace_from kind next (drop (i + 1) steps) ≡ Ok is.accepted.0) same taken.2,

@@ -17,7 +17,7 @@ asked_of asked kind steps = record {
   atomic = asked.atomic;
   durable = asked.durable;
   counted = asked.counted;
-  tells = has_promises steps;
+  promising = has_promises steps;
   kind = kind;
 }
 

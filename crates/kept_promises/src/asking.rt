@@ -90,7 +90,7 @@ pub fn take<'a, A: Allocator + Copy>(
     tracer: &mut Tracer<'a, A>,
     step: &'a Step,
 ) -> Result<(), AllocError>
-    requires few { tracer.old.tracing.turn < 2 ^ 63 }
+    requires few { tracer.old.tracing.op_number < 2 ^ 63 }
     requires accepted { (next : Tracing)
         × (step_of tracer.old.log.kind tracer.old.tracing step.now.line step.now.act ≡ Ok next) }
     ensures moves { OnOk result (Moves tracer.old tracer.new

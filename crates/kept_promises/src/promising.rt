@@ -4,7 +4,7 @@ ghost use Rattle.std.specs.Prelude.{◌≡◌, [], ◌∷◌, ◌++◌, Ok, leng
 ghost use Rattle.crash_model.specs.Trace.{step as step_of};
 ghost use Rattle.crash_model.specs.Tracing.{Tracing};
 ghost use Rattle.crash_model.specs.declared.modules.Module.{Module};
-ghost use Rattle.promise_steps.specs.Underway.{begun_by, all_advanced, all_ended, rested};
+ghost use Rattle.promise_steps.specs.Underway.{started_by, all_advanced, all_ended, rested};
 ghost use Rattle.kept_promises.specs.Watched.{IsPlaceOf, IsAt, AreAt, under_of, unders_of};
 
 use crate::place::Place;
@@ -74,11 +74,11 @@ impl<A: Allocator + Copy> Promising<A> {
         for one in self.underway {
             underway.push(one.advanced(&step.act, known, after)?)?;
         }
-        let begun = begun(alloc, is_durable, step, after)?;
+        let started = started(alloc, is_durable, step, after)?;
         Ok(Promising {
             alloc,
             is_durable,
-            underway: with_last(underway, begun)?,
+            underway: with_last(underway, started)?,
         })
     }
 
@@ -126,15 +126,15 @@ fn ended<A: Allocator + Copy>(
 }
 
 /// What a step promises right behind it. It fails only when out of memory.
-fn begun<A: Allocator + Copy>(
+fn started<A: Allocator + Copy>(
     alloc: A,
     is_durable: bool,
     step: &Step,
     after: &Place<'_, A>,
 ) -> Result<Option<Underway<A>>, AllocError>
-    ensures begun { IfOk result (λ one. (next : Tracing) → IsPlaceOf after.now next
+    ensures started { IfOk result (λ one. (next : Tracing) → IsPlaceOf after.now next
         → option_map under_of one
-        ≡ option_map (λ u. rested u next) (begun_by is_durable step.now.line step.now.act next)) }
+        ≡ option_map (λ u. rested u next) (started_by is_durable step.now.line step.now.act next)) }
     ensures at { IfOk result (λ one. (next : Tracing) → IsPlaceOf after.now next → MatchOption one (Unit {0})
         (λ u. IsAt u next)) }
 {
@@ -155,8 +155,8 @@ fn promised<A: Allocator + Copy>(
     step: &Step,
     after: &Place<'_, A>,
 ) -> Result<Option<Underway<A>>, AllocError>
-    ensures begun { IfOk result (λ one. (next : Tracing) → IsPlaceOf after.now next
-        → option_map under_of one ≡ begun_by is_durable step.now.line step.now.act next) }
+    ensures started { IfOk result (λ one. (next : Tracing) → IsPlaceOf after.now next
+        → option_map under_of one ≡ started_by is_durable step.now.line step.now.act next) }
     ensures at { IfOk result (λ one. (next : Tracing) → IsPlaceOf after.now next → MatchOption one (Unit {0})
         (λ u. IsAt u next)) }
 {

@@ -6,7 +6,7 @@ ghost use Rattle.crash_model.specs.Paths.{are_same_shown};
 ghost use Rattle.crash_model.specs.Trace.{step as step_of};
 ghost use Rattle.crash_model.specs.Tracing.{Tracing};
 ghost use Rattle.crash_model.specs.declared.modules.Module.{Module};
-ghost use Rattle.promise_steps.specs.Underway.{begun, advanced, with_rest};
+ghost use Rattle.promise_steps.specs.Underway.{started, advanced, with_rest};
 ghost use Rattle.kept_promises.specs.Watched.{IsPlaceOf, IsAt, under_of, with_ends, with_spares, is_only};
 
 use crate::lasting::Lasting;
@@ -39,8 +39,8 @@ impl<A: Allocator + Copy> Underway<A> {
         paths: Paths,
         here: &Place<'_, A>,
     ) -> Result<Underway<A>, AllocError>
-        ensures begun { IfOk result (λ u. (s : Tracing) → IsPlaceOf here.now s
-            → under_of u ≡ begun line keeps paths.items None s) }
+        ensures started { IfOk result (λ u. (s : Tracing) → IsPlaceOf here.now s
+            → under_of u ≡ started line keeps paths.items None s) }
         ensures lasts { IfOk result (λ u. u.lasts ≡ None) }
     {
         let mut allowed = Vec::new(alloc);
@@ -70,8 +70,8 @@ impl<A: Allocator + Copy> Underway<A> {
         path: &Path,
         here: &Place<'_, A>,
     ) -> Result<Underway<A>, AllocError>
-        ensures begun { IfOk result (λ u. (s : Tracing) → IsPlaceOf here.now s
-            → under_of u ≡ begun line false (path.now ∷ []) (Some path.now) s) }
+        ensures started { IfOk result (λ u. (s : Tracing) → IsPlaceOf here.now s
+            → under_of u ≡ started line false (path.now ∷ []) (Some path.now) s) }
         ensures at { IfOk result (λ u. (s : Tracing) → IsPlaceOf here.now s → IsAt u s) }
     {
         let mut paths = Paths::new();

@@ -43,11 +43,11 @@ left_in row at b x f = rw f refl
 -- ---- the walk on one disk
 
 -- the walk comes to a header, from where it leads on to where replay finds each block
-pub record Comes (d : Disk) (homes others : List ℕ) (at turn : ℕ) : Type 0 where
+pub record Comes (d : Disk) (homes others : List ℕ) (at transaction : ℕ) : Type 0 where
   pub most : ℕ
   pub enough : 4 + d.journal ≤ at + most
   pub leads : (b : ℕ) → b < 128 → (x : ℕ) × IsHome homes others b x
-      × (copy_after d b x (headers_from most d at turn) ≡ copy_after d b b (headers d))
+      × (copy_after d b x (headers_from most d at transaction) ≡ copy_after d b b (headers d))
 
 -- the walk is over, and replay finds each block at one of its homes
 pub record Stopped (d : Disk) (homes others : List ℕ) : Type 0 where
@@ -61,16 +61,17 @@ comes_start d homes others own = record {
   leads = λ b less. (b, inl (sym (own b less)), refl);
 }
 
-pub comes_end : (d : Disk) (homes others : List ℕ) (at turn : ℕ) → is_header d at turn (block_of d at) ≡ false
-    → Comes d homes others at turn → Stopped d homes others
-comes_end d homes others at turn none c = record {
+pub comes_end : (d : Disk) (homes others : List ℕ) (at transaction : ℕ)
+    → is_header d at transaction (block_of d at) ≡ false
+    → Comes d homes others at transaction → Stopped d homes others
+comes_end d homes others at transaction none c = record {
   home = λ b less.
       let lead = c.leads b less in
       subst (λ (x : ℕ). IsHome homes others b x)
       (ap (λ (js : List ℕ). copy_after d b lead.0 js) (no_more c.most) ∙ lead.2) lead.1;
 }
   where
-    no_more : (most : ℕ) → [] ≡ headers_from most d at turn
+    no_more : (most : ℕ) → [] ≡ headers_from most d at transaction
     no_more zero = refl
     no_more (suc most) = rw none refl
 
@@ -98,8 +99,8 @@ module _ (d : Disk) (old was new is : List ℕ) (first : ℕ) (targets : List �
         (s.home b less);
   }
 
-module _ (d : Disk) (at turn : ℕ) (old was new is : List ℕ) (targets : List ℕ) (disk : IsDisk d)
-    (header : is_header d at turn (block_of d at) ≡ true) (same : targets_of (block_of d at) ≡ targets) where
+module _ (d : Disk) (at transaction : ℕ) (old was new is : List ℕ) (targets : List ℕ) (disk : IsDisk d)
+    (header : is_header d at transaction (block_of d at) ≡ true) (same : targets_of (block_of d at) ≡ targets) where
   -- the home that this header gives a block
   next_home : (copied : Result Bool ℕ) → AtDisk copied (slice_index (block_of d at) 0 == 0xC7)
       → AreNoted copied old was new is (at + 1) targets → (b x : ℕ) → IsHome old was b x
@@ -124,29 +125,29 @@ module _ (d : Disk) (at turn : ℕ) (old was new is : List ℕ) (targets : List 
   ]
 
   pub comes_on : (copied : Result Bool ℕ) → AtDisk copied (slice_index (block_of d at) 0 == 0xC7)
-      → AreNoted copied old was new is (at + 1) targets → Comes d old was at turn
-      → Comes d new is (at + (1 + length targets)) (turn + 1)
+      → AreNoted copied old was new is (at + 1) targets → Comes d old was at transaction
+      → Comes d new is (at + (1 + length targets)) (transaction + 1)
   comes_on copied here noted c = by_most c.most c.enough c.leads
     where
-      opened : (most b found : ℕ) → copy_after d b found (headers_from (suc most) d at turn)
+      opened : (most b found : ℕ) → copy_after d b found (headers_from (suc most) d at transaction)
           ≡ copy_after d b (unwrap_or (copy_in (block_of d at) at b) found)
-          (headers_from most d (at + 1 + count_of (block_of d at)) (turn + 1))
+          (headers_from most d (at + 1 + count_of (block_of d at)) (transaction + 1))
       opened most b found =
-          let js : headers_from (suc most) d at turn
-          ≡ at ∷ headers_from most d (at + 1 + count_of (block_of d at)) (turn + 1) = rw header refl in
+          let js : headers_from (suc most) d at transaction
+          ≡ at ∷ headers_from most d (at + 1 + count_of (block_of d at)) (transaction + 1) = rw header refl in
           ap (λ (js : List ℕ). copy_after d b found js) js
 
       by_most : (most : ℕ) → 4 + d.journal ≤ at + most
           → ((b : ℕ) → b < 128 → (x : ℕ) × IsHome old was b x
-          × (copy_after d b x (headers_from most d at turn) ≡ copy_after d b b (headers d)))
-          → Comes d new is (at + (1 + length targets)) (turn + 1)
+          × (copy_after d b x (headers_from most d at transaction) ≡ copy_after d b b (headers d)))
+          → Comes d new is (at + (1 + length targets)) (transaction + 1)
       by_most zero enough leads =
-          let inside = header_in d at turn (block_of d at) header in absurd (omega arith)
+          let inside = header_in d at transaction (block_of d at) header in absurd (omega arith)
       by_most (suc most) enough leads =
-          let inside = header_in d at turn (block_of d at) header in
+          let inside = header_in d at transaction (block_of d at) header in
           let below : at < d.blocks = omega (arith, disk.room) in
           let count : length (targets_of (block_of d at)) ≡ count_of (block_of d at) =
-          count_targets d at turn disk below header in
+          count_targets d at transaction disk below header in
           let long : length targets ≡ count_of (block_of d at) = ap (λ (xs : List ℕ). length xs) (sym same) ∙ count in
           let next : at + (1 + length targets) ≡ at + 1 + count_of (block_of d at) = omega arith in
           record {
@@ -157,7 +158,7 @@ module _ (d : Disk) (at turn : ℕ) (old was new is : List ℕ) (targets : List 
                   unwrap_or (copy_in (block_of d at) at b) lead.0,
                   next_home copied here noted b lead.0 lead.1,
                   ap (λ (j : ℕ). copy_after d b (unwrap_or (copy_in (block_of d at) at b) lead.0)
-                      (headers_from most d j (turn + 1))) next
+                      (headers_from most d j (transaction + 1))) next
                       ∙ sym (opened most b lead.0) ∙ lead.2,
                 );
           }

@@ -49,33 +49,34 @@ only_one x v h some = grind (arith, tests)
 
 module _ (d : Disk) (at : ℕ) (disk : IsDisk d) (below : at < d.blocks) where
   -- the targets are these if each byte there is 0 or the one of these
-  pub targets_are : (turn count : ℕ) (ts : List ℕ) → is_header d at turn (block_of d at) ≡ true
+  pub targets_are : (transaction count : ℕ) (ts : List ℕ) → is_header d at transaction (block_of d at) ≡ true
       → is_one_of 0 count (byte d at 2) ≡ true → length ts ≡ count
       → ((k : ℕ) → k < count → is_one_of 0 (get_or ts k 0) (byte d at (3 + k)) ≡ true)
       → targets_of (block_of d at) ≡ ts
-  targets_are turn count ts is one long each =
-      let some : 1 ≤ count_of (block_of d at) = header_some d at turn (block_of d at) is in
-      let few : count_of (block_of d at) ≤ 8 = header_few d at turn (block_of d at) is in
+  targets_are transaction count ts is one long each =
+      let some : 1 ≤ count_of (block_of d at) = header_some d at transaction (block_of d at) is in
+      let few : count_of (block_of d at) ≤ 8 = header_few d at transaction (block_of d at) is in
       let counted : byte d at 2 ≡ count_of (block_of d at) = sym (row_byte d at 2 (omega arith)) in
       let which : byte d at 2 ≡ count = only_one (byte d at 2) count one (λ e. omega arith) in
       let size : length (targets_of (block_of d at)) ≡ count_of (block_of d at) =
-      count_targets d at turn disk below is in
+      count_targets d at transaction disk below is in
       same_number_lists (targets_of (block_of d at)) ts (omega arith) (λ k less.
       let inside : k < count_of (block_of d at) = omega arith in
       let here : get_or (targets_of (block_of d at)) k 0 ≡ byte d at (3 + k) = target_byte d at k inside few in
-      let aimed = all_at (is_target d) (targets_of (block_of d at)) k (header_aimed d at turn (block_of d at) is) less
+      let aimed =
+      all_at (is_target d) (targets_of (block_of d at)) k (header_aimed d at transaction (block_of d at) is) less
       in
       here ∙ only_one (byte d at (3 + k)) (get_or ts k 0) (each k (omega arith))
       (λ e. target_some d _ aimed (here ∙ e)))
 
   -- there is no header where the count is one of 0 and a number that no header has
-  pub no_header_by : (turn count : ℕ) → is_one_of 0 count (byte d at 2) ≡ true → (count ≡ 0) ⊎ (8 < count)
-      → is_header d at turn (block_of d at) ≡ false
-  no_header_by turn count one bad = elim (bool_is (is_header d at turn (block_of d at))) [
+  pub no_header_by : (transaction count : ℕ) → is_one_of 0 count (byte d at 2) ≡ true → (count ≡ 0) ⊎ (8 < count)
+      → is_header d at transaction (block_of d at) ≡ false
+  no_header_by transaction count one bad = elim (bool_is (is_header d at transaction (block_of d at))) [
     | inr none ↦ none
     | inl is ↦
-        let some : 1 ≤ count_of (block_of d at) = header_some d at turn (block_of d at) is in
-        let few : count_of (block_of d at) ≤ 8 = header_few d at turn (block_of d at) is in
+        let some : 1 ≤ count_of (block_of d at) = header_some d at transaction (block_of d at) is in
+        let few : count_of (block_of d at) ≤ 8 = header_few d at transaction (block_of d at) is in
         let counted : byte d at 2 ≡ count_of (block_of d at) = sym (row_byte d at 2 (omega arith)) in
         let which : byte d at 2 ≡ count = only_one (byte d at 2) count one (λ e. omega arith) in
         absurd (elim bad [ inl a ↦ omega arith | inr b ↦ omega arith ])
@@ -140,25 +141,25 @@ by_tests : (d : Disk) (j t mark number count : ℕ) (ts : List ℕ) → 1 ≤ co
     → header_by d j t mark number count ts ≡ (is_one_of 0xC7 0xC8 mark && (number == t && true))
 by_tests d j t mark number count ts some few long may = grind (arith, tests)
 
-module _ (base d : Disk) (at turn : ℕ) (ts : List ℕ) (like : IsLike base d) (below : at < base.blocks)
+module _ (base d : Disk) (at transaction : ℕ) (ts : List ℕ) (like : IsLike base d) (below : at < base.blocks)
     (some : 1 ≤ length ts) (few : length ts ≤ 8) (may : may_have base at ts ≡ true)
-    (known : is_header d at turn (block_of d at) ≡ true → targets_of (block_of d at) ≡ ts) where
+    (known : is_header d at transaction (block_of d at) ≡ true → targets_of (block_of d at) ≡ ts) where
   below_d : at < d.blocks
   below_d = omega (arith, like.blocks)
 
   by_row : (mark number count : ℕ) (targets : List ℕ) → get_or (block_of d at) 0 0 ≡ mark
       → get_or (block_of d at) 1 0 ≡ number → get_or (block_of d at) 2 0 ≡ count → targets_of (block_of d at) ≡ targets
-      → is_header d at turn (block_of d at) ≡ header_by base at turn mark number count targets
+      → is_header d at transaction (block_of d at) ≡ header_by base at transaction mark number count targets
   by_row mark number count targets a b c e =
-      same_header base d at turn (block_of d at) like.blocks like.journal
-      ∙ ap (λ (m : ℕ). header_by base at turn m (get_or (block_of d at) 1 0) (get_or (block_of d at) 2 0)
+      same_header base d at transaction (block_of d at) like.blocks like.journal
+      ∙ ap (λ (m : ℕ). header_by base at transaction m (get_or (block_of d at) 1 0) (get_or (block_of d at) 2 0)
       (targets_of (block_of d at))) a
-      ∙ ap (λ (m : ℕ). header_by base at turn mark m (get_or (block_of d at) 2 0) (targets_of (block_of d at))) b
-      ∙ ap (λ (m : ℕ). header_by base at turn mark number m (targets_of (block_of d at))) c
-      ∙ ap (λ (xs : List ℕ). header_by base at turn mark number count xs) e
+      ∙ ap (λ (m : ℕ). header_by base at transaction mark m (get_or (block_of d at) 2 0) (targets_of (block_of d at))) b
+      ∙ ap (λ (m : ℕ). header_by base at transaction mark number m (targets_of (block_of d at))) c
+      ∙ ap (λ (xs : List ℕ). header_by base at transaction mark number count xs) e
 
-  pub header_is : (is_one_of 0xC7 0xC8 (byte d at 0) && ((byte d at 1 == turn) && has_first (length ts) d at ts))
-      ≡ is_header d at turn (block_of d at)
+  pub header_is : (is_one_of 0xC7 0xC8 (byte d at 0) && ((byte d at 1 == transaction) && has_first (length ts) d at ts))
+      ≡ is_header d at transaction (block_of d at)
   header_is = elim (bool_is (has_first (length ts) d at ts)) [
     | inl all ↦
         let count : byte d at 2 ≡ length ts = first_count d at ts (length ts) all in
@@ -166,18 +167,19 @@ module _ (base d : Disk) (at turn : ℕ) (ts : List ℕ) (like : IsLike base d) 
         let size : length (targets_of (block_of d at)) ≡ length ts = sized counted count in
         let same : targets_of (block_of d at) ≡ ts = same_number_lists (targets_of (block_of d at)) ts size (λ k less.
         target_byte d at k (omega arith) (omega arith) ∙ first_byte d at ts (length ts) k all (omega arith)) in
-        ap (λ (b : Bool). is_one_of 0xC7 0xC8 (byte d at 0) && ((byte d at 1 == turn) && b)) all
+        ap (λ (b : Bool). is_one_of 0xC7 0xC8 (byte d at 0) && ((byte d at 1 == transaction) && b)) all
         ∙ sym (by_row (byte d at 0) (byte d at 1) (length ts) ts (row_byte d at 0 (omega arith))
         (row_byte d at 1 (omega arith)) (counted ∙ count) same
-        ∙ by_tests base at turn (byte d at 0) (byte d at 1) (length ts) ts some few refl may)
+        ∙ by_tests base at transaction (byte d at 0) (byte d at 1) (length ts) ts some few refl may)
     | inr not_all ↦
-        ap (λ (b : Bool). is_one_of 0xC7 0xC8 (byte d at 0) && ((byte d at 1 == turn) && b)) not_all
-        ∙ and_false_right (is_one_of 0xC7 0xC8 (byte d at 0)) _ (and_false_right (byte d at 1 == turn) false refl)
-        ∙ sym (elim (bool_is (is_header d at turn (block_of d at))) [
+        ap (λ (b : Bool). is_one_of 0xC7 0xC8 (byte d at 0) && ((byte d at 1 == transaction) && b)) not_all
+        ∙ and_false_right (is_one_of 0xC7 0xC8 (byte d at 0)) _
+        (and_false_right (byte d at 1 == transaction) false refl)
+        ∙ sym (elim (bool_is (is_header d at transaction (block_of d at))) [
           | inr none ↦ none
           | inl is ↦
               let size : length (targets_of (block_of d at)) ≡ count_of (block_of d at) =
-              count_targets d at turn like.disk below_d is in
+              count_targets d at transaction like.disk below_d is in
               let same : targets_of (block_of d at) ≡ ts = known is in
               let long : length (targets_of (block_of d at)) ≡ length ts = ap (λ (xs : List ℕ). length xs) same in
               let counted : count_of (block_of d at) ≡ byte d at 2 = row_byte d at 2 (omega arith) in

@@ -15,8 +15,8 @@ pub mod AtHomes
 pub mod FaultTests
 pub mod Counted
 pub mod Named
-pub mod ToldFaults
-pub mod ToldSets
+pub mod ListedFaults
+pub mod ListedSets
 pub mod ChildrenIn
 pub mod Beginnings
 pub mod Sources

@@ -19,9 +19,10 @@ use Rattle.known_bytes.proofs.Walked.{replayed_byte}
 abbrev IsSource : Disk → ℕ → ℕ → Type 0
 IsSource d b x = (x ≡ b) ⊎ ((4 ≤ x) × (x < 4 + d.journal) × IsCopyOf d b x)
 
-copied_source : (d : Disk) (at turn b found : ℕ) → IsDisk d → 4 ≤ at → is_header d at turn (block_of d at) ≡ true
+copied_source : (d : Disk) (at transaction b found : ℕ) → IsDisk d → 4 ≤ at
+    → is_header d at transaction (block_of d at) ≡ true
     → IsSource d b found → IsSource d b (unwrap_or (copy_in (block_of d at) at b) found)
-copied_source d at turn b found disk from is was = elim (bool_is (slice_index (block_of d at) 0 == 0xC7)) [
+copied_source d at transaction b found disk from is was = elim (bool_is (slice_index (block_of d at) 0 == 0xC7)) [
   | inr f ↦ subst (λ (x : ℕ). IsSource d b x) (sym (left_in (block_of d at) at b found f)) was
   | inl t ↦ subst (λ (x : ℕ). IsSource d b x) (sym (copied_in (block_of d at) at b found t))
       (elim (found_or_not b (targets_of (block_of d at))) [
@@ -33,15 +34,15 @@ copied_source d at turn b found disk from is was = elim (bool_is (slice_index (b
 ]
   where
     in_journal : at < 4 + d.journal
-    in_journal = header_in d at turn (block_of d at) is
+    in_journal = header_in d at transaction (block_of d at) is
 
     count : length (targets_of (block_of d at)) ≡ count_of (block_of d at)
-    count = count_targets d at turn disk (omega (arith, disk.room, in_journal)) is
+    count = count_targets d at transaction disk (omega (arith, disk.room, in_journal)) is
 
     named : (m : ℕ) → m < length (targets_of (block_of d at)) → get_or (targets_of (block_of d at)) m 0 ≡ b
         → IsCopyOf d b (at + 1 + m)
     named m less same =
-        let few : count_of (block_of d at) ≤ 8 = header_few d at turn (block_of d at) is in
+        let few : count_of (block_of d at) ≤ 8 = header_few d at transaction (block_of d at) is in
         record {
           header = at;
           place = m;
@@ -53,22 +54,23 @@ copied_source d at turn b found disk from is was = elim (bool_is (slice_index (b
 
     inside : (m : ℕ) → m < length (targets_of (block_of d at)) → at + 1 + m < 4 + d.journal
     inside m less =
-        let fits : at + count_of (block_of d at) ≤ 3 + d.journal = header_fits d at turn (block_of d at) is in
+        let fits : at + count_of (block_of d at) ≤ 3 + d.journal = header_fits d at transaction (block_of d at) is in
         omega (arith, fits, count, less)
 
-source_from : (most : ℕ) (d : Disk) (at turn b found : ℕ) → IsDisk d → 4 ≤ at → IsSource d b found
-    → IsSource d b (copy_after d b found (headers_from most d at turn))
-source_from zero d at turn b found disk from was = was
-source_from (suc most) d at turn b found disk from was = elim (bool_is (is_header d at turn (block_of d at))) [
-  | inr none ↦ rw none was
-  | inl is ↦
-      let js : headers_from (suc most) d at turn
-      ≡ at ∷ headers_from most d (at + 1 + count_of (block_of d at)) (turn + 1) = rw is refl in
-      subst (λ (xs : List ℕ). IsSource d b (copy_after d b found xs)) (sym js)
-      (source_from most d (at + 1 + count_of (block_of d at)) (turn + 1) b
-      (unwrap_or (copy_in (block_of d at) at b) found) disk (omega arith)
-      (copied_source d at turn b found disk from is was))
-]
+source_from : (most : ℕ) (d : Disk) (at transaction b found : ℕ) → IsDisk d → 4 ≤ at → IsSource d b found
+    → IsSource d b (copy_after d b found (headers_from most d at transaction))
+source_from zero d at transaction b found disk from was = was
+source_from (suc most) d at transaction b found disk from was =
+    elim (bool_is (is_header d at transaction (block_of d at))) [
+      | inr none ↦ rw none was
+      | inl is ↦
+          let js : headers_from (suc most) d at transaction
+          ≡ at ∷ headers_from most d (at + 1 + count_of (block_of d at)) (transaction + 1) = rw is refl in
+          subst (λ (xs : List ℕ). IsSource d b (copy_after d b found xs)) (sym js)
+          (source_from most d (at + 1 + count_of (block_of d at)) (transaction + 1) b
+          (unwrap_or (copy_in (block_of d at) at b) found) disk (omega arith)
+          (copied_source d at transaction b found disk from is was))
+    ]
 
 pub replayed_value : (f : Family) (low high block offset : ℕ) → InEach f (IsLike f.base) → block < f.base.blocks
     → offset < 128 → InEach f (λ d. HasValue low high (byte d block offset))

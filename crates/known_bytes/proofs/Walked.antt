@@ -73,15 +73,16 @@ replayed_byte d b home offset i below within is =
 
 -- ---- what the loop keeps
 
-pub record IsWalking (f : Family) (homes others asks : List ℕ) (at turn : ℕ) (comes : Result Bool ℕ) : Type 0 where
+pub record IsWalking (f : Family) (homes others asks : List ℕ) (at transaction : ℕ)
+    (comes : Result Bool ℕ) : Type 0 where
   pub from : 4 ≤ at
   pub inside : at ≤ 4 + f.base.journal
-  pub counted : turn + 3 ≤ at
+  pub counted : transaction + 3 ≤ at
   pub within : (block home : ℕ) → block < f.base.blocks → IsHome homes others block home → home < f.base.blocks
   pub asked : (block : ℕ) → block < 128 → slice_index others block ≢ 0 → IsUndecided f (slice_index asks block)
   pub test : Disk → Bool
   pub known : IsKnown (left f) test comes
-  pub goes : InEach f (λ d. test d ≡ true → Comes d homes others at turn)
+  pub goes : InEach f (λ d. test d ≡ true → Comes d homes others at transaction)
   pub stops : InEach f (λ d. test d ≡ false → Stopped d homes others)
 
 pub walking_start : (f : Family) (homes others asks : List ℕ) → IsDisk f.base
@@ -116,9 +117,9 @@ undecided_of : (f : Family) (test : Disk → Bool) (found : Result Bool ℕ) (id
     → found ≡ Err id → IsUndecided f id
 undecided_of f test found id known is = subst (λ (r : Result Bool ℕ). IsKnown (left f) test r) is known
 
-module _ (f : Family) (old was new is before after : List ℕ) (at turn : ℕ) (comes : Result Bool ℕ)
+module _ (f : Family) (old was new is before after : List ℕ) (at transaction : ℕ) (comes : Result Bool ℕ)
     (targets : List ℕ) (disk : IsDisk f.base) (like : InEach f (IsLike f.base))
-    (walk : IsWalking f old was before at turn comes) (may : may_have f.base at targets ≡ true)
+    (walk : IsWalking f old was before at transaction comes) (may : may_have f.base at targets ≡ true)
     (shape : HasTargets f at targets) where
   room : at + length targets ≤ 3 + f.base.journal
   room = may_room (at + length targets) (3 + f.base.journal) (is_ascending targets)
@@ -128,7 +129,7 @@ module _ (f : Family) (old was new is before after : List ℕ) (at turn : ℕ) (
       may_room a b x y h = grind (arith, tests)
 
   abbrev is_there : Disk → Bool
-  is_there d = is_header d at turn (block_of d at)
+  is_there d = is_header d at transaction (block_of d at)
 
   abbrev is_copied : Disk → Bool
   is_copied d = (is_there d && walk.test d) && (byte d at 0 == 0xC7)
@@ -138,7 +139,7 @@ module _ (f : Family) (old was new is before after : List ℕ) (at turn : ℕ) (
       → AreNoted copied old was new is (at + 1) targets
       → ((b : ℕ) → slice_index is b ≢ 0 → ((slice_index was b ≢ 0) × (slice_index after b ≡ slice_index before b))
       ⊎ (copied ≡ Err (slice_index after b)))
-      → IsWalking f new is after (at + (1 + length targets)) (turn + 1) next
+      → IsWalking f new is after (at + (1 + length targets)) (transaction + 1) next
   walking_step there copied next there_known copied_known next_known noted asks = record {
     from = omega (arith, walk.from);
     inside = omega (arith, room);
@@ -181,12 +182,12 @@ module _ (f : Family) (old was new is before after : List ℕ) (at turn : ℕ) (
 
       goes : (set : ℕ) → IsMember f set → (walk.test (image_of f.base f.patches set)
           && is_there (image_of f.base f.patches set)) ≡ true
-          → Comes (image_of f.base f.patches set) new is (at + (1 + length targets)) (turn + 1)
+          → Comes (image_of f.base f.patches set) new is (at + (1 + length targets)) (transaction + 1)
       goes set m both =
           let d : Disk = image_of f.base f.patches set in
           let t = left_of (walk.test d) (is_there d) both in
           let h = right_of (walk.test d) (is_there d) both in
-          comes_on d at turn old was new is targets (like set m).disk h (shape set m turn h) copied
+          comes_on d at transaction old was new is targets (like set m).disk h (shape set m transaction h) copied
           (at_mark d copied (third (is_there d) (walk.test d) (byte d at 0 == 0xC7) copied h t
           (at_disk f is_copied copied copied_known set m))) noted (walk.goes set m t)
 
@@ -199,26 +200,27 @@ module _ (f : Family) (old was new is before after : List ℕ) (at turn : ℕ) (
           (no_third (walk.test d) (is_there d) (byte d at 0 == 0xC7) not_both) noted
           (elim (bool_is (walk.test d)) [
             | inr f ↦ walk.stops set m f
-            | inl t ↦ comes_end d old was at turn (not_right (walk.test d) (is_there d) t not_both)
+            | inl t ↦ comes_end d old was at transaction (not_right (walk.test d) (is_there d) t not_both)
                 (walk.goes set m t)
           ])
 
 pub none_may : (f : Family) (at : ℕ) (targets : List ℕ) → InEach f (IsLike f.base) → HasTargets f at targets
     → may_have f.base at targets ≡ false → at < f.base.blocks → HasNoHeader f at
-none_may f at targets like shape never below set m turn =
+none_may f at targets like shape never below set m transaction =
     let d : Disk = image_of f.base f.patches set in
     let alike = like set m in
-    elim (bool_is (is_header d at turn (block_of d at))) [
+    elim (bool_is (is_header d at transaction (block_of d at))) [
       | inr none ↦ none
       | inl is ↦
-          let same = shape set m turn is in
-          let here : is_header f.base at turn (block_of d at) ≡ true =
-          sym (same_header f.base d at turn (block_of d at) alike.blocks alike.journal) ∙ is in
+          let same = shape set m transaction is in
+          let here : is_header f.base at transaction (block_of d at) ≡ true =
+          sym (same_header f.base d at transaction (block_of d at) alike.blocks alike.journal) ∙ is in
           let size : length (targets_of (block_of d at)) ≡ count_of (block_of d at) =
-          count_targets d at turn alike.disk (omega (arith, alike.blocks)) is in
-          let fits = header_fits f.base at turn (block_of d at) here in
+          count_targets d at transaction alike.disk (omega (arith, alike.blocks)) is in
+          let fits = header_fits f.base at transaction (block_of d at) here in
           let all = tests_of (at + count_of (block_of d at)) (3 + f.base.journal) _ _ fits
-          (header_up f.base at turn (block_of d at) here) (header_aimed f.base at turn (block_of d at) here) in
+          (header_up f.base at transaction (block_of d at) here)
+          (header_aimed f.base at transaction (block_of d at) here) in
           let long : count_of (block_of d at) ≡ length targets = sym size ∙ ap (λ (xs : List ℕ). length xs) same in
           let may : may_have f.base at targets ≡ true =
           ap (λ (n : ℕ). nat_le (at + n) (3 + f.base.journal) && is_ascending targets
@@ -231,18 +233,18 @@ none_may f at targets like shape never below set m turn =
     tests_of : (a b : ℕ) (x y : Bool) → a ≤ b → x ≡ true → y ≡ true → (nat_le a b && x && y) ≡ true
     tests_of a b x y le h k = grind (arith, tests)
 
-pub walking_end : (f : Family) (homes others asks : List ℕ) (at turn : ℕ) (comes : Result Bool ℕ)
-    → InEach f (IsLike f.base) → InEach f (λ d. is_header d at turn (block_of d at) ≡ false)
-    → IsWalking f homes others asks at turn comes
+pub walking_end : (f : Family) (homes others asks : List ℕ) (at transaction : ℕ) (comes : Result Bool ℕ)
+    → InEach f (IsLike f.base) → InEach f (λ d. is_header d at transaction (block_of d at) ≡ false)
+    → IsWalking f homes others asks at transaction comes
     → AreHomes record { family = f; replayed = true } homes others asks
-walking_end f homes others asks at turn comes like none w = record {
+walking_end f homes others asks at transaction comes like none w = record {
   within = w.within;
   among = λ set m block below.
       let d : Disk = image_of f.base f.patches set in
       let disk = (like set m).disk in
       let over : Stopped d homes others = elim (bool_is (w.test d)) [
         | inr f ↦ w.stops set m f
-        | inl t ↦ comes_end d homes others at turn (none set m) (w.goes set m t)
+        | inl t ↦ comes_end d homes others at transaction (none set m) (w.goes set m t)
       ] in (
         copy_after d block block (headers d),
         over.home block (omega (arith, disk.most)),
@@ -251,11 +253,11 @@ walking_end f homes others asks at turn comes like none w = record {
   asked = w.asked;
 }
 
-pub out_of_journal : (f : Family) (at turn : ℕ) → InEach f (IsLike f.base) → 4 + f.base.journal ≤ at
-    → InEach f (λ d. is_header d at turn (block_of d at) ≡ false)
-out_of_journal f at turn like past set m =
+pub out_of_journal : (f : Family) (at transaction : ℕ) → InEach f (IsLike f.base) → 4 + f.base.journal ≤ at
+    → InEach f (λ d. is_header d at transaction (block_of d at) ≡ false)
+out_of_journal f at transaction like past set m =
     let d : Disk = image_of f.base f.patches set in
-    no_header_out d at turn (block_of d at) (omega (arith, (like set m).journal))
+    no_header_out d at transaction (block_of d at) (omega (arith, (like set m).journal))
 
 -- targets are blocks
 pub all_blocks : (d : Disk) (at : ℕ) (targets : List ℕ) → IsDisk d → may_have d at targets ≡ true

@@ -10,12 +10,13 @@ use Rattle.known_bytes.specs.Family.{Family, InEach}
 
 -- no image has a header in a journal block
 abbrev pub HasNoHeader : Family → ℕ → Type 0
-HasNoHeader f at = InEach f (λ d. (turn : ℕ) → is_header d at turn (block_of d at) ≡ false)
+HasNoHeader f at = InEach f (λ d. (transaction : ℕ) → is_header d at transaction (block_of d at) ≡ false)
 
 -- where an image has one there, these are its targets
 abbrev pub HasTargets : Family → ℕ → List ℕ → Type 0
 HasTargets f at targets =
-    InEach f (λ d. (turn : ℕ) → is_header d at turn (block_of d at) ≡ true → targets_of (block_of d at) ≡ targets)
+    InEach f (λ d. (transaction : ℕ) → is_header d at transaction (block_of d at) ≡ true
+    → targets_of (block_of d at) ≡ targets)
 
 -- a header may have these targets in a journal block
 abbrev pub may_have : Disk → ℕ → List ℕ → Bool

@@ -39,13 +39,19 @@ impl<'a, A: Allocator + Copy> KnownBytes<'a, A> {
         Ok(Some(targets))
     }
 
-    /// Whether there is a header of transaction `turn` in a journal block, if a header there has these targets.
-    pub(crate) fn has_header(&self, at: usize, turn: u8, targets: &[u8]) -> Result<bool, usize>
+    /// Whether there is a header of the transaction with this number in a journal block, if a header there has these
+    /// targets.
+    pub(crate) fn has_header(
+        &self,
+        at: usize,
+        transaction: u8,
+        targets: &[u8],
+    ) -> Result<bool, usize>
         requires block { at < self.now.base.blocks }
         requires few { (1 ≤ length targets.now) × (length targets.now ≤ 8) }
         requires may { may_have self.now.base at targets.now ≡ true }
         requires targets { HasTargets self.now at targets.now }
-        ensures { IsKnown (left self.now) (λ d. is_header d at turn (block_of d at)) result }
+        ensures { IsKnown (left self.now) (λ d. is_header d at transaction (block_of d at)) result }
     {
         // For the proof: that all images are disks.
         let _base = self.base();
@@ -53,7 +59,7 @@ impl<'a, A: Allocator + Copy> KnownBytes<'a, A> {
         if !is_marked {
             return Ok(false);
         }
-        let number = self.byte_is(at, 1, turn);
+        let number = self.byte_is(at, 1, transaction);
         both(number, self.has_targets(at, targets))
     }
 

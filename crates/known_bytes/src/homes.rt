@@ -80,7 +80,7 @@ impl<'a, A: Allocator + Copy> KnownBytes<'a, A> {
         let end = JOURNAL_AT + self.base().journal();
         let mut homes = Homes::own();
         let mut at = 4;
-        let mut turn = 1;
+        let mut transaction = 1;
         let mut comes = Ok(true);
         while at < end {
             let Some(targets) = self.targets(at)? else {
@@ -89,7 +89,7 @@ impl<'a, A: Allocator + Copy> KnownBytes<'a, A> {
             if !may_have(self.base(), at, &targets) {
                 return Ok(homes);
             }
-            let is_there = self.has_header(at, turn, &targets);
+            let is_there = self.has_header(at, transaction, &targets);
             if is_there == Ok(false) {
                 return Ok(homes);
             }
@@ -98,7 +98,7 @@ impl<'a, A: Allocator + Copy> KnownBytes<'a, A> {
             homes.note(at + 1, &targets, copied);
             comes = both(comes, is_there);
             at += 1 + targets.len();
-            turn += 1;
+            transaction += 1;
         }
         Ok(homes)
     }

@@ -21,7 +21,7 @@ use std::alloc::Allocator;
 
 /// Which inodes are reached, as far as the entries of directories have been read.
 #[derive(Clone, Copy)]
-pub(crate) struct Reach {
+pub(crate) struct ReachedInodes {
     /// The inodes that each disk reaches.
     pub(crate) sure: u128,
     /// The inodes that some disk may reach, these among them.
@@ -30,13 +30,13 @@ pub(crate) struct Reach {
     pub(crate) asks: [u8; 16],
 }
 
-impl Reach {
+impl ReachedInodes {
     /// Only the root.
-    fn root() -> Reach
+    fn root() -> ReachedInodes
         ensures sure { result.sure ≡ 1 }
         ensures may { result.may ≡ 1 }
     {
-        Reach {
+        ReachedInodes {
             sure: 1,
             may: 1,
             asks: [0; 16],
@@ -164,7 +164,7 @@ impl<'a, A: Allocator + Copy> KnownDisk<'a, A> {
     }
 
     /// Adds the inodes to which the entries of a directory lead.
-    fn read(&self, reach: &mut Reach, dir: u8)
+    fn read(&self, reach: &mut ReachedInodes, dir: u8)
         requires dir { (dir < INODES) × Has reach.old.may dir }
         requires reach { IsReach self.now reach.old.sure reach.old.may reach.old.asks }
         ensures reach { IsReach self.now reach.new.sure reach.new.may reach.new.asks }
@@ -183,12 +183,12 @@ impl<'a, A: Allocator + Copy> KnownDisk<'a, A> {
     }
 
     /// What is reached from the root, which each disk has.
-    fn reach(&self) -> Reach
+    fn reach(&self) -> ReachedInodes
         requires { InEachDisk self.now (λ d. kind_of d 0 ≡ DIRECTORY_KIND) }
         ensures reach { IsReach self.now result.sure result.may result.asks }
         ensures all { ReachesNoOther self.now result.may }
     {
-        let mut reach = Reach::root();
+        let mut reach = ReachedInodes::root();
         let mut unread = 0xFFFF;
         while let Some(dir) = reach.next(unread) {
             unread = without(unread, dir);

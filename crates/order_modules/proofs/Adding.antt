@@ -108,21 +108,23 @@ filter_both p (x ∷ xs) = go (p x) (filter_both p xs)
 
 -- ---- copies
 
-pub copies-push : (after : Disk) (turn j : ℕ) (origin : Origin) (bs : List ℕ) (b : ℕ)
-    → copies after turn j origin (bs ++ b ∷ []) ≡ copies after turn j origin bs ++ part_of turn origin Copy
+pub copies-push : (after : Disk) (op_number j : ℕ) (origin : Origin) (bs : List ℕ) (b : ℕ)
+    → copies after op_number j origin (bs ++ b ∷ []) ≡ copies after op_number j origin bs
+    ++ part_of op_number origin Copy
     (j + length bs) 0 (block_of after b) ∷ []
-copies-push after turn j origin [] b = ap (λ (k : ℕ). part_of turn origin Copy k 0 (block_of after b) ∷ [])
+copies-push after op_number j origin [] b = ap (λ (k : ℕ). part_of op_number origin Copy k 0 (block_of after b) ∷ [])
     (omega arith)
-copies-push after turn j origin (x ∷ bs) b =
-    ap (λ (es : List Emitted). part_of turn origin Copy j 0 (block_of after x) ∷ es)
-    (copies-push after turn (j + 1) origin bs b
-    ∙ ap (λ (k : ℕ). copies after turn (j + 1) origin bs ++ part_of turn origin Copy k 0 (block_of after b) ∷ [])
+copies-push after op_number j origin (x ∷ bs) b =
+    ap (λ (es : List Emitted). part_of op_number origin Copy j 0 (block_of after x) ∷ es)
+    (copies-push after op_number (j + 1) origin bs b
+    ∙ ap (λ (k : ℕ). copies after op_number (j + 1) origin bs ++ part_of op_number origin Copy k 0 (block_of after b)
+    ∷ [])
     (omega arith))
 
-pub length-copies : (after : Disk) (turn j : ℕ) (origin : Origin) (bs : List ℕ)
-    → length (copies after turn j origin bs) ≡ length bs
-length-copies after turn j origin [] = refl
-length-copies after turn j origin (b ∷ bs) = ap suc (length-copies after turn (j + 1) origin bs)
+pub length-copies : (after : Disk) (op_number j : ℕ) (origin : Origin) (bs : List ℕ)
+    → length (copies after op_number j origin bs) ≡ length bs
+length-copies after op_number j origin [] = refl
+length-copies after op_number j origin (b ∷ bs) = ap suc (length-copies after op_number (j + 1) origin bs)
 
 -- ---- in the loops
 
@@ -157,36 +159,37 @@ pub chosen_end : (a b : Log) (p : Change → Bool) (f : Change → Emitted) (xs 
 chosen_end a b p f xs i past so_far = adds-same a b (map f (filter p (take i xs))) (map f (filter p xs))
     (ap (λ (ys : List Change). map f (filter p ys)) (take_all i xs past)) so_far
 
-module _ (a b : Log) (after : Disk) (turn j : ℕ) (origin : Origin) (bs : List ℕ) (i : ℕ)
-    (so_far : Adds a b (copies after turn j origin (take i bs))) where
+module _ (a b : Log) (after : Disk) (op_number j : ℕ) (origin : Origin) (bs : List ℕ) (i : ℕ)
+    (so_far : Adds a b (copies after op_number j origin (take i bs))) where
   pub copies_space : i < length bs → length a.emitted + length bs ≤ 124 → length b.emitted < 124
   copies_space inside room =
-      let long : length b.emitted ≡ length a.emitted + length (copies after turn j origin (take i bs)) =
-      adds-long a b (copies after turn j origin (take i bs)) so_far in
-      let same : length (copies after turn j origin (take i bs)) ≡ length (take i bs) =
-      length-copies after turn j origin (take i bs) in
+      let long : length b.emitted ≡ length a.emitted + length (copies after op_number j origin (take i bs)) =
+      adds-long a b (copies after op_number j origin (take i bs)) so_far in
+      let same : length (copies after op_number j origin (take i bs)) ≡ length (take i bs) =
+      length-copies after op_number j origin (take i bs) in
       let front : length (take i bs) ≡ i = length-take-le i bs (omega arith) in
       omega arith
 
   pub copies_next : (d : Log) (block t t' : ℕ) (bytes : List ℕ) → i < length bs → block ≡ j + i → t' ≡ t
-      → t ≡ get_or bs i 0 → bytes ≡ block_of after t' → Adds b d (part_of turn origin Copy block 0 bytes ∷ [])
-      → Adds a d (copies after turn j origin (take (i + 1) bs))
+      → t ≡ get_or bs i 0 → bytes ≡ block_of after t' → Adds b d (part_of op_number origin Copy block 0 bytes ∷ [])
+      → Adds a d (copies after op_number j origin (take (i + 1) bs))
   copies_next d block t t' bytes inside at cast read copied adds =
       let front : length (take i bs) ≡ i = length-take-le i bs (omega arith) in
       let more : take (i + 1) bs ≡ take i bs ++ get_or bs i 0 ∷ [] = take_more bs i 0 inside in
-      let is : copies after turn j origin (take (i + 1) bs) ≡ copies after turn j origin (take i bs)
-      ++ part_of turn origin Copy (j + length (take i bs)) 0 (block_of after (get_or bs i 0)) ∷ [] =
-      ap (λ (xs : List ℕ). copies after turn j origin xs) more
-      ∙ copies-push after turn j origin (take i bs) (get_or bs i 0) in
-      let one : part_of turn origin Copy block 0 bytes ≡ part_of turn origin Copy (j + length (take i bs)) 0
+      let is : copies after op_number j origin (take (i + 1) bs) ≡ copies after op_number j origin (take i bs)
+      ++ part_of op_number origin Copy (j + length (take i bs)) 0 (block_of after (get_or bs i 0)) ∷ [] =
+      ap (λ (xs : List ℕ). copies after op_number j origin xs) more
+      ∙ copies-push after op_number j origin (take i bs) (get_or bs i 0) in
+      let one : part_of op_number origin Copy block 0 bytes ≡ part_of op_number origin Copy (j + length (take i bs)) 0
       (block_of after (get_or bs i 0)) =
-      ap (λ (k : ℕ). part_of turn origin Copy k 0 bytes) (at ∙ ap (λ (k : ℕ). j + k) (sym front))
-      ∙ ap (λ (xs : List ℕ). part_of turn origin Copy (j + length (take i bs)) 0 xs)
+      ap (λ (k : ℕ). part_of op_number origin Copy k 0 bytes) (at ∙ ap (λ (k : ℕ). j + k) (sym front))
+      ∙ ap (λ (xs : List ℕ). part_of op_number origin Copy (j + length (take i bs)) 0 xs)
       (copied ∙ ap (λ (k : ℕ). block_of after k) (cast ∙ read)) in
-      adds-same a d (copies after turn j origin (take i bs) ++ part_of turn origin Copy block 0 bytes ∷ [])
-      (copies after turn j origin (take (i + 1) bs))
-      (ap (λ (e : Emitted). copies after turn j origin (take i bs) ++ e ∷ []) one ∙ sym is)
-      (adds-then a b d (copies after turn j origin (take i bs)) (part_of turn origin Copy block 0 bytes ∷ []) so_far
+      adds-same a d (copies after op_number j origin (take i bs) ++ part_of op_number origin Copy block 0 bytes ∷ [])
+      (copies after op_number j origin (take (i + 1) bs))
+      (ap (λ (e : Emitted). copies after op_number j origin (take i bs) ++ e ∷ []) one ∙ sym is)
+      (adds-then a b d (copies after op_number j origin (take i bs))
+      (part_of op_number origin Copy block 0 bytes ∷ []) so_far
       adds)
 
 -- ---- what is touched
@@ -214,23 +217,23 @@ pub transaction_room : (kind : Module) (changes : List Change)
     → length (changes_ahead kind changes) + length (changes_in_place kind changes) ≡ length changes
 transaction_room kind changes = filter_both (is_ahead kind) changes
 
-pub transaction_adds : (kind : Module) (after : Disk) (turn j : ℕ) (origin : Origin) (targets : List ℕ)
+pub transaction_adds : (kind : Module) (after : Disk) (op_number j : ℕ) (origin : Origin) (targets : List ℕ)
     (changes : List Change) (a b c d e f : Log) → kind ≡ a.kind
-    → Adds a b (map (file_data turn origin) (changes_ahead a.kind changes))
-    → Adds b c (copies after turn (j + 1) origin targets)
-    → Adds c d (part_of turn origin Commit j 0 (0xC7 ∷ turn ∷ length targets ∷ targets) ∷ [])
-    → Adds d e (map (in_place_patch turn origin) (changes_in_place d.kind changes))
-    → Adds e f (part_of turn origin Done j 0 (0xC8 ∷ []) ∷ [])
-    → Adds a f (transaction_of a.kind after turn j origin targets changes)
-transaction_adds kind after turn j origin targets changes a b c d e f same first second third fourth fifth =
-    let xs : List Emitted = map (file_data turn origin) (changes_ahead a.kind changes) in
-    let ys : List Emitted = copies after turn (j + 1) origin targets in
-    let z : Emitted = part_of turn origin Commit j 0 (0xC7 ∷ turn ∷ length targets ∷ targets) in
-    let ws : List Emitted = map (in_place_patch turn origin) (changes_in_place a.kind changes) in
-    let v : Emitted = part_of turn origin Done j 0 (0xC8 ∷ []) in
+    → Adds a b (map (file_data op_number origin) (changes_ahead a.kind changes))
+    → Adds b c (copies after op_number (j + 1) origin targets)
+    → Adds c d (part_of op_number origin Commit j 0 (0xC7 ∷ op_number ∷ length targets ∷ targets) ∷ [])
+    → Adds d e (map (in_place_patch op_number origin) (changes_in_place d.kind changes))
+    → Adds e f (part_of op_number origin Done j 0 (0xC8 ∷ []) ∷ [])
+    → Adds a f (transaction_of a.kind after op_number j origin targets changes)
+transaction_adds kind after op_number j origin targets changes a b c d e f same first second third fourth fifth =
+    let xs : List Emitted = map (file_data op_number origin) (changes_ahead a.kind changes) in
+    let ys : List Emitted = copies after op_number (j + 1) origin targets in
+    let z : Emitted = part_of op_number origin Commit j 0 (0xC7 ∷ op_number ∷ length targets ∷ targets) in
+    let ws : List Emitted = map (in_place_patch op_number origin) (changes_in_place a.kind changes) in
+    let v : Emitted = part_of op_number origin Done j 0 (0xC8 ∷ []) in
     let same_kind : d.kind ≡ a.kind = third.kind ∙ second.kind ∙ first.kind in
     let fourth' : Adds d e ws = subst (λ (k : Module). Adds d e
-    (map (in_place_patch turn origin) (changes_in_place k changes))) same_kind fourth in
+    (map (in_place_patch op_number origin) (changes_in_place k changes))) same_kind fourth in
     adds-then a b f xs (ys ++ (z ∷ (ws ++ v ∷ []))) first
     (adds-then b c f ys (z ∷ (ws ++ v ∷ [])) second
     (adds-then c d f (z ∷ []) (ws ++ v ∷ []) third
@@ -240,10 +243,10 @@ adds-map : (a b : Log) (f : Change → Emitted) (xs : List Change) → Adds a b 
     → length b.emitted ≡ length a.emitted + length xs
 adds-map a b f xs adds = adds-long a b (map f xs) adds ∙ ap (λ (n : ℕ). length a.emitted + n) (length-map xs f)
 
-adds-copies : (a b : Log) (after : Disk) (turn j : ℕ) (origin : Origin) (bs : List ℕ)
-    → Adds a b (copies after turn j origin bs) → length b.emitted ≡ length a.emitted + length bs
-adds-copies a b after turn j origin bs adds = adds-long a b (copies after turn j origin bs) adds
-    ∙ ap (λ (n : ℕ). length a.emitted + n) (length-copies after turn j origin bs)
+adds-copies : (a b : Log) (after : Disk) (op_number j : ℕ) (origin : Origin) (bs : List ℕ)
+    → Adds a b (copies after op_number j origin bs) → length b.emitted ≡ length a.emitted + length bs
+adds-copies a b after op_number j origin bs adds = adds-long a b (copies after op_number j origin bs) adds
+    ∙ ap (λ (n : ℕ). length a.emitted + n) (length-copies after op_number j origin bs)
 
 -- ---- room for what a transaction adds next
 
@@ -260,8 +263,8 @@ module _ (old first : Log) (changes : List Change) (targets : List ℕ) (f : Cha
         (changes_ahead old.kind changes) ahead,
   )
 
-  module _ (second : Log) (after : Disk) (turn j : ℕ) (origin : Origin)
-      (copied : Adds first second (copies after turn j origin targets)) where
+  module _ (second : Log) (after : Disk) (op_number j : ℕ) (origin : Origin)
+      (copied : Adds first second (copies after op_number j origin targets)) where
     -- after the copies there is room for the commit, the changes in place and the mark that all is done
     left : length second.emitted + (length (changes_in_place old.kind changes) + 2) ≤ 124
     left = omega (
@@ -270,7 +273,7 @@ module _ (old first : Log) (changes : List Change) (targets : List ℕ) (f : Cha
       transaction_room old.kind changes,
       adds-map old first f
           (changes_ahead old.kind changes) ahead,
-      adds-copies first second after turn j origin targets copied,
+      adds-copies first second after op_number j origin targets copied,
     )
 
     pub room_for_commit : length second.emitted < 124

@@ -13,7 +13,7 @@ use Rattle.patch_sets.proofs.Bits.{same_set, in_or_cases, in_or_left, in_or_righ
 use Rattle.patch_sets.proofs.Bits.{in_with_same}
 use Rattle.crash_model.specs.Emitted.{Emitted}
 use Rattle.crash_model.specs.Patches.{Place}
-use Rattle.crash_model.specs.Waiting.{ids_from, last_turn, sync_forces, fsync_forces}
+use Rattle.crash_model.specs.Waiting.{ids_from, last_op_number, sync_forces, fsync_forces}
 use Rattle.crash_model.specs.declared.modules.Module.{Module}
 use Rattle.crash_model.specs.declared.modules.Module.TheVariants.{Async, Soft, Meta, Full}
 use Rattle.crash_model.specs.declared.ranges.Range.{Range}
@@ -92,29 +92,30 @@ module _ (test : Emitted → Bool) (all : List Emitted) (i ids : ℕ) (so_far : 
 
 -- this one, and that of the patches from one on, give that of all
 abbrev pub IsLast : (Emitted → Bool) → List Emitted → ℕ → ℕ → Type 0
-IsLast test all i last = max last (last_turn test (drop i all)) ≡ last_turn test all
+IsLast test all i last = max last (last_op_number test (drop i all)) ≡ last_op_number test all
 
 pub last_none : (test : Emitted → Bool) (all : List Emitted) → IsLast test all 0 0
 last_none test all = omega arith
 
 module _ (test : Emitted → Bool) (all : List Emitted) (i last : ℕ) (so_far : IsLast test all i last) where
-  pub last_one : (e : Emitted) → slice_get all i ≡ Some e → test e ≡ true → IsLast test all (i + 1) (max last e.turn)
+  pub last_one : (e : Emitted) → slice_get all i ≡ Some e → test e ≡ true
+      → IsLast test all (i + 1) (max last e.op_number)
   last_one e at passes =
-      let rest = last_turn test (drop (i + 1) all) in
-      let here : last_turn test (drop i all) ≡ max e.turn rest =
-      ap (last_turn test) (rest_of all i e at) ∙ ap (λ (b : Bool). cond b (max e.turn rest) rest) passes in
+      let rest = last_op_number test (drop (i + 1) all) in
+      let here : last_op_number test (drop i all) ≡ max e.op_number rest =
+      ap (last_op_number test) (rest_of all i e at) ∙ ap (λ (b : Bool). cond b (max e.op_number rest) rest) passes in
       omega (arith, here, so_far)
 
   pub last_skip : (e : Emitted) → slice_get all i ≡ Some e → test e ≡ false → IsLast test all (i + 1) last
   last_skip e at fails =
-      let rest = last_turn test (drop (i + 1) all) in
-      let here : last_turn test (drop i all) ≡ rest =
-      ap (last_turn test) (rest_of all i e at) ∙ ap (λ (b : Bool). cond b (max e.turn rest) rest) fails in
+      let rest = last_op_number test (drop (i + 1) all) in
+      let here : last_op_number test (drop i all) ≡ rest =
+      ap (last_op_number test) (rest_of all i e at) ∙ ap (λ (b : Bool). cond b (max e.op_number rest) rest) fails in
       ap (max last) (sym here) ∙ so_far
 
-  pub last_end : length all ≤ i → last ≡ last_turn test all
-  last_end past = let end : max last 0 ≡ last_turn test all =
-      ap (λ (es : List Emitted). max last (last_turn test es)) (sym (none_past all i past)) ∙ so_far in
+  pub last_end : length all ≤ i → last ≡ last_op_number test all
+  last_end past = let end : max last 0 ≡ last_op_number test all =
+      ap (λ (es : List Emitted). max last (last_op_number test es)) (sym (none_past all i past)) ∙ so_far in
       omega (arith, end)
 
 -- the larger of two
@@ -176,7 +177,7 @@ sync_labelled kind id (p ∷ ps) (l ∷ ls) same =
 -- ---- an fsync by its last operation
 
 pub forces_same : (kind : Module) (ranges : List Range) (all : List Emitted) (p : Emitted)
-    → forces_with kind ranges (last_turn (has_contents ranges) all) p ≡ fsync_forces kind ranges all p
+    → forces_with kind ranges (last_op_number (has_contents ranges) all) p ≡ fsync_forces kind ranges all p
 forces_same Async ranges all p = refl
 forces_same Soft ranges all p = refl
 forces_same Meta ranges all p = refl

@@ -37,8 +37,9 @@ nat_lt-true a b h = grind (arith, tests)
 abbrev pub after_plan : Module → ℕ → Op → Tracing → List Change → Tracing
 after_plan kind line op s cs = record s {
   disk = with_changes s.disk cs;
-  emitted = s.emitted ++ patches_by kind (with_changes s.disk cs) s.turn s.journal (origin_at line op s.current s.forced) cs;
-  turn = s.turn + 1;
+  emitted = s.emitted ++ patches_by kind (with_changes s.disk cs) s.op_number s.journal
+      (origin_at line op s.current s.forced) cs;
+  op_number = s.op_number + 1;
   journal = s.journal + journal_blocks kind s.disk.blocks cs;
 }
 
@@ -48,22 +49,22 @@ module _ (kind : Module) (line : ℕ) (op : Op) (s : Tracing) (cs : List Change)
   planned_full past = rw (nat_lt-true (4 + s.disk.journal) (s.journal + journal_blocks kind s.disk.blocks cs) past) refl
 
   pub planned_many : s.journal + journal_blocks kind s.disk.blocks cs ≤ 4 + s.disk.journal
-      → 124 < length s.emitted + length (patches_by kind (with_changes s.disk cs) s.turn s.journal
+      → 124 < length s.emitted + length (patches_by kind (with_changes s.disk cs) s.op_number s.journal
       (origin_at line op s.current s.forced) cs) → trace_of_plan kind line op s (Ok cs) ≡ Err (fault.TooManyPatches line)
   planned_many fits many = rw (
     nat_lt-false (4 + s.disk.journal) (s.journal + journal_blocks kind s.disk.blocks cs)
         fits,
-    nat_lt-true 124 (length s.emitted + length (patches_by kind (with_changes s.disk cs) s.turn s.journal
+    nat_lt-true 124 (length s.emitted + length (patches_by kind (with_changes s.disk cs) s.op_number s.journal
         (origin_at line op s.current s.forced) cs)) many,
   ) refl
 
   pub planned_ok : s.journal + journal_blocks kind s.disk.blocks cs ≤ 4 + s.disk.journal
-      → length s.emitted + length (patches_by kind (with_changes s.disk cs) s.turn s.journal
+      → length s.emitted + length (patches_by kind (with_changes s.disk cs) s.op_number s.journal
       (origin_at line op s.current s.forced) cs) ≤ 124 → trace_of_plan kind line op s (Ok cs)
       ≡ Ok (after_plan kind line op s cs)
   planned_ok fits few = rw (
     nat_lt-false (4 + s.disk.journal) (s.journal + journal_blocks kind s.disk.blocks cs) fits,
-    nat_lt-false 124 (length s.emitted + length (patches_by kind (with_changes s.disk cs) s.turn s.journal
+    nat_lt-false 124 (length s.emitted + length (patches_by kind (with_changes s.disk cs) s.op_number s.journal
         (origin_at line op s.current s.forced) cs)) few,
   ) refl
 
@@ -182,12 +183,12 @@ with_changes-disk d (c ∷ cs) is inside =
 
 -- a trace with another log and disk
 abbrev pub trace_with : Trace → Log → Disk → ℕ → ℕ → Trace
-trace_with old log disk turn next = record {
+trace_with old log disk op_number next = record {
   log = log;
   tracing = record old.tracing {
     disk = disk;
     emitted = log.emitted;
-    turn = turn;
+    op_number = op_number;
     journal = next;
     whole = log.whole;
     links = log.links;
@@ -195,12 +196,13 @@ trace_with old log disk turn next = record {
 }
 
 -- a trace stays one with the changes of a plan on its disk
-pub trace_kept : (old now : Trace) (log : Log) (disk : Disk) (cs : List Change) (turn next : ℕ) → old ≡ now
+pub trace_kept : (old now : Trace) (log : Log) (disk : Disk) (cs : List Change) (op_number next : ℕ) → old ≡ now
     → IsTrace old → Keeps old.log log → All (LiesInside now.tracing.disk.blocks) cs
     → disk ≡ with_changes old.tracing.disk cs
-    → old.tracing.journal ≤ next → next ≤ 4 + old.tracing.disk.journal → (IsJournaled old.log.kind → turn + 3 ≤ next)
-    → IsTrace (trace_with old log disk turn next)
-trace_kept old now log disk cs turn next view is keeps inside here from to counted = record {
+    → old.tracing.journal ≤ next → next ≤ 4 + old.tracing.disk.journal
+    → (IsJournaled old.log.kind → op_number + 3 ≤ next)
+    → IsTrace (trace_with old log disk op_number next)
+trace_kept old now log disk cs op_number next view is keeps inside here from to counted = record {
   disk = subst IsDisk (sym here)
       (with_changes-disk old.tracing.disk cs is.disk
       (subst (λ (t : Trace). All (LiesInside t.tracing.disk.blocks) cs) (sym view) inside));
@@ -217,100 +219,109 @@ not_journaled Soft o j = j
 not_journaled Meta o j = o
 not_journaled Full o j = o
 
-module _ (old : Trace) (line : ℕ) (op : Op) (cs : List Change) (log : Log) (disk : Disk) (turn next : ℕ)
+module _ (old : Trace) (line : ℕ) (op : Op) (cs : List Change) (log : Log) (disk : Disk) (op_number next : ℕ)
     (same : old.tracing.emitted ≡ old.log.emitted) (same_links : old.tracing.links ≡ old.log.links)
     (same_whole : old.tracing.whole ≡ old.log.whole) (here : disk ≡ with_changes old.tracing.disk cs) where
   tracing_is : (kind : Module) (more : List Emitted) → Adds old.log log more
-      → more ≡ patches_by kind (with_changes old.tracing.disk cs) old.tracing.turn old.tracing.journal
+      → more ≡ patches_by kind (with_changes old.tracing.disk cs) old.tracing.op_number old.tracing.journal
       (origin_at line op old.tracing.current old.tracing.forced) cs
-      → turn ≡ old.tracing.turn + 1 → next ≡ old.tracing.journal + journal_blocks kind old.tracing.disk.blocks cs
-      → after_plan kind line op old.tracing cs ≡ (trace_with old log disk turn next).tracing
-  tracing_is kind more adds is turns nexts =
+      → op_number ≡ old.tracing.op_number + 1
+      → next ≡ old.tracing.journal + journal_blocks kind old.tracing.disk.blocks cs
+      → after_plan kind line op old.tracing cs ≡ (trace_with old log disk op_number next).tracing
+  tracing_is kind more adds is op_numbers nexts =
       let make : Disk → List Emitted → ℕ → ℕ → List (List ℕ × List ℕ) → Bool → Tracing = λ d es t j ls w.
-      record old.tracing { disk = d; emitted = es; turn = t; journal = j; whole = w; links = ls } in
-      let es : old.tracing.emitted ++ patches_by kind (with_changes old.tracing.disk cs) old.tracing.turn
+      record old.tracing { disk = d; emitted = es; op_number = t; journal = j; whole = w; links = ls } in
+      let es : old.tracing.emitted ++ patches_by kind (with_changes old.tracing.disk cs) old.tracing.op_number
       old.tracing.journal (origin_at line op old.tracing.current old.tracing.forced) cs ≡ log.emitted =
-      ap (λ (xs : List Emitted). xs ++ patches_by kind (with_changes old.tracing.disk cs) old.tracing.turn
+      ap (λ (xs : List Emitted). xs ++ patches_by kind (with_changes old.tracing.disk cs) old.tracing.op_number
       old.tracing.journal (origin_at line op old.tracing.current old.tracing.forced) cs) same
       ∙ ap (λ (xs : List Emitted). old.log.emitted ++ xs) (sym is) ∙ sym adds.emitted in
       let ls : old.tracing.links ≡ log.links = same_links ∙ sym adds.links in
       ap (λ (d : Disk). make d (old.tracing.emitted ++ patches_by kind (with_changes old.tracing.disk cs)
-      old.tracing.turn old.tracing.journal (origin_at line op old.tracing.current old.tracing.forced) cs) (old.tracing.turn + 1)
+      old.tracing.op_number old.tracing.journal (origin_at line op old.tracing.current old.tracing.forced) cs)
+      (old.tracing.op_number + 1)
       (old.tracing.journal + journal_blocks kind old.tracing.disk.blocks cs) old.tracing.links old.tracing.whole)
       (sym here)
-      ∙ ap (λ (xs : List Emitted). make disk xs (old.tracing.turn + 1)
+      ∙ ap (λ (xs : List Emitted). make disk xs (old.tracing.op_number + 1)
       (old.tracing.journal + journal_blocks kind old.tracing.disk.blocks cs) old.tracing.links old.tracing.whole) es
       ∙ ap (λ (t : ℕ). make disk log.emitted t (old.tracing.journal + journal_blocks kind old.tracing.disk.blocks cs)
-      old.tracing.links old.tracing.whole) (sym turns)
-      ∙ ap (λ (j : ℕ). make disk log.emitted turn j old.tracing.links old.tracing.whole) (sym nexts)
-      ∙ ap (λ (xs : List (List ℕ × List ℕ)). make disk log.emitted turn next xs old.tracing.whole) ls
-      ∙ ap (λ (b : Bool). make disk log.emitted turn next log.links b) (same_whole ∙ sym adds.whole)
+      old.tracing.links old.tracing.whole) (sym op_numbers)
+      ∙ ap (λ (j : ℕ). make disk log.emitted op_number j old.tracing.links old.tracing.whole) (sym nexts)
+      ∙ ap (λ (xs : List (List ℕ × List ℕ)). make disk log.emitted op_number next xs old.tracing.whole) ls
+      ∙ ap (λ (b : Bool). make disk log.emitted op_number next log.links b) (same_whole ∙ sym adds.whole)
 
   moves_by : (more : List Emitted) → Adds old.log log more
-      → more ≡ patches_by old.log.kind (with_changes old.tracing.disk cs) old.tracing.turn old.tracing.journal
+      → more ≡ patches_by old.log.kind (with_changes old.tracing.disk cs) old.tracing.op_number old.tracing.journal
       (origin_at line op old.tracing.current old.tracing.forced) cs
-      → turn ≡ old.tracing.turn + 1 → next ≡ old.tracing.journal + journal_blocks old.log.kind old.tracing.disk.blocks
+      → op_number ≡ old.tracing.op_number + 1
+      → next ≡ old.tracing.journal + journal_blocks old.log.kind old.tracing.disk.blocks
       cs
       → next ≤ 4 + old.tracing.disk.journal → length old.tracing.emitted + length more ≤ 124
-      → Moves old (trace_with old log disk turn next) (trace_of_plan old.log.kind line op old.tracing (Ok cs))
-  moves_by more adds is turns nexts fits few = record {
+      → Moves old (trace_with old log disk op_number next) (trace_of_plan old.log.kind line op old.tracing (Ok cs))
+  moves_by more adds is op_numbers nexts fits few = record {
     base = adds.base;
     kind = adds.kind;
     rules = adds.rules;
     whole = adds.whole;
-    turns = omega arith;
+    op_numbers = omega arith;
     answered = planned_ok old.log.kind line op old.tracing cs (omega arith)
         (omega (arith, ap (λ (xs : List Emitted). length xs) is))
-        ∙ ap (λ (t : Tracing). Ok t) (tracing_is old.log.kind more adds is turns nexts);
+        ∙ ap (λ (t : Tracing). Ok t) (tracing_is old.log.kind more adds is op_numbers nexts);
   }
 
   pub moves_in_place : IsOrdered old.log.kind → Adds old.log log
-      (map (in_place_patch old.tracing.turn (origin_at line op old.tracing.current old.tracing.forced)) (changes_in_place old.log.kind cs))
-      → turn ≡ old.tracing.turn + 1 → next ≡ old.tracing.journal
+      (map (in_place_patch old.tracing.op_number (origin_at line op old.tracing.current old.tracing.forced))
+      (changes_in_place old.log.kind cs))
+      → op_number ≡ old.tracing.op_number + 1 → next ≡ old.tracing.journal
       → old.tracing.journal ≤ 4 + old.tracing.disk.journal → length old.tracing.emitted + length cs ≤ 124
-      → Moves old (trace_with old log disk turn next) (trace_of_plan old.log.kind line op old.tracing (Ok cs))
-  moves_in_place order adds turns nexts fits few =
+      → Moves old (trace_with old log disk op_number next) (trace_of_plan old.log.kind line op old.tracing (Ok cs))
+  moves_in_place order adds op_numbers nexts fits few =
       let all : changes_in_place old.log.kind cs ≡ cs = placed_all old.log.kind cs order in
-      let more : List Emitted = map (in_place_patch old.tracing.turn (origin_at line op old.tracing.current old.tracing.forced))
+      let more : List Emitted =
+      map (in_place_patch old.tracing.op_number (origin_at line op old.tracing.current old.tracing.forced))
       (changes_in_place old.log.kind cs) in
-      let is : more ≡ patches_by old.log.kind (with_changes old.tracing.disk cs) old.tracing.turn old.tracing.journal
+      let is : more ≡ patches_by old.log.kind
+      (with_changes old.tracing.disk cs) old.tracing.op_number old.tracing.journal
       (origin_at line op old.tracing.current old.tracing.forced) cs =
-      ap (λ (xs : List Change). map (in_place_patch old.tracing.turn (origin_at line op old.tracing.current old.tracing.forced)) xs) all
-      ∙ sym (ordered_patches old.log.kind (with_changes old.tracing.disk cs) old.tracing.turn old.tracing.journal
+      ap (λ (xs : List Change). map
+      (in_place_patch old.tracing.op_number (origin_at line op old.tracing.current old.tracing.forced)) xs) all
+      ∙ sym (ordered_patches old.log.kind (with_changes old.tracing.disk cs) old.tracing.op_number old.tracing.journal
       (origin_at line op old.tracing.current old.tracing.forced) cs order) in
       let none : journal_blocks old.log.kind old.tracing.disk.blocks cs ≡ 0 =
       ordered_blocks old.log.kind old.tracing.disk.blocks cs order in
       let long : length more ≡ length cs = length-map (changes_in_place old.log.kind cs)
-      (in_place_patch old.tracing.turn (origin_at line op old.tracing.current old.tracing.forced))
+      (in_place_patch old.tracing.op_number (origin_at line op old.tracing.current old.tracing.forced))
       ∙ ap (λ (xs : List Change). length xs) all in
-      moves_by more adds is turns (omega arith) (omega arith) (omega arith)
+      moves_by more adds is op_numbers (omega arith) (omega arith) (omega arith)
 
   pub moves_journaled : (targets : List ℕ) → IsJournaled old.log.kind
       → targets ≡ targets_of old.log.kind old.tracing.disk.blocks cs
-      → Adds old.log log (transaction_of old.log.kind disk old.tracing.turn old.tracing.journal
-      (origin_at line op old.tracing.current old.tracing.forced) targets cs) → turn ≡ old.tracing.turn + 1
+      → Adds old.log log (transaction_of old.log.kind disk old.tracing.op_number old.tracing.journal
+      (origin_at line op old.tracing.current old.tracing.forced) targets cs) → op_number ≡ old.tracing.op_number + 1
       → next ≡ old.tracing.journal + (1 + length targets)
       → next ≤ 4 + old.tracing.disk.journal → length old.tracing.emitted + (length cs + length targets + 2) ≤ 124
-      → Moves old (trace_with old log disk turn next) (trace_of_plan old.log.kind line op old.tracing (Ok cs))
-  moves_journaled targets order targets_are adds turns nexts fits few =
-      let more : List Emitted = transaction_of old.log.kind disk old.tracing.turn old.tracing.journal
+      → Moves old (trace_with old log disk op_number next) (trace_of_plan old.log.kind line op old.tracing (Ok cs))
+  moves_journaled targets order targets_are adds op_numbers nexts fits few =
+      let more : List Emitted = transaction_of old.log.kind disk old.tracing.op_number old.tracing.journal
       (origin_at line op old.tracing.current old.tracing.forced) targets cs in
       let same_blocks : targets ≡ targets_of old.log.kind (with_changes old.tracing.disk cs).blocks cs = targets_are
       ∙ ap (λ (n : ℕ). targets_of old.log.kind n cs) (sym (with_changes-blocks old.tracing.disk cs)) in
-      let is : more ≡ patches_by old.log.kind (with_changes old.tracing.disk cs) old.tracing.turn old.tracing.journal
+      let is : more ≡ patches_by old.log.kind
+      (with_changes old.tracing.disk cs) old.tracing.op_number old.tracing.journal
       (origin_at line op old.tracing.current old.tracing.forced) cs =
-      ap (λ (d : Disk). transaction_of old.log.kind d old.tracing.turn old.tracing.journal
+      ap (λ (d : Disk). transaction_of old.log.kind d old.tracing.op_number old.tracing.journal
       (origin_at line op old.tracing.current old.tracing.forced) targets cs) here
-      ∙ ap (λ (ts : List ℕ). transaction_of old.log.kind (with_changes old.tracing.disk cs) old.tracing.turn
+      ∙ ap (λ (ts : List ℕ). transaction_of old.log.kind (with_changes old.tracing.disk cs) old.tracing.op_number
       old.tracing.journal (origin_at line op old.tracing.current old.tracing.forced) ts cs) same_blocks
-      ∙ sym (journaled_patches old.log.kind (with_changes old.tracing.disk cs) old.tracing.turn old.tracing.journal
+      ∙ sym (journaled_patches old.log.kind (with_changes old.tracing.disk cs) old.tracing.op_number old.tracing.journal
       (origin_at line op old.tracing.current old.tracing.forced) cs order) in
       let some : journal_blocks old.log.kind old.tracing.disk.blocks cs ≡ 1 + length targets =
       journaled_blocks old.log.kind old.tracing.disk.blocks cs order
       ∙ ap (λ (ts : List ℕ). 1 + length ts) (sym targets_are) in
-      let long : length more ≡ length cs + length targets + 2 = length-transaction old.log.kind disk old.tracing.turn
+      let long : length more ≡ length cs + length targets + 2 =
+      length-transaction old.log.kind disk old.tracing.op_number
       old.tracing.journal (origin_at line op old.tracing.current old.tracing.forced) targets cs in
-      moves_by more adds is turns (nexts ∙ ap (λ (n : ℕ). old.tracing.journal + n) (sym some)) fits (omega arith)
+      moves_by more adds is op_numbers (nexts ∙ ap (λ (n : ℕ). old.tracing.journal + n) (sym some)) fits (omega arith)
 
 -- ---- refusals
 
@@ -326,11 +337,12 @@ pub refused_in_place : (old : Trace) (line : ℕ) (op : Op) (cs : List Change) �
 refused_in_place old line op cs order fits many =
     let none : journal_blocks old.log.kind old.tracing.disk.blocks cs ≡ 0 =
     ordered_blocks old.log.kind old.tracing.disk.blocks cs order in
-    let long : length (patches_by old.log.kind (with_changes old.tracing.disk cs) old.tracing.turn old.tracing.journal
+    let long : length
+    (patches_by old.log.kind (with_changes old.tracing.disk cs) old.tracing.op_number old.tracing.journal
     (origin_at line op old.tracing.current old.tracing.forced) cs) ≡ length cs =
     ap (λ (xs : List Emitted). length xs) (ordered_patches old.log.kind (with_changes old.tracing.disk cs)
-    old.tracing.turn old.tracing.journal (origin_at line op old.tracing.current old.tracing.forced) cs order)
-    ∙ length-map cs (in_place_patch old.tracing.turn (origin_at line op old.tracing.current old.tracing.forced)) in
+    old.tracing.op_number old.tracing.journal (origin_at line op old.tracing.current old.tracing.forced) cs order)
+    ∙ length-map cs (in_place_patch old.tracing.op_number (origin_at line op old.tracing.current old.tracing.forced)) in
     planned_many old.log.kind line op old.tracing cs (omega arith) (omega arith)
 
 module _ (old : Trace) (line : ℕ) (op : Op) (cs : List Change) (targets : List ℕ) (order : IsJournaled old.log.kind)
@@ -350,13 +362,14 @@ module _ (old : Trace) (line : ℕ) (op : Op) (cs : List Change) (targets : List
       let after : Disk = with_changes old.tracing.disk cs in
       let same : targets_of old.log.kind after.blocks cs ≡ targets = ap (λ (n : ℕ). targets_of old.log.kind n cs)
       (with_changes-blocks old.tracing.disk cs) ∙ sym targets_are in
-      let long : length (patches_by old.log.kind after old.tracing.turn old.tracing.journal
+      let long : length (patches_by old.log.kind after old.tracing.op_number old.tracing.journal
       (origin_at line op old.tracing.current old.tracing.forced) cs) ≡ length cs + length targets + 2 =
-      ap (λ (xs : List Emitted). length xs) (journaled_patches old.log.kind after old.tracing.turn old.tracing.journal
+      ap (λ (xs : List Emitted). length xs)
+      (journaled_patches old.log.kind after old.tracing.op_number old.tracing.journal
       (origin_at line op old.tracing.current old.tracing.forced) cs order
-      ∙ ap (λ (ts : List ℕ). transaction_of old.log.kind after old.tracing.turn old.tracing.journal
+      ∙ ap (λ (ts : List ℕ). transaction_of old.log.kind after old.tracing.op_number old.tracing.journal
       (origin_at line op old.tracing.current old.tracing.forced) ts cs) same)
-      ∙ length-transaction old.log.kind after old.tracing.turn old.tracing.journal
+      ∙ length-transaction old.log.kind after old.tracing.op_number old.tracing.journal
       (origin_at line op old.tracing.current old.tracing.forced) targets cs in
       planned_many old.log.kind line op old.tracing cs (omega (arith, takes)) (omega arith)
 
@@ -367,14 +380,15 @@ targets_read kind read n m xs ys targets is same_kind same_blocks same_changes =
     is ∙ ap (λ (k : Module). targets_of k m ys) same_kind ∙ ap (λ (b : ℕ). targets_of kind b ys) same_blocks
     ∙ ap (λ (zs : List Change). targets_of kind n zs) same_changes
 
-pub transaction_read : (old new : Log) (after : Disk) (turn header : ℕ) (origin : Origin) (targets ts : List ℕ)
-    (cs xs : List Change) → Adds old new (transaction_of old.kind after turn header origin ts xs) → ts ≡ targets
+pub transaction_read : (old new : Log) (after : Disk) (op_number header : ℕ) (origin : Origin) (targets ts : List ℕ)
+    (cs xs : List Change) → Adds old new (transaction_of old.kind after op_number header origin ts xs) → ts ≡ targets
     → xs ≡ cs
-    → Adds old new (transaction_of old.kind after turn header origin targets cs)
-transaction_read old new after turn header origin targets ts cs xs adds same_targets same_changes =
-    subst (λ (zs : List Change). Adds old new (transaction_of old.kind after turn header origin targets zs))
+    → Adds old new (transaction_of old.kind after op_number header origin targets cs)
+transaction_read old new after op_number header origin targets ts cs xs adds same_targets same_changes =
+    subst (λ (zs : List Change). Adds old new (transaction_of old.kind after op_number header origin targets zs))
     same_changes
-    (subst (λ (us : List ℕ). Adds old new (transaction_of old.kind after turn header origin us xs)) same_targets adds)
+    (subst (λ (us : List ℕ). Adds old new (transaction_of old.kind after op_number header origin us xs)) same_targets
+    adds)
 
 pub known_read : (kind : Module) (n m : ℕ) (cs : List Change) (targets ts : List ℕ) → targets ≡ targets_of kind n cs
     → ts ≡ targets → m ≡ n → All (λ b. b < m) ts

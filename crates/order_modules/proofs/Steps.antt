@@ -46,7 +46,7 @@ pub record IsTraced (kind : Module) (rules : List Rule) (whole : Bool) (base : D
   pub same_kind : t.log.kind ≡ kind
   pub same_rules : t.log.rules ≡ rules
   pub same_whole : t.log.whole ≡ whole
-  pub turns : t.tracing.turn ≤ i + 1
+  pub op_numbers : t.tracing.op_number ≤ i + 1
   pub so_far : trace_from kind (trace_start whole base) (take i steps) ≡ Ok t.tracing
   pub names : All GivesNames (take i steps)
 
@@ -72,7 +72,7 @@ module _ (kind : Module) (rules : List Rule) (whole : Bool) (base : Disk) (steps
     same_kind = moves.kind ∙ is.same_kind;
     same_rules = moves.rules ∙ is.same_rules;
     same_whole = moves.whole ∙ is.same_whole;
-    turns = omega (arith, moves.turns, is.turns);
+    op_numbers = omega (arith, moves.op_numbers, is.op_numbers);
     so_far = ap (λ (xs : List Step). trace_from kind (trace_start whole base) xs) with_next ∙ after_step []
         ∙ ap (λ (r : Result Tracing TraceFault). then_ok r (λ next. trace_from kind next []))
         (sym same_step ∙ moves.answered);
@@ -100,7 +100,7 @@ traced_start kind rules whole base steps t began same_base same_kind same_rules 
   same_kind = same_kind;
   same_rules = same_rules;
   same_whole = same_whole;
-  turns = omega (arith, ap (λ (s : Tracing). s.turn) began);
+  op_numbers = omega (arith, ap (λ (s : Tracing). s.op_number) began);
   so_far = ap (λ (s : Tracing). Ok s) (sym began);
   names = All-nil GivesNames;
 }

@@ -30,7 +30,7 @@ abbrev pub is_met_data : List Range → Emitted → Bool
 is_met_data ranges p = is_file_data_patch p && meets ranges p
 
 abbrev pub is_commit_of : ℕ → Emitted → Bool
-is_commit_of last p = is_commit p && p.turn == last
+is_commit_of last p = is_commit p && p.op_number == last
 
 -- the patch is forced, where that operation is the last one
 abbrev pub forces_with : Module → List Range → ℕ → Emitted → Bool

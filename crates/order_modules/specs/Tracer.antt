@@ -47,12 +47,12 @@ pub record Trace : Type 0 where
 
 -- by what a tracer keeps
 abbrev pub trace_of : Log → Disk → ℕ → ℕ → Option (List ℕ) → List (List ℕ) → List (List ℕ) → ℕ → List Wait → Trace
-trace_of log disk turn next current opened ended forced waits = record {
+trace_of log disk op_number next current opened ended forced waits = record {
   log = log;
   tracing = record {
     disk = disk;
     emitted = log.emitted;
-    turn = turn;
+    op_number = op_number;
     journal = next;
     whole = log.whole;
     current = current;
@@ -70,7 +70,7 @@ pub record IsTrace (t : Trace) : Type 0 where
   pub from : JOURNAL_AT ≤ t.tracing.journal
   pub to : t.tracing.journal ≤ JOURNAL_AT + t.tracing.disk.journal
   -- each transaction has taken a journal block at least
-  pub counted : IsJournaled t.log.kind → t.tracing.turn + 3 ≤ t.tracing.journal
+  pub counted : IsJournaled t.log.kind → t.tracing.op_number + 3 ≤ t.tracing.journal
 
 -- the answer is Ok of the new trace, over the same base by the same ordering
 pub record Moves (old new : Trace) (answer : Result Tracing TraceFault) : Type 0 where
@@ -78,7 +78,7 @@ pub record Moves (old new : Trace) (answer : Result Tracing TraceFault) : Type 0
   pub kind : new.log.kind ≡ old.log.kind
   pub rules : new.log.rules ≡ old.log.rules
   pub whole : new.log.whole ≡ old.log.whole
-  pub turns : new.tracing.turn ≤ old.tracing.turn + 1
+  pub op_numbers : new.tracing.op_number ≤ old.tracing.op_number + 1
   pub answered : answer ≡ Ok new.tracing
 
 -- a refusal other than out of memory is that of what is defined

@@ -27,7 +27,7 @@ abbrev pub changes_in_place : Module → List Change → List Change
 changes_in_place kind changes = filter (is_placed kind) changes
 
 abbrev pub file_data : ℕ → Origin → Change → Emitted
-file_data turn origin c = part_of turn origin (data_part c.role) c.block c.offset c.new.items
+file_data op_number origin c = part_of op_number origin (data_part c.role) c.block c.offset c.new.items
 
 -- the blocks below n that the changes in place touch, ascending
 abbrev pub targets_of : Module → ℕ → List Change → List ℕ
@@ -35,9 +35,9 @@ targets_of kind n changes =
     filter (λ b. list_any (λ c. c.block == b) (changes_in_place kind changes)) (range_with_len 0 n)
 
 abbrev pub transaction_of : Module → Disk → ℕ → ℕ → Origin → List ℕ → List Change → List Emitted
-transaction_of kind after turn j origin targets changes =
-    map (file_data turn origin) (changes_ahead kind changes)
-    ++ (copies after turn (j + 1) origin targets
-    ++ (part_of turn origin Commit j 0 (COMMITTED_MARK ∷ turn ∷ length targets ∷ targets)
-    ∷ (map (in_place_patch turn origin) (changes_in_place kind changes)
-    ++ (part_of turn origin Done j 0 (DONE_MARK ∷ []) ∷ []))))
+transaction_of kind after op_number j origin targets changes =
+    map (file_data op_number origin) (changes_ahead kind changes)
+    ++ (copies after op_number (j + 1) origin targets
+    ++ (part_of op_number origin Commit j 0 (COMMITTED_MARK ∷ op_number ∷ length targets ∷ targets)
+    ∷ (map (in_place_patch op_number origin) (changes_in_place kind changes)
+    ++ (part_of op_number origin Done j 0 (DONE_MARK ∷ []) ∷ []))))

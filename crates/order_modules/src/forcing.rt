@@ -2,7 +2,7 @@
 
 ghost use Rattle.std.specs.Prelude.{◌≡◌, ◌≤◌, length, map};
 ghost use Rattle.crash_model.specs.Patches.{place, places_of};
-ghost use Rattle.crash_model.specs.Waiting.{ids_from, last_turn, sync_forces};
+ghost use Rattle.crash_model.specs.Waiting.{ids_from, last_op_number, sync_forces};
 ghost use Rattle.traced_patches.specs.Labels.{emitted_at, emitted_by, emitted_of};
 ghost use Rattle.order_modules.specs.Forcing.{forces_with, has_contents, is_commit_of, is_met_data};
 ghost use Rattle.order_modules.specs.Forcing.{is_commit_part, is_contents_part, is_data_part};
@@ -90,26 +90,26 @@ fn is_met_data(ranges: &[Range], label: &Label<'_>, patch: &Patch) -> bool
 }
 
 /// Whether a patch is the commit of an operation.
-fn is_commit_of(turn: usize, label: &Label<'_>) -> bool
-    ensures { result ≡ is_commit_of turn (emitted_of label.now) }
+fn is_commit_of(op_number: usize, label: &Label<'_>) -> bool
+    ensures { result ≡ is_commit_of op_number (emitted_of label.now) }
 {
-    is_commit(label.part) && label.turn == turn
+    is_commit(label.part) && label.op_number == op_number
 }
 
 /// The last operation of which file data or a change in place meets these ranges, or 0.
-pub(crate) fn last_turn<A: Allocator + Copy>(
+pub(crate) fn last_op_number<A: Allocator + Copy>(
     ranges: &[Range],
     graph: &Graph<A>,
     labels: &[Label<'_>],
 ) -> usize
     requires { length labels.now ≡ length graph.now }
-    ensures { result ≡ last_turn (has_contents ranges.now) (emitted_by (places_of graph.now) labels.now) }
+    ensures { result ≡ last_op_number (has_contents ranges.now) (emitted_by (places_of graph.now) labels.now) }
 {
     let mut last = 0;
     for id in 0..graph.len() {
         let label = &labels[id];
         if has_contents(ranges, label, graph.patch(id)) {
-            last = last.max(label.turn);
+            last = last.max(label.op_number);
         }
     }
     last

@@ -142,7 +142,7 @@ impl<'a, A: Allocator + Copy> PatchLog<'a, A> {
         ensures { result ≡ ids_from 0 (fsync_forces self.now.kind ranges.now self.now.emitted) self.now.emitted }
     {
         let labels = self.labels.as_slice();
-        let last = forcing::last_turn(ranges, &self.graph, labels);
+        let last = forcing::last_op_number(ranges, &self.graph, labels);
         forcing::forced_by_fsync(self.ordering.module, ranges, last, &self.graph, labels)
     }
 

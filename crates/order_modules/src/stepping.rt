@@ -12,7 +12,7 @@ use std::alloc::Allocator;
 impl<'a, A: Allocator + Copy> Tracer<'a, A> {
     /// Takes a step of the script.
     pub fn step(&mut self, step: &'a Step) -> Result<(), TraceFault>
-        requires { self.old.tracing.turn < 2 ^ 63 }
+        requires { self.old.tracing.op_number < 2 ^ 63 }
         ensures ok { OnOk result (Moves self.old self.new
             (step_of self.old.log.kind self.old.tracing step.now.line step.now.act)) }
         ensures names { OnOk result (GivesNameIfAny step.now.act) }
@@ -35,7 +35,7 @@ impl<'a, A: Allocator + Copy> Tracer<'a, A> {
 
     /// The trace with a step more, in memory of its own. An operation that cannot be planned takes no memory.
     pub fn with_step(&self, step: &'a Step) -> Result<Tracer<'a, A>, TraceFault>
-        requires { self.now.tracing.turn < 2 ^ 63 }
+        requires { self.now.tracing.op_number < 2 ^ 63 }
         ensures ok { IfOk result (λ longer. Moves self.now longer
             (step_of self.now.log.kind self.now.tracing step.now.line step.now.act)) }
         ensures names { IfOk result (λ _. GivesNameIfAny step.now.act) }

@@ -69,7 +69,7 @@ pub struct Tracer<'a, A: Allocator + Copy> {
     pub(crate) disk: Image<A>,
     pub(crate) log: PatchLog<'a, A>,
     /// The number of the next operation, from 1, and the next free journal block.
-    pub(crate) turn: usize,
+    pub(crate) op_number: usize,
     pub(crate) next: usize,
     /// The open group, the groups that were opened, and those that have ended.
     pub(crate) current: Option<&'a GroupName>,
@@ -88,11 +88,11 @@ impl<'a, A: Allocator + Copy> Model for Tracer<'a, A> {
     ghost Value = { Trace };
 
     ghost view = { λ t.
-        trace_of t.log t.disk t.turn t.next (group_by t.current) (names_by t.opened.items) (names_by t.ended.items)
+        trace_of t.log t.disk t.op_number t.next (group_by t.current) (names_by t.opened.items) (names_by t.ended.items)
         t.forced (waits_by t.waits.items) };
 
     ghost invariant = { λ t.
-        IsTrace (trace_of t.log t.disk t.turn t.next (group_by t.current) (names_by t.opened.items)
+        IsTrace (trace_of t.log t.disk t.op_number t.next (group_by t.current) (names_by t.opened.items)
         (names_by t.ended.items) t.forced (waits_by t.waits.items)) };
 }
 
@@ -103,7 +103,7 @@ impl<'a, A: Allocator + Copy> Tracer<'a, A> {
         base: &'a Image<A>,
         ordering: &'a Ordering,
     ) -> Result<Tracer<'a, A>, AllocError>
-        ensures begun { IfOk result (λ t. (t.tracing ≡ trace_start ordering.now.whole_blocks base.now)
+        ensures started { IfOk result (λ t. (t.tracing ≡ trace_start ordering.now.whole_blocks base.now)
             × (t.log.base ≡ base.now)) }
         ensures ordering { IfOk result (λ t. (t.log.kind ≡ ordering.now.«module»)
             × (t.log.rules ≡ ordering.now.rules.items) × (t.log.whole ≡ ordering.now.whole_blocks)) }
@@ -112,7 +112,7 @@ impl<'a, A: Allocator + Copy> Tracer<'a, A> {
         Ok(Tracer {
             disk: base.try_copy()?,
             log: PatchLog::new(alloc, base, ordering)?,
-            turn: 1,
+            op_number: 1,
             next: JOURNAL_AT,
             current: None,
             opened: Vec::new(alloc),
@@ -129,7 +129,7 @@ impl<'a, A: Allocator + Copy> Tracer<'a, A> {
         Ok(Tracer {
             disk: self.disk.try_copy()?,
             log: self.log.try_copy()?,
-            turn: self.turn,
+            op_number: self.op_number,
             next: self.next,
             current: self.current,
             opened: self.opened.clone()?,
@@ -156,7 +156,7 @@ impl<'a, A: Allocator + Copy> Tracer<'a, A> {
 
     /// Does an operation: plans it, and adds its patches by the ordering module.
     pub(crate) fn operate(&mut self, line: usize, op: &'a Op) -> Result<(), TraceFault>
-        requires { self.old.tracing.turn < 2 ^ 63 }
+        requires { self.old.tracing.op_number < 2 ^ 63 }
         ensures ok { OnOk result (Moves self.old self.new
             (trace_of_plan self.old.log.kind line op.now self.old.tracing (plan_of self.old.tracing.disk op.now))) }
         ensures name { OnOk result (GivesName op.now) }
@@ -176,7 +176,7 @@ impl<'a, A: Allocator + Copy> Tracer<'a, A> {
         line: usize,
         op: &'a Op,
     ) -> Result<Tracer<'a, A>, TraceFault>
-        requires { self.now.tracing.turn < 2 ^ 63 }
+        requires { self.now.tracing.op_number < 2 ^ 63 }
         ensures ok { IfOk result (λ longer. Moves self.now longer
             (trace_of_plan self.now.log.kind line op.now self.now.tracing (plan_of self.now.tracing.disk op.now))) }
         ensures name { IfOk result (λ _. GivesName op.now) }
@@ -194,7 +194,7 @@ impl<'a, A: Allocator + Copy> Tracer<'a, A> {
 
     /// Adds the changes of an operation by the ordering module.
     fn write(&mut self, line: usize, op: &'a Op, plan: &Plan) -> Result<(), TraceFault>
-        requires few { self.old.tracing.turn < 2 ^ 63 }
+        requires few { self.old.tracing.op_number < 2 ^ 63 }
         requires inside { All (LiesInside self.old.tracing.disk.blocks) plan.now.items }
         ensures ok { OnOk result (Moves self.old self.new
             (trace_of_plan self.old.log.kind line op.now self.old.tracing (Ok plan.now.items))) }
@@ -210,7 +210,7 @@ impl<'a, A: Allocator + Copy> Tracer<'a, A> {
     /// Adds the changes of an operation where they belong.
     fn write_in_place(&mut self, line: usize, op: &'a Op, plan: &Plan) -> Result<(), TraceFault>
         requires order { IsOrdered self.old.log.kind }
-        requires few { self.old.tracing.turn < 2 ^ 63 }
+        requires few { self.old.tracing.op_number < 2 ^ 63 }
         requires inside { All (LiesInside self.old.tracing.disk.blocks) plan.now.items }
         ensures ok { OnOk result (Moves self.old self.new
             (trace_of_plan self.old.log.kind line op.now self.old.tracing (Ok plan.now.items))) }
@@ -227,8 +227,9 @@ impl<'a, A: Allocator + Copy> Tracer<'a, A> {
             waits_for: self.forced,
         };
         apply(&mut self.disk, plan);
-        self.log.emit_in_place(self.turn, origin, plan.as_slice())?;
-        self.turn += 1;
+        self.log
+            .emit_in_place(self.op_number, origin, plan.as_slice())?;
+        self.op_number += 1;
         Ok(())
     }
 
@@ -242,7 +243,7 @@ impl<'a, A: Allocator + Copy> Tracer<'a, A> {
     /// Adds the changes of an operation as a transaction of the journal.
     fn write_journaled(&mut self, line: usize, op: &'a Op, plan: &Plan) -> Result<(), TraceFault>
         requires order { IsJournaled self.old.log.kind }
-        requires few { self.old.tracing.turn < 2 ^ 63 }
+        requires few { self.old.tracing.op_number < 2 ^ 63 }
         requires inside { All (LiesInside self.old.tracing.disk.blocks) plan.now.items }
         ensures ok { OnOk result (Moves self.old self.new
             (trace_of_plan self.old.log.kind line op.now self.old.tracing (Ok plan.now.items))) }
@@ -265,12 +266,12 @@ impl<'a, A: Allocator + Copy> Tracer<'a, A> {
         };
         apply(&mut self.disk, plan);
         let transaction = Transaction {
-            turn: self.turn,
+            op_number: self.op_number,
             origin,
             header: self.next as u8,
         };
         self.log.emit_transaction(transaction, &self.disk, targets.as_slice(), plan.as_slice())?;
-        self.turn += 1;
+        self.op_number += 1;
         self.next = next;
         Ok(())
     }

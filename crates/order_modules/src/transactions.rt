@@ -69,7 +69,7 @@ fn is_touched(module: Module, block: usize, changes: &[Change]) -> bool
 /// its header.
 #[derive(Clone, Copy)]
 pub struct Transaction<'a> {
-    pub turn: usize,
+    pub op_number: usize,
     pub origin: Origin<'a>,
     pub header: u8,
 }
@@ -77,11 +77,11 @@ pub struct Transaction<'a> {
 impl<'a> Transaction<'a> {
     /// The label of one of its patches.
     fn label(&self, part: Part) -> Label<'a>
-        ensures { result ≡ record { part = part; turn = self.now.turn; origin = self.now.origin } }
+        ensures { result ≡ record { part = part; op_number = self.now.op_number; origin = self.now.origin } }
     {
         Label {
             part,
-            turn: self.turn,
+            op_number: self.op_number,
             origin: self.origin,
         }
     }
@@ -98,43 +98,47 @@ impl<'a, A: Allocator + Copy> PatchLog<'a, A> {
         targets: &[u8],
         changes: &[Change],
     ) -> Result<(), AllocError>
-        requires turn { transaction.turn < 256 }
+        requires op_number { transaction.op_number < 256 }
         requires few { self.old.base.blocks ≤ MOST_BLOCKS }
         requires inside { All (LiesInside self.old.base.blocks) changes.now }
         requires journal { transaction.header + 1 + length targets.now ≤ self.old.base.blocks }
         requires known { All (λ target. target < after.now.blocks) targets.now }
         requires room { length self.old.emitted + (length changes.now + length targets.now + 2) ≤ MAX_PATCHES }
         ensures ok { OnOk result (Adds self.old self.new
-            (transaction_of self.old.kind after.now transaction.entry.turn transaction.entry.header
+            (transaction_of self.old.kind after.now transaction.entry.op_number transaction.entry.header
             (origin_by transaction.entry.origin) targets.now changes.now)) }
         ensures kept { Keeps self.old self.new }
     {
-        let Transaction { turn, origin, .. } = transaction;
-        self.emit_file_data(turn, origin, changes)?;
+        let Transaction {
+            op_number,
+            origin,
+            ..
+        } = transaction;
+        self.emit_file_data(op_number, origin, changes)?;
         self.emit_copies(transaction, after, targets)?;
         self.emit_commit(transaction, targets)?;
-        self.emit_in_place(turn, origin, changes)?;
+        self.emit_in_place(op_number, origin, changes)?;
         self.emit_done(transaction)
     }
 
     /// Adds the file data that go ahead of a transaction.
     fn emit_file_data(
         &mut self,
-        turn: usize,
+        op_number: usize,
         origin: Origin<'a>,
         changes: &[Change],
     ) -> Result<(), AllocError>
         requires inside { All (LiesInside self.old.base.blocks) changes.now }
         requires room { length self.old.emitted + length (changes_ahead self.old.kind changes.now) ≤ MAX_PATCHES }
         ensures ok { OnOk result (Adds self.old self.new
-            (map (file_data turn (origin_by origin.entry)) (changes_ahead self.old.kind changes.now))) }
+            (map (file_data op_number (origin_by origin.entry)) (changes_ahead self.old.kind changes.now))) }
         ensures kept { Keeps self.old self.new }
     {
         for change in changes {
             if is_ahead(self.module(), change) {
                 let label = Label {
                     part: data_part(change.role),
-                    turn,
+                    op_number,
                     origin,
                 };
                 self.emit(label, change.block, change.offset, change.new.as_slice())?;
@@ -155,7 +159,7 @@ impl<'a, A: Allocator + Copy> PatchLog<'a, A> {
         requires known { All (λ target. target < after.now.blocks) targets.now }
         requires room { length self.old.emitted + length targets.now ≤ MAX_PATCHES }
         ensures ok { OnOk result (Adds self.old self.new
-            (copies after.now transaction.entry.turn (transaction.entry.header + 1)
+            (copies after.now transaction.entry.op_number (transaction.entry.header + 1)
             (origin_by transaction.entry.origin) targets.now)) }
         ensures kept { Keeps self.old self.new }
     {
@@ -174,18 +178,19 @@ impl<'a, A: Allocator + Copy> PatchLog<'a, A> {
         transaction: Transaction<'a>,
         targets: &[u8],
     ) -> Result<(), AllocError>
-        requires turn { transaction.turn < 256 }
+        requires op_number { transaction.op_number < 256 }
         requires block { transaction.header < self.old.base.blocks }
         requires fits { length targets.now ≤ 125 }
         requires room { length self.old.emitted < MAX_PATCHES }
         ensures ok { OnOk result (Adds self.old self.new
-            (part_of transaction.entry.turn (origin_by transaction.entry.origin) part.Commit transaction.entry.header 0
-            (COMMITTED_MARK ∷ transaction.entry.turn ∷ length targets.now ∷ targets.now) ∷ [])) }
+            (part_of transaction.entry.op_number
+            (origin_by transaction.entry.origin) part.Commit transaction.entry.header 0
+            (COMMITTED_MARK ∷ transaction.entry.op_number ∷ length targets.now ∷ targets.now) ∷ [])) }
         ensures kept { Keeps self.old self.new }
     {
         let mut bytes: ArrayVec<u8, BLOCK_SIZE> = ArrayVec::new();
         bytes.push(COMMITTED_MARK);
-        bytes.push(transaction.turn as u8);
+        bytes.push(transaction.op_number as u8);
         bytes.push(targets.len() as u8);
         for target in targets {
             bytes.push(*target);
@@ -201,21 +206,21 @@ impl<'a, A: Allocator + Copy> PatchLog<'a, A> {
     /// Adds the changes in place, except file data that went ahead.
     pub fn emit_in_place(
         &mut self,
-        turn: usize,
+        op_number: usize,
         origin: Origin<'a>,
         changes: &[Change],
     ) -> Result<(), AllocError>
         requires inside { All (LiesInside self.old.base.blocks) changes.now }
         requires room { length self.old.emitted + length (changes_in_place self.old.kind changes.now) ≤ MAX_PATCHES }
         ensures ok { OnOk result (Adds self.old self.new
-            (map (in_place_patch turn (origin_by origin.entry)) (changes_in_place self.old.kind changes.now))) }
+            (map (in_place_patch op_number (origin_by origin.entry)) (changes_in_place self.old.kind changes.now))) }
         ensures kept { Keeps self.old self.new }
     {
         for change in changes {
             if !is_ahead(self.module(), change) {
                 let label = Label {
                     part: Part::InPlace(change.role),
-                    turn,
+                    op_number,
                     origin,
                 };
                 self.emit(label, change.block, change.offset, change.new.as_slice())?;
@@ -229,7 +234,8 @@ impl<'a, A: Allocator + Copy> PatchLog<'a, A> {
         requires block { transaction.header < self.old.base.blocks }
         requires room { length self.old.emitted < MAX_PATCHES }
         ensures ok { OnOk result (Adds self.old self.new
-            (part_of transaction.entry.turn (origin_by transaction.entry.origin) part.Done transaction.entry.header 0
+            (part_of transaction.entry.op_number (origin_by transaction.entry.origin) part.Done transaction.entry.header
+            0
             (DONE_MARK ∷ []) ∷ [])) }
         ensures kept { Keeps self.old self.new }
     {

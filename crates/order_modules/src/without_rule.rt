@@ -72,7 +72,7 @@ fn labels_waiting<'a, A: Allocator + Copy>(
     for label in traced.labels() {
         labels.push(Label {
             part: label.part,
-            turn: label.turn,
+            op_number: label.op_number,
             origin: Origin {
                 line: label.origin.line,
                 op: label.origin.op,

@@ -15,9 +15,9 @@ use Rattle.patch_sets.proofs.Ids.{fewer_before}
 use Rattle.patch_sets.proofs.Successors.{ready_from_test, test_from_ready}
 use Rattle.crash_model.specs.declared.patches.Patch.{Patch}
 use Rattle.crash_model.specs.Patches.{deps_of}
-use Rattle.patch_graph.specs.Apart.{AreApart}
+use Rattle.patch_graph.specs.Independent.{AreIndependent}
 use Rattle.patch_graph.specs.Fronts.{Leaves}
-use Rattle.patch_graph.proofs.Apart.{inside_apart}
+use Rattle.patch_graph.proofs.Independent.{inside_apart}
 use Rattle.patch_graph.proofs.Steps.{count_one, count_skip, count_successors, successor_at}
 
 pub in_and : (a b id : ℕ) → Has a id → Has b id → Has (bit_and a b) id
@@ -119,10 +119,10 @@ module _ (deps : List ℕ) (set : ℕ) (earlier : AreEarlier deps) where
         fewer_before (length deps) (is_ready deps set) p lowest_known lowest_passes,
       )
 
-      pub leaves_next : (apart : List ℕ) → AreApart deps apart → IsClosed deps set
-          → Leaves deps set (bit_and front (slice_index apart p)) (count + 1)
-      leaves_next apart are closed =
-          let mask = slice_index apart p in
+      pub leaves_next : (independent : List ℕ) → AreIndependent deps independent → IsClosed deps set
+          → Leaves deps set (bit_and front (slice_index independent p)) (count + 1)
+      leaves_next independent are closed =
+          let mask = slice_index independent p in
           let other : (q : ℕ) → Has mask q → p ≢ q = λ q has e. are.itself p lowest_known
           (subst (Has mask) (sym e) has) in
           let from = leaves.is.above p low.inside in
@@ -142,15 +142,17 @@ module _ (deps : List ℕ) (set : ℕ) (earlier : AreEarlier deps) where
               every = λ q past ready. in_and front mask q (leaves.is.every q (omega (arith, past, from)) ready)
                   (let ne : p ≢ q = λ e. omega (arith, e, past) in
                   (are.exactly p q lowest_known ready.known ne).1
-                  (λ d dep. inside_apart deps apart are earlier set p closed lowest_known
+                  (λ d dep. inside_apart deps independent are earlier set p closed lowest_known
                   (leaves.is.known p low.inside).1 d (ready.depended d dep)));
             };
             counted = ap (λ n. n + 1) before_lowest ∙ sym (count_one p (is_ready deps set) lowest_passes);
           }
 
       -- fewer are left without it and the ids that depend on it
-      pub lowest_fewer : (apart : List ℕ) → AreApart deps apart → bit_and front (slice_index apart p) < front
-      lowest_fewer apart are = fewer_left front (slice_index apart p) p low.inside (are.itself p lowest_known)
+      pub lowest_fewer : (independent : List ℕ) → AreIndependent deps independent
+          → bit_and front (slice_index independent p) < front
+      lowest_fewer independent are =
+          fewer_left front (slice_index independent p) p low.inside (are.itself p lowest_known)
 
     -- where none is left, all ready ids have come
     pub leaves_all : front ≡ 0 → count ≡ length (successors_of deps set)

@@ -1,5 +1,5 @@
 pub mod Ahead
-pub mod Apart
+pub mod Independent
 pub mod Fronts
 pub mod Homes
 pub mod Leads

@@ -23,7 +23,8 @@ pub record IsRest (homes : List ℕ) (set left : ℕ) (writes : List BlockWrite)
   pub in_order : ids_carried homes writes ++ ids_of (length homes) left ≡ ids_of (length homes) set
   pub cut : AreCut homes writes
   pub known : (id : ℕ) → Has left id → id < length homes
-  pub apart : (front : List BlockWrite) (last : BlockWrite) (id : ℕ) → writes ≡ front ++ last ∷ [] → IsLowest left id
+  pub independent : (front : List BlockWrite) (last : BlockWrite) (id : ℕ) → writes ≡ front ++ last ∷ []
+      → IsLowest left id
       → last.block ≢ slice_index homes id
 
 -- what ends a list
@@ -48,7 +49,7 @@ rest_start patches set ids all = record {
       (in_and set ids z it.1 ((all z).1 (omega (arith, long, it.0)))));
   cut = tt;
   known = λ id is. let low = (all id).0 (from_and set ids id is).1 in omega (arith, long, low);
-  apart = λ front last id e low. absurd (let count = ap length e in
+  independent = λ front last id e low. absurd (let count = ap length e in
       omega (arith, count, length-append front (last ∷ [])));
 }
   where
@@ -117,13 +118,13 @@ module _ (homes : List ℕ) (set left : ℕ) (writes : List BlockWrite) (so_far 
         ∙ (ap (λ (xs : List ℕ). ids_carried homes writes ++ xs)
         (sym (ahead_split left others ahead rest within_words are_ahead is_rest (length homes)))
         ∙ so_far.in_order));
-    cut = cut_push homes writes w so_far.cut (λ front last e same. so_far.apart front last id e low (same ∙ home))
+    cut = cut_push homes writes w so_far.cut (λ front last e same. so_far.independent front last id e low (same ∙ home))
         record {
           own = λ q is. let it = run_of_block q (subst (λ s. Has s q) ids is) in (it.0, it.1 ∙ sym home);
           some = λ empty. none_in_empty id (subst (λ s. Has s id) (sym ids ∙ empty) run_has_first);
         };
     known = λ q is. so_far.known q ((is_rest.exactly q).0 is).0;
-    apart = λ front last q e first same. rest_apart q first
+    independent = λ front last q e first same. rest_apart q first
         (sym home ∙ (ap (λ (v : BlockWrite). v.block) (last_same writes front w last e) ∙ same));
   }
 

@@ -1,4 +1,4 @@
-pub mod Apart
+pub mod Independent
 pub mod Fronts
 pub mod Graph
 pub mod Homes

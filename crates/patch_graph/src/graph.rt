@@ -9,7 +9,7 @@ ghost use Rattle.patch_sets.specs.Machine.{CanLeave, LeadTo};
 ghost use Rattle.patch_sets.specs.Writes.{AreRuns, events_of};
 ghost use Rattle.crash_model.specs.declared.patches.Patch.{Patch};
 ghost use Rattle.crash_model.specs.Patches.{deps_of, homes_of};
-ghost use Rattle.patch_graph.specs.Apart.{AddsId};
+ghost use Rattle.patch_graph.specs.Independent.{AddsId};
 ghost use Rattle.patch_graph.specs.Fronts.{Leaves};
 ghost use Rattle.patch_graph.specs.Leads.{IsLead};
 ghost use Rattle.patch_graph.specs.Graph.{IsAt, IsPatch, IsGraph, AddsOverlaps, Overlaps, OverlapsAt};
@@ -46,7 +46,7 @@ pub struct Lead {
 pub struct Graph<A: Allocator + Copy> {
     patches: Vec<Patch, A>,
     /// For each id those that do not depend on it, so that the ready ids of a closed set come one by one.
-    apart: [u128; MAX_PATCHES],
+    independent: [u128; MAX_PATCHES],
     /// For each block the ids of its patches, so that a run of them comes at once.
     at_block: [u128; 256],
 }
@@ -58,13 +58,13 @@ impl<A: Allocator + Copy> Model for Graph<A> {
     ghost Value = { List Patch };
 
     ghost use Rattle.crash_model.specs.Patches.{deps_of, homes_of};
-    ghost use Rattle.patch_graph.specs.Apart.{AreApart};
+    ghost use Rattle.patch_graph.specs.Independent.{AreIndependent};
     ghost use Rattle.patch_graph.specs.Homes.{AreAtBlocks};
     ghost use Rattle.patch_graph.specs.Graph.{IsGraph};
 
     ghost view = { λ g. g.patches.items };
 
-    ghost invariant = { λ g. IsGraph g.patches.items × AreApart (deps_of g.patches.items) g.apart
+    ghost invariant = { λ g. IsGraph g.patches.items × AreIndependent (deps_of g.patches.items) g.independent
         × AreAtBlocks (homes_of g.patches.items) g.at_block };
 }
 
@@ -75,7 +75,7 @@ impl<A: Allocator + Copy> Graph<A> {
     {
         Graph {
             patches: Vec::new(alloc),
-            apart: [u128::MAX; MAX_PATCHES],
+            independent: [u128::MAX; MAX_PATCHES],
             at_block: [0; 256],
         }
     }
@@ -98,7 +98,7 @@ impl<A: Allocator + Copy> Graph<A> {
         let id = self.patches.len();
         let (deps, block) = (patch.deps, usize::from(patch.block));
         self.patches.push(patch)?;
-        take_out(&mut self.apart, id, deps);
+        take_out(&mut self.independent, id, deps);
         self.at_block[block] = with(self.at_block[block], id);
         Ok(())
     }
@@ -109,7 +109,7 @@ impl<A: Allocator + Copy> Graph<A> {
     {
         Ok(Graph {
             patches: patches_copy(*self.patches.allocator(), self.patches.as_slice())?,
-            apart: self.apart,
+            independent: self.independent,
             at_block: self.at_block,
         })
     }
@@ -194,11 +194,11 @@ impl<A: Allocator + Copy> Graph<A> {
             → IsNextOf (successors_of (deps_of self.now) set) k (Leaves (deps_of self.now) set ahead.new) result }
         ensures smaller { IfSome result (λ _. ahead.new < ahead.old) }
     {
-        let apart = &self.apart;
+        let independent = &self.independent;
         let Some(id) = lowest(*ahead) else {
             return None;
         };
-        *ahead &= apart[id];
+        *ahead &= independent[id];
         Some(with(set, id))
     }
 
@@ -341,14 +341,14 @@ fn is_closed_in(patches: &[Patch], set: u128) -> bool
 }
 
 /// Takes an id, of a patch that depends on `deps`, out of the masks of the ids that it depends on, including its own.
-fn take_out(apart: &mut [u128; MAX_PATCHES], id: usize, deps: u128)
+fn take_out(independent: &mut [u128; MAX_PATCHES], id: usize, deps: u128)
     requires { id < MAX_PATCHES }
-    ensures { AddsId id deps apart.old apart.new }
+    ensures { AddsId id deps independent.old independent.new }
 {
     for p in 0..id {
-        if !is_subset(deps, apart[p]) {
-            apart[p] = without(apart[p], id);
+        if !is_subset(deps, independent[p]) {
+            independent[p] = without(independent[p], id);
         }
     }
-    apart[id] = without(apart[id], id);
+    independent[id] = without(independent[id], id);
 }

@@ -25,10 +25,10 @@ use Rattle.kept_promises.specs.declared.promising.Promising.{Promising}
 use Rattle.question_model.specs.Verdict.{IsAccepted}
 use Rattle.question_model.specs.Workloads.{Search, HasPatches, workload_at, trace_at}
 use Rattle.workload_search.proofs.Accepted.{accepted_front}
-use Rattle.pool_judging.specs.Beginnings.{IsBegun, AreBegun, ArePromised, IsTraceBy, IsTraceAt, AreDemandsAt}
+use Rattle.pool_judging.specs.Beginnings.{IsPrefixAt, IsPrefixBy, ArePromised, IsTraceBy, IsTraceAt, AreDemandsAt}
 use Rattle.pool_judging.specs.Keeps.{keep_step}
 use Rattle.pool_judging.specs.Pools.{IsKeep}
-use Rattle.pool_judging.specs.declared.begun.Begun.{Begun}
+use Rattle.pool_judging.specs.declared.prefix.TracedPrefix.{TracedPrefix}
 use Rattle.pool_judging.proofs.Pools.{workload_none, workload_more}
 
 -- ---- before the first step
@@ -112,7 +112,7 @@ promised_all s steps here p are =
 
 -- ---- the promises that each workload begins with
 
-module _ {A : Type 0} (s : Search) (i : ℕ) (b : Begun A) (x : Step) (within : i < length s.keeps)
+module _ {A : Type 0} (s : Search) (i : ℕ) (b : TracedPrefix A) (x : Step) (within : i < length s.keeps)
     (read : x ≡ get_or s.keeps i x) (all : All IsKeep s.keeps) where
   keeps_at : IsKeep x
   keeps_at = subst IsKeep (sym read) (all i x within)
@@ -120,51 +120,53 @@ module _ {A : Type 0} (s : Search) (i : ℕ) (b : Begun A) (x : Step) (within : 
   pub keep_accepted : (next : Tracing) × (step b.tracer.log.kind b.tracer.tracing x.line x.act ≡ Ok next)
   keep_accepted = (b.tracer.tracing, keep_step b.tracer.log.kind b.tracer.tracing x.line x.act keeps_at)
 
-  pub keep_taken : (longer : Begun A) → b.tracer.tracing.turn ≡ 1
+  pub keep_taken : (longer : TracedPrefix A) → b.tracer.tracing.op_number ≡ 1
       → Moves b.tracer longer.tracer (step b.tracer.log.kind b.tracer.tracing x.line x.act)
-      → longer.tracer.tracing.turn ≡ 1
+      → longer.tracer.tracing.op_number ≡ 1
   keep_taken longer one moves =
       let same : b.tracer.tracing ≡ longer.tracer.tracing =
       let both : Ok b.tracer.tracing ≡ Ok longer.tracer.tracing =
       sym (keep_step b.tracer.log.kind b.tracer.tracing x.line x.act keeps_at) ∙ moves.answered in cc in
-      ap (λ (t : Tracing). t.turn) (sym same) ∙ one
+      ap (λ (t : Tracing). t.op_number) (sym same) ∙ one
 
-  pub keeps_more : (longer : Begun A) → AreBegun s (take i s.keeps ++ x ∷ []) longer
-      → AreBegun s (take (i + 1) s.keeps) longer
-  keeps_more longer are = subst (λ (steps : List Step). AreBegun s steps longer)
+  pub keeps_more : (longer : TracedPrefix A) → IsPrefixBy s (take i s.keeps ++ x ∷ []) longer
+      → IsPrefixBy s (take (i + 1) s.keeps) longer
+  keeps_more longer are = subst (λ (steps : List Step). IsPrefixBy s steps longer)
       (ap (λ (y : Step). take i s.keeps ++ y ∷ []) read ∙ sym (take_more s.keeps i x within)) are
 
 -- all of them
-pub begun_none : {A : Type 0} (s : Search) (i : ℕ) (b : Begun A) → length s.keeps ≤ i → b.tracer.tracing.turn ≡ 1
-    → AreBegun s (take i s.keeps) b → IsBegun s [] b
-begun_none s i b past one are = record {
+pub prefix_none : {A : Type 0} (s : Search) (i : ℕ) (b : TracedPrefix A) → length s.keeps ≤ i
+    → b.tracer.tracing.op_number ≡ 1
+    → IsPrefixBy s (take i s.keeps) b → IsPrefixAt s [] b
+prefix_none s i b past one are = record {
   short = omega arith;
   among = All-nil (λ place. place < length s.pool);
-  turns = omega (arith, one);
-  are = subst (λ (steps : List Step). AreBegun s steps b) (take_all i s.keeps past ∙ workload_none s) are;
+  op_numbers = omega (arith, one);
+  are = subst (λ (steps : List Step). IsPrefixBy s steps b) (take_all i s.keeps past ∙ workload_none s) are;
 }
 
 -- ---- some of the places
 
 -- what is made of the steps at the first places
-pub record AreBegunTo {A : Type 0} (s : Search) (places : List ℕ) (i : ℕ) (b : Begun A) : Type 0 where
-  pub turns : b.tracer.tracing.turn ≤ length (take i places) + 1
-  pub are : AreBegun s (workload_at s (take i places)) b
+pub record IsPrefixTo {A : Type 0} (s : Search) (places : List ℕ) (i : ℕ) (b : TracedPrefix A) : Type 0 where
+  pub op_numbers : b.tracer.tracing.op_number ≤ length (take i places) + 1
+  pub are : IsPrefixBy s (workload_at s (take i places)) b
 
-pub few_turns : {A : Type 0} (s : Search) (places : List ℕ) (i : ℕ) (b : Begun A) → length places < 8
-    → AreBegunTo s places i b → b.tracer.tracing.turn ≤ 8
+pub few_turns : {A : Type 0} (s : Search) (places : List ℕ) (i : ℕ) (b : TracedPrefix A) → length places < 8
+    → IsPrefixTo s places i b → b.tracer.tracing.op_number ≤ 8
 few_turns s places i b short is =
     omega (
       arith,
       short,
-      is.turns,
+      is.op_numbers,
       length-append (take i places) (drop i places),
       ap (λ (ps : List ℕ). length ps) (take-append-drop i places),
     )
 
-module _ {A : Type 0} (s : Search) (places : List ℕ) (i : ℕ) (b : Begun A) (x d : Step) (within : i < length places)
+module _ {A : Type 0} (s : Search) (places : List ℕ) (i : ℕ) (b : TracedPrefix A) (x d : Step)
+    (within : i < length places)
     (low : get_or places i 0 < length s.pool) (read : x ≡ get_or s.pool (get_or places i 0) d)
-    (is : AreBegunTo s places i b) where
+    (is : IsPrefixTo s places i b) where
   place : ℕ
   place = get_or places i 0
 
@@ -188,38 +190,39 @@ module _ {A : Type 0} (s : Search) (places : List ℕ) (i : ℕ) (b : Begun A) (
             ∙ early.1),
       )
 
-  pub begun_more : (longer : Begun A) → AreBegun s (workload_at s (take i places) ++ x ∷ []) longer
+  pub prefix_more : (longer : TracedPrefix A) → IsPrefixBy s (workload_at s (take i places) ++ x ∷ []) longer
       → Moves b.tracer longer.tracer (step b.tracer.log.kind b.tracer.tracing x.line x.act)
-      → AreBegunTo s places (i + 1) longer
-  begun_more longer are moves = record {
-    turns = omega (
+      → IsPrefixTo s places (i + 1) longer
+  prefix_more longer are moves = record {
+    op_numbers = omega (
       arith,
-      moves.turns,
-      is.turns,
+      moves.op_numbers,
+      is.op_numbers,
       ap (λ (ps : List ℕ). length ps) taken,
       length-append (take i places) (place ∷ []),
     );
-    are = subst (λ (steps : List Step). AreBegun s steps longer) (sym steps_taken) are;
+    are = subst (λ (steps : List Step). IsPrefixBy s steps longer) (sym steps_taken) are;
   }
 
-pub begun_first : {A : Type 0} (s : Search) (places : List ℕ) (b : Begun A) → IsBegun s [] b → AreBegunTo s places 0 b
-begun_first s places b is = record { turns = is.turns; are = is.are }
+pub prefix_first : {A : Type 0} (s : Search) (places : List ℕ) (b : TracedPrefix A) → IsPrefixAt s [] b
+    → IsPrefixTo s places 0 b
+prefix_first s places b is = record { op_numbers = is.op_numbers; are = is.are }
 
-pub begun_all : {A : Type 0} (s : Search) (places : List ℕ) (i : ℕ) (b : Begun A) → length places < 8
-    → All (λ place. place < length s.pool) places → length places ≤ i → AreBegunTo s places i b → IsBegun s places b
-begun_all s places i b short among past is =
+pub prefix_all : {A : Type 0} (s : Search) (places : List ℕ) (i : ℕ) (b : TracedPrefix A) → length places < 8
+    → All (λ place. place < length s.pool) places → length places ≤ i → IsPrefixTo s places i b → IsPrefixAt s places b
+prefix_all s places i b short among past is =
     let all : take i places ≡ places = take_all i places past in
     record {
       short = short;
       among = among;
-      turns = subst (λ (ps : List ℕ). b.tracer.tracing.turn ≤ length ps + 1) all is.turns;
-      are = subst (λ (ps : List ℕ). AreBegun s (workload_at s ps) b) all is.are;
+      op_numbers = subst (λ (ps : List ℕ). b.tracer.tracing.op_number ≤ length ps + 1) all is.op_numbers;
+      are = subst (λ (ps : List ℕ). IsPrefixBy s (workload_at s ps) b) all is.are;
     }
 
 -- ---- a beginning and one step more
 
-module _ {A : Type 0} (s : Search) (front : List ℕ) (place : ℕ) (b : Begun A) (x d : Step)
-    (low : place < length s.pool) (read : x ≡ get_or s.pool place d) (is : IsBegun s front b) where
+module _ {A : Type 0} (s : Search) (front : List ℕ) (place : ℕ) (b : TracedPrefix A) (x d : Step)
+    (low : place < length s.pool) (read : x ≡ get_or s.pool place d) (is : IsPrefixAt s front b) where
   abbrev longer_places : List ℕ
   longer_places = front ++ place ∷ []
 
@@ -236,7 +239,7 @@ module _ {A : Type 0} (s : Search) (front : List ℕ) (place : ℕ) (b : Begun A
       (trace_longer s (workload_at s front) b.tracer x is.are.is next moves named)
 
   pub demands_at_longer : (demands : Demands)
-      → ((xs : List Step) → AreBegun s xs b → AreDemands s.asked s.base (xs ++ x ∷ []) demands)
+      → ((xs : List Step) → IsPrefixBy s xs b → AreDemands s.asked s.base (xs ++ x ∷ []) demands)
       → AreDemandsAt s longer_places demands
   demands_at_longer demands are =
       subst (λ (xs : List Step). AreDemands s.asked s.base xs demands) (sym steps) (are (workload_at s front) is.are)
@@ -260,5 +263,5 @@ module _ (s : Search) (places : List ℕ) (t : Trace) where
     last = t.tracing;
     traced = is.traced;
     graph = graph_at patches is graph;
-    told = wanted;
+    demanded = wanted;
   }

@@ -14,8 +14,8 @@ module _ (asked : Asked) (base : Disk) (steps : List Step) (found image counted 
   counts_found = counts ∙ ap (λ (d : Demands). record d { counted = asked.counted }) same
 
   -- where no line of the pool waits or promises
-  pub told_without : asked.tells ≡ false → AreDemands asked base steps counted
-  told_without none = subst (AreDemands asked base steps) (sym counts_found) (record {
+  pub promising_without : asked.promising ≡ false → AreDemands asked base steps counted
+  promising_without none = subst (AreDemands asked base steps) (sym counts_found) (record {
     kept = are.kept;
     disks = are.disks;
     promises = are.promises
@@ -24,10 +24,10 @@ module _ (asked : Asked) (base : Disk) (steps : List Step) (found image counted 
   })
 
   -- where one does
-  pub told_with : (made : Demands) (promises : List Promise) → made ≡ record counted { promises = Some promises }
-      → asked.tells ≡ true → promises ≡ promises_of asked.kind asked.durable base steps
+  pub promising_with : (made : Demands) (promises : List Promise) → made ≡ record counted { promises = Some promises }
+      → asked.promising ≡ true → promises ≡ promises_of asked.kind asked.durable base steps
       → AreDemands asked base steps made
-  told_with made promises with_them some is = subst (AreDemands asked base steps)
+  promising_with made promises with_them some is = subst (AreDemands asked base steps)
       (sym (with_them ∙ ap (λ (d : Demands). record d { promises = Some promises }) counts_found)) (record {
         kept = are.kept;
         disks = are.disks;

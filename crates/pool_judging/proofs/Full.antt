@@ -21,9 +21,9 @@ use Rattle.crash_model.specs.declared.steps.Step.{Step}
 use Rattle.inode_fs.specs.Inside.{GivesName}
 use Rattle.full_journal_laws.specs.Full.{GivesNames}
 use Rattle.promise_laws.proofs.Lines.{none_at_risk}
-use Rattle.question_model.specs.Found.{AreFound}
+use Rattle.question_model.specs.SearchCounts.{AreSearchCounts}
 use Rattle.question_model.specs.Workloads.{Search, Fails, is_keep, workload_at}
-use Rattle.question_model.specs.declared.found.Found.{Found}
+use Rattle.question_model.specs.declared.found.SearchCounts.{SearchCounts}
 use Rattle.pool_judging.specs.Judging.{IsFullJournal}
 use Rattle.pool_judging.specs.Pools.{IsPlace, IsKeep}
 use Rattle.pool_judging.proofs.Pools.{all_in_workload}
@@ -60,10 +60,11 @@ nothing_fails s full disk sound zeros acts pool keeps places (demands, patches, 
     (All-weaker IsStep GivesNames step_gives s.pool acts) places)
     (subst (λ (m : Module). trace_from m (trace_start s.whole s.base) (workload_at s places) ≡ Ok is.last) full.full
     is.traced)
-    full.all is.graph full.asked is.told (inl (workload_sure s places keeps pool)) failing
+    full.all is.graph full.asked is.demanded (inl (workload_sure s places keeps pool)) failing
 
 -- where none fails no workload that fails is counted
-pub none_failing : (s : Search) (found : Found) → AreFound s found → ((places : List ℕ) → ¬ (Fails s places))
+pub none_failing : (s : Search) (found : SearchCounts) → AreSearchCounts s found
+    → ((places : List ℕ) → ¬ (Fails s places))
     → found.failing ≡ 0
 none_failing s found are none = by are.failing.0 refl
   where

@@ -116,37 +116,38 @@ place_waits (Hold path) is = absurd (false≢true is)
 place_waits (Spare path other) is = absurd (false≢true is)
 
 -- of the others those that wait
-pub places_tell : (steps : List Step) → All IsPlace steps → list_any (λ x. is_waiting x.act) steps ≡ has_promises steps
-places_tell [] all = refl
-places_tell (x ∷ xs) all =
+pub places_promising : (steps : List Step) → All IsPlace steps
+    → list_any (λ x. is_waiting x.act) steps ≡ has_promises steps
+places_promising [] all = refl
+places_promising (x ∷ xs) all =
     ap (λ (b : Bool). b || list_any (λ y. is_waiting y.act) xs)
     (sym (place_waits x.act (All-head IsPlace x xs all)))
-    ∙ ap (λ (b : Bool). waits_or_promises x.act || b) (places_tell xs (All-tail IsPlace x xs all))
+    ∙ ap (λ (b : Bool). waits_or_promises x.act || b) (places_promising xs (All-tail IsPlace x xs all))
 
--- a pool tells where it has promises, or else where a step waits
-pub tells_keeps : (keeps pool : List Step) (empty : Bool) → All IsKeep keeps → empty ≡ (length keeps == 0)
+-- a pool is promising where it has promises, or else where a step waits
+pub promising_keeps : (keeps pool : List Step) (empty : Bool) → All IsKeep keeps → empty ≡ (length keeps == 0)
     → empty ≡ false → true ≡ has_promises (keeps ++ pool)
-tells_keeps [] pool empty all is some = absurd (false≢true (sym some ∙ is))
-tells_keeps (x ∷ xs) pool empty all is some =
+promising_keeps [] pool empty all is some = absurd (false≢true (sym some ∙ is))
+promising_keeps (x ∷ xs) pool empty all is some =
     ap (λ (b : Bool). b || has_promises (xs ++ pool)) (sym (keep_promises x.act (All-head IsKeep x xs all)))
 
-pub tells_pool : (keeps pool : List Step) (empty waits : Bool) → All IsPlace pool → empty ≡ (length keeps == 0)
+pub promising_pool : (keeps pool : List Step) (empty waits : Bool) → All IsPlace pool → empty ≡ (length keeps == 0)
     → empty ≡ true → waits ≡ list_any (λ x. is_waiting x.act) pool → waits ≡ has_promises (keeps ++ pool)
-tells_pool [] pool empty waits all is none found = found ∙ places_tell pool all
-tells_pool (x ∷ xs) pool empty waits all is none found =
+promising_pool [] pool empty waits all is none found = found ∙ places_promising pool all
+promising_pool (x ∷ xs) pool empty waits all is none found =
     let some : (length (x ∷ xs) == 0) ≡ false = grind (arith, tests) in
     absurd (false≢true (sym some ∙ (sym is ∙ none)))
 
 -- ---- the pool of steps
 
-abbrev tells_of : List Step → List Step → Bool
-tells_of keeps places = has_promises keeps || has_promises places
+abbrev promising_of : List Step → List Step → Bool
+promising_of keeps places = has_promises keeps || has_promises places
 
--- a step tells in its part of the pool
-tells_more : (x : Step) (xs : List Step) → IsOfPool x
-    → tells_of (keeps_of (x ∷ xs)) (places_of (x ∷ xs))
-    ≡ (waits_or_promises x.act || tells_of (keeps_of xs) (places_of xs))
-tells_more x xs is = by x.act refl is
+-- a step counts in its part of the pool
+promising_more : (x : Step) (xs : List Step) → IsOfPool x
+    → promising_of (keeps_of (x ∷ xs)) (places_of (x ∷ xs))
+    ≡ (waits_or_promises x.act || promising_of (keeps_of xs) (places_of xs))
+promising_more x xs is = by x.act refl is
   where
     swap : (a b c : Bool) → (a || (b || c)) ≡ (b || (a || c))
     swap true true c = refl
@@ -154,8 +155,8 @@ tells_more x xs is = by x.act refl is
     swap false b c = refl
 
     by : (act : Act) → x.act ≡ act → IsTrue (is_place x.act || is_keep x.act)
-        → tells_of (keeps_of (x ∷ xs)) (places_of (x ∷ xs))
-        ≡ (waits_or_promises x.act || tells_of (keeps_of xs) (places_of xs))
+        → promising_of (keeps_of (x ∷ xs)) (places_of (x ∷ xs))
+        ≡ (waits_or_promises x.act || promising_of (keeps_of xs) (places_of xs))
     by (Do op) e of_pool = rw e refl
     by Sync e of_pool = rw e (swap (has_promises (keeps_of xs)) true (has_promises (places_of xs)))
     by (Fsync target) e of_pool = rw e (swap (has_promises (keeps_of xs)) true (has_promises (places_of xs)))
@@ -167,18 +168,18 @@ tells_more x xs is = by x.act refl is
     by (Spare path other) e of_pool =
         absurd (false≢true (subst (λ (a : Act). IsTrue (is_place a || is_keep a)) e of_pool))
 
-tells_apart : (steps : List Step) → All IsOfPool steps
-    → tells_of (keeps_of steps) (places_of steps) ≡ has_promises steps
-tells_apart [] all = refl
-tells_apart (x ∷ xs) all =
-    tells_more x xs (All-head IsOfPool x xs all)
-    ∙ ap (λ (b : Bool). waits_or_promises x.act || b) (tells_apart xs (All-tail IsOfPool x xs all))
+promising_apart : (steps : List Step) → All IsOfPool steps
+    → promising_of (keeps_of steps) (places_of steps) ≡ has_promises steps
+promising_apart [] all = refl
+promising_apart (x ∷ xs) all =
+    promising_more x xs (All-head IsOfPool x xs all)
+    ∙ ap (λ (b : Bool). waits_or_promises x.act || b) (promising_apart xs (All-tail IsOfPool x xs all))
 
--- so a pool tells where a line of it waits or promises
-pub tells_lines : (steps : List Step) → All IsOfPool steps
+-- so a pool is promising where a line of it waits or promises
+pub promising_lines : (steps : List Step) → All IsOfPool steps
     → has_promises (keeps_of steps ++ places_of steps) ≡ has_promises steps
-tells_lines steps all = list_any-append (λ x. waits_or_promises x.act) (keeps_of steps) (places_of steps)
-    ∙ tells_apart steps all
+promising_lines steps all = list_any-append (λ x. waits_or_promises x.act) (keeps_of steps) (places_of steps)
+    ∙ promising_apart steps all
 
 -- ---- what holds of the steps at which a test gives true
 

@@ -23,7 +23,7 @@ one_ok r a b e f = cc
 module _ (s : Search) (places : List ℕ) (demands other : Demands) (patches others : List Patch)
     (is : HasPatches s places demands patches) (also : HasPatches s places other others) where
   pub same_demands : demands ≡ other
-  same_demands = one_demands s.asked s.base (workload_at s places) demands other is.told also.told
+  same_demands = one_demands s.asked s.base (workload_at s places) demands other is.demanded also.demanded
 
   pub same_patches : patches ≡ others
   same_patches =

@@ -59,12 +59,12 @@ module _ (s : Search) (places : List ℕ) (passing : ∥ IsPassing s places ∥�
 
 module _ (s : Search) (places : List ℕ) (steps others : List Step) (t : TracedPatches) (demands : Demands)
     (are : steps ≡ workload_at s places) (also : others ≡ workload_at s places) (is : IsTraceOf s steps t)
-    (told : AreDemands s.asked s.base others demands) where
+    (demanded : AreDemands s.asked s.base others demands) where
   run_at : trace_at s places ≡ Ok is.last
   run_at = subst (λ (xs : List Step). trace_from s.ordering (trace_start s.whole s.base) xs ≡ Ok is.last) are is.run
 
-  told_at : AreDemands s.asked s.base (workload_at s places) demands
-  told_at = subst (λ (xs : List Step). AreDemands s.asked s.base xs demands) also told
+  demanded_at : AreDemands s.asked s.base (workload_at s places) demands
+  demanded_at = subst (λ (xs : List Step). AreDemands s.asked s.base xs demands) also demanded
 
   abbrev one : Tracing
   one = tracing_of s.base t
@@ -76,7 +76,7 @@ module _ (s : Search) (places : List ℕ) (steps others : List Step) (t : Traced
       let all = all_of s.rules in
       let by_rules : IsFound all (EnoughOf demands s.base one s.rules) set found =
       subst (λ (rules : List Rule). IsFound (all_of rules) (EnoughOf demands s.base one rules) set found) is.rules it in
-      found_at s places is.last demands run_at told_at t.patches is.graph all set found
+      found_at s places is.last demands run_at demanded_at t.patches is.graph all set found
       (found_alike all (EnoughOf demands s.base one s.rules) (EnoughOf demands s.base is.last s.rules)
       (λ other. same_enough demands s.base t one is.last (rules_in s.rules other) (one_tracing s.base t) is.of_it)
       (λ other. same_enough demands s.base t is.last one (rules_in s.rules other) is.of_it (one_tracing s.base t))
@@ -89,7 +89,7 @@ module _ (s : Search) (places : List ℕ) (steps others : List Step) (t : Traced
     last = is.last;
     traced = run_at;
     graph = subst (λ (all : List Rule). IsGraphBy (rules_but all group) s.base t patches) is.rules by is.last is.of_it;
-    told = told_at;
+    demanded = demanded_at;
   }
 
   pub fails_by : (group : ℕ) (fails : Bool) → IsAnswerBy demands s.base t (rules_but t.rules group) fails

@@ -12,7 +12,7 @@ use Rattle.promise_steps.specs.Underway.{all_finished}
 use Rattle.kept_promises.specs.Watched.{AreAt, unders_of}
 use Rattle.kept_promises.specs.declared.promising.Promising.{Promising}
 use Rattle.question_model.specs.Workloads.{Search, workload_at}
-use Rattle.pool_judging.specs.declared.begun.Begun.{Begun}
+use Rattle.pool_judging.specs.declared.prefix.TracedPrefix.{TracedPrefix}
 
 -- the trace of these steps
 pub record IsTraceBy (s : Search) (steps : List Step) (t : Trace) : Type 0 where
@@ -30,17 +30,17 @@ pub record ArePromised {A : Type 0} (s : Search) (steps : List Step) (here : Tra
   pub durable : p.is_durable ≡ s.asked.durable
 
 -- what is made of these steps
-pub record AreBegun {A : Type 0} (s : Search) (steps : List Step) (begun : Begun A) : Type 0 where
-  pub is : IsTraceBy s steps begun.tracer
-  pub demands : IsSoFar s.asked.strict s.asked.atomic s.base steps begun.demanding
-  pub promises : ArePromised s steps begun.tracer.tracing begun.promising
+pub record IsPrefixBy {A : Type 0} (s : Search) (steps : List Step) (prefix : TracedPrefix A) : Type 0 where
+  pub is : IsTraceBy s steps prefix.tracer
+  pub demands : IsSoFar s.asked.strict s.asked.atomic s.base steps prefix.demanding
+  pub promises : ArePromised s steps prefix.tracer.tracing prefix.promising
 
 -- what is made of the beginning with the steps at these places
-pub record IsBegun {A : Type 0} (s : Search) (places : List ℕ) (begun : Begun A) : Type 0 where
+pub record IsPrefixAt {A : Type 0} (s : Search) (places : List ℕ) (prefix : TracedPrefix A) : Type 0 where
   pub short : length places < 8
   pub among : All (λ place. place < length s.pool) places
-  pub turns : begun.tracer.tracing.turn ≤ length places + 1
-  pub are : AreBegun s (workload_at s places) begun
+  pub op_numbers : prefix.tracer.tracing.op_number ≤ length places + 1
+  pub are : IsPrefixBy s (workload_at s places) prefix
 
 -- the trace of the steps at these places
 abbrev pub IsTraceAt : Search → List ℕ → Trace → Type 0

@@ -11,16 +11,16 @@ ghost use Rattle.order_modules.specs.Tracer.{Moves};
 ghost use Rattle.question_model.specs.Verdict.{IsVerdict};
 ghost use Rattle.question_model.specs.Refused.{refusal_of};
 ghost use Rattle.question_model.specs.Workloads.{Search, workload_at, trace_at};
-ghost use Rattle.pool_judging.specs.Beginnings.{IsBegun, AreBegun, IsTraceAt, AreDemandsAt};
+ghost use Rattle.pool_judging.specs.Beginnings.{IsPrefixAt, IsPrefixBy, IsTraceAt, AreDemandsAt};
 ghost use Rattle.pool_judging.specs.Judging.{search_by, IsVerdictOn, IsNoFailure, IsFullJournal};
 ghost use Rattle.pool_judging.specs.Keeps.{keeps_accepted};
 ghost use Rattle.pool_judging.specs.Pools.{is_waiting};
 ghost use Rattle.pool_judging.specs.Traces.{IsTraced};
 
-use crate::begun::Begun;
 use crate::copying::step_copy;
 use crate::firsts::firsts;
 use crate::judge::PoolJudge;
+use crate::prefix::TracedPrefix;
 use crash_model::refusals::TraceFault;
 use crash_model::steps::{Act, Step};
 use disk_image::{Demands, Promise};
@@ -87,17 +87,21 @@ impl<'a, A: Allocator + Copy> PoolJudge<'a, A> {
     /// of memory.
     ///
     /// Under the full journal with all its rules, and with any others put in, none fails.
-    pub fn verdict_on(&self, begun: &Begun<'a, A>, place: usize) -> Result<Verdict, AllocError>
-        requires begun { (front : List ℕ) × IsBegun (search_by self.now) front begun.now }
+    pub fn verdict_on(
+        &self,
+        prefix: &TracedPrefix<'a, A>,
+        place: usize,
+    ) -> Result<Verdict, AllocError>
+        requires prefix { (front : List ℕ) × IsPrefixAt (search_by self.now) front prefix.now }
         requires among { place < length self.now.pool.now }
-        ensures verdict { (front : List ℕ) → IsBegun (search_by self.now) front begun.now
+        ensures verdict { (front : List ℕ) → IsPrefixAt (search_by self.now) front prefix.now
             → IfOk result (IsVerdict (search_by self.now) (front ++ place ∷ [])) }
         ensures full { IsFullJournal (search_by self.now) → IfOk result IsNoFailure }
     {
         let step = &self.pool[place];
-        match begun.tracer.with_step(step) {
+        match prefix.tracer.with_step(step) {
             Ok(longer) => {
-                let demands = self.demands_longer(begun, step, &longer)?;
+                let demands = self.demands_longer(prefix, step, &longer)?;
                 self.judge_trace(longer, &demands)
             }
             Err(fault) => refused(fault),
@@ -108,21 +112,21 @@ impl<'a, A: Allocator + Copy> PoolJudge<'a, A> {
     /// memory.
     fn demands_longer(
         &self,
-        begun: &Begun<'a, A>,
+        prefix: &TracedPrefix<'a, A>,
         step: &Step,
         longer: &Tracer<'a, A>,
     ) -> Result<Demands<A>, AllocError>
-        ensures { IfOk result (λ demands. (steps : List AStep) → AreBegun (search_by self.now) steps begun.now
-            → Moves begun.now.tracer longer.now
-            (step_of begun.now.tracer.log.kind begun.now.tracer.tracing step.now.line step.now.act)
+        ensures { IfOk result (λ demands. (steps : List AStep) → IsPrefixBy (search_by self.now) steps prefix.now
+            → Moves prefix.now.tracer longer.now
+            (step_of prefix.now.tracer.log.kind prefix.now.tracer.tracing step.now.line step.now.act)
             → AreDemands (search_by self.now).asked self.now.base.now (steps ++ step.now ∷ []) demands) }
     {
-        let of_images = begun.demanding.with_step(step)?.into_demands();
+        let of_images = prefix.demanding.with_step(step)?.into_demands();
         let counted = of_images.counting(self.asked.counted);
         if !self.waits_or_promises() {
             return Ok(counted);
         }
-        let promises = promises_longer(begun, step, longer)?;
+        let promises = promises_longer(prefix, step, longer)?;
         Ok(counted.with_promises(promises))
     }
 
@@ -166,38 +170,42 @@ impl<'a, A: Allocator + Copy> PoolJudge<'a, A> {
 }
 
 impl<'a, A: Allocator + Copy> Judge for PoolJudge<'a, A> {
-    type Begun = Begun<'a, A>;
+    type Prefix = TracedPrefix<'a, A>;
 
     ghost search = { λ j. search_by j };
 
-    ghost is_begun = { λ j front begun. IsBegun (search_by j) front begun };
+    ghost is_prefix = { λ j front prefix. IsPrefixAt (search_by j) front prefix };
 
     ghost begins = { λ j. keeps_accepted (search_by j) j.promises };
 
-    fn begin(&self, places: &Places) -> Result<Begun<'a, A>, AllocError> {
-        self.begun(places)
+    fn begin(&self, places: &Places) -> Result<TracedPrefix<'a, A>, AllocError> {
+        self.prefix(places)
     }
 
-    fn judge_longer(&self, begun: &Begun<'a, A>, place: usize) -> Result<Verdict, AllocError> {
-        self.verdict_on(begun, place)
+    fn judge_longer(
+        &self,
+        prefix: &TracedPrefix<'a, A>,
+        place: usize,
+    ) -> Result<Verdict, AllocError> {
+        self.verdict_on(prefix, place)
     }
 }
 
 /// What the steps of a beginning promise with one more step, which leads to this trace. It fails only when out of
 /// memory.
 fn promises_longer<'a, A: Allocator + Copy>(
-    begun: &Begun<'a, A>,
+    prefix: &TracedPrefix<'a, A>,
     step: &Step,
     longer: &Tracer<'a, A>,
 ) -> Result<Vec<Promise<A>, A>, AllocError>
-    ensures { IfOk result (λ promises. (s : Search) (steps : List AStep) → AreBegun s steps begun.now
-        → Moves begun.now.tracer longer.now
-        (step_of begun.now.tracer.log.kind begun.now.tracer.tracing step.now.line step.now.act)
+    ensures { IfOk result (λ promises. (s : Search) (steps : List AStep) → IsPrefixBy s steps prefix.now
+        → Moves prefix.now.tracer longer.now
+        (step_of prefix.now.tracer.log.kind prefix.now.tracer.tracing step.now.line step.now.act)
         → promises.items ≡ promises_of s.ordering s.asked.durable s.base (steps ++ step.now ∷ [])) }
 {
-    let known = begun.tracer.graph().len();
+    let known = prefix.tracer.graph().len();
     let last = place_of(longer);
-    let promising = begun.promising.try_copy()?.step(step, known, &last)?;
+    let promising = prefix.promising.try_copy()?.step(step, known, &last)?;
     promising.into_promises(&last)
 }
 

@@ -5,9 +5,9 @@ ghost use Rattle.std.specs.List.{All};
 ghost use Rattle.crash_model.specs.Disk.{IsDisk};
 ghost use Rattle.crash_model.specs.Script.{IsAct};
 ghost use Rattle.crash_model.specs.Sound.{IsSound, HasZeroJournal};
-ghost use Rattle.question_model.specs.Found.{AreFound};
+ghost use Rattle.question_model.specs.SearchCounts.{AreSearchCounts};
 ghost use Rattle.question_model.specs.Workloads.{Search, Fails};
-ghost use Rattle.question_model.specs.declared.found.Found.{Found};
+ghost use Rattle.question_model.specs.declared.found.SearchCounts.{SearchCounts};
 ghost use Rattle.pool_judging.specs.Judging.{IsFullJournal};
 ghost use Rattle.pool_judging.specs.Pools.{IsPlace, IsKeep};
 
@@ -18,6 +18,7 @@ pub fn nothing_fails_under_the_full_journal()
     ensures sequences { (s : Search) → IsFullJournal s → IsDisk s.base → IsSound s.base → HasZeroJournal s.base
         → All (λ step. IsAct step.act) s.pool → All IsPlace s.pool → All IsKeep s.keeps
         → (places : List ℕ) → ¬ (Fails s places) }
-    ensures found { (s : Search) (found : Found) → AreFound s found → ((places : List ℕ) → ¬ (Fails s places))
+    ensures found { (s : Search) (found : SearchCounts) → AreSearchCounts s found
+        → ((places : List ℕ) → ¬ (Fails s places))
         → found.failing ≡ 0 }
 {}

@@ -6,17 +6,17 @@
 //! more crash states than can be visited is judged too.
 #![tactic(auto)]
 
-mod begun;
 mod copying;
 mod firsts;
 mod judge;
 mod judging;
 pub mod laws;
+mod prefix;
 mod rules;
 mod traces;
 
-pub use begun::Begun;
 pub use copying::{PoolSteps, pool_of};
 pub use judge::PoolJudge;
+pub use prefix::TracedPrefix;
 pub use rules::PoolRules;
 pub use traces::{graph_but, traced_of};

@@ -28,8 +28,8 @@ impl<A: Allocator + Copy> RuleJudge for PoolRules<'_, A> {
     fn fails_without(&self, places: &Places, group: u128) -> Result<bool, AllocError> {
         let steps = self.judge.workload_at(places)?;
         let traced = traced_of(self.judge, &steps)?;
-        let told = self.judge.demands(&steps)?;
-        let fails = fails_in(self.judge, &traced, &told, group)?;
+        let demanded = self.judge.demands(&steps)?;
+        let fails = fails_in(self.judge, &traced, &demanded, group)?;
         Ok(fails)
     }
 }

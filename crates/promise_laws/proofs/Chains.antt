@@ -46,22 +46,22 @@ module _ (n : ℕ) (all : List Emitted) (whole : Bool) (links : List (List ℕ �
   abbrev pub Lies : List Emitted → ℕ → Type 0
   Lies log id = (i : ℕ) (y : Emitted) → slice_get log i ≡ Some y → slice_get all (id + i) ≡ Some y
 
-  abbrev turn_of : Disk → ℕ → ℕ → Origin × List Change → List Emitted
-  turn_of d t j o = journal_patches (with_changes d o.1) t j o.0 (touched_blocks n o.1) o.1
+  abbrev transaction_of : Disk → ℕ → ℕ → Origin × List Change → List Emitted
+  transaction_of d t j o = journal_patches (with_changes d o.1) t j o.0 (touched_blocks n o.1) o.1
 
   abbrev rest_of : Disk → ℕ → ℕ → Origin × List Change → Logged → List Emitted
   rest_of d t j o log = log_emitted n (with_changes d o.1) (t + 1) (j + 1 + length (touched_blocks n o.1)) log
 
   parts : (d : Disk) (t j : ℕ) (o : Origin × List Change)
-      → HasParts t j (touched_blocks n o.1) (length o.1) (turn_of d t j o)
+      → HasParts t j (touched_blocks n o.1) (length o.1) (transaction_of d t j o)
   parts d t j o = parts_of (with_changes d o.1) t j o.0 (touched_blocks n o.1) o.1
 
   rest_lies : (d : Disk) (t j id : ℕ) (o : Origin × List Change) (log : Logged)
-      → Lies (log_emitted n d t j (o ∷ log)) id → Lies (rest_of d t j o log) (id + length (turn_of d t j o))
+      → Lies (log_emitted n d t j (o ∷ log)) id → Lies (rest_of d t j o log) (id + length (transaction_of d t j o))
   rest_lies d t j id o log lies i y at =
-      ap (λ (m : ℕ). slice_get all m) (plus id (length (turn_of d t j o)) i)
-      ∙ lies (length (turn_of d t j o) + i) y
-      (get-right (turn_of d t j o) (rest_of d t j o log) i (length (turn_of d t j o) + i) refl ∙ at)
+      ap (λ (m : ℕ). slice_get all m) (plus id (length (transaction_of d t j o)) i)
+      ∙ lies (length (transaction_of d t j o) + i) y
+      (get-right (transaction_of d t j o) (rest_of d t j o log) i (length (transaction_of d t j o) + i) refl ∙ at)
     where
       plus : (a b c : ℕ) → a + b + c ≡ a + (b + c)
       plus a b c = omega arith
@@ -70,32 +70,32 @@ module _ (n : ℕ) (all : List Emitted) (whole : Bool) (links : List (List ℕ �
       → Lies (log_emitted n d t j (o ∷ log)) id
       → slice_get all (id + length (touched_blocks n o.1)) ≡ Some (parts d t j o).commit
   commit_lies d t j id o log lies = lies (length (touched_blocks n o.1)) (parts d t j o).commit
-      (get-left (turn_of d t j o) (rest_of d t j o log) (length (touched_blocks n o.1)) (parts d t j o).commit
+      (get-left (transaction_of d t j o) (rest_of d t j o log) (length (touched_blocks n o.1)) (parts d t j o).commit
       (parts d t j o).commit_at)
 
   split_commits : (d : Disk) (t j id : ℕ) (o : Origin × List Change) (log : Logged)
       → commits_from id (log_emitted n d t j (o ∷ log)) set
       ≡ one_if (has set (id + length (touched_blocks n o.1)))
-      + commits_from (id + length (turn_of d t j o)) (rest_of d t j o log) set
+      + commits_from (id + length (transaction_of d t j o)) (rest_of d t j o log) set
   split_commits d t j id o log =
-      commits_from-append id (turn_of d t j o) (rest_of d t j o log) set
-      ∙ ap (λ (m : ℕ). m + commits_from (id + length (turn_of d t j o)) (rest_of d t j o log) set)
+      commits_from-append id (transaction_of d t j o) (rest_of d t j o log) set
+      ∙ ap (λ (m : ℕ). m + commits_from (id + length (transaction_of d t j o)) (rest_of d t j o log) set)
       (turn_commits (with_changes d o.1) t j o.0 (touched_blocks n o.1) o.1 id set)
 
   -- a set that has a commit of the next transaction has that of this one
   before_it : (d : Disk) (t j id : ℕ) (o p : Origin × List Change) (log : Logged)
       → Lies (log_emitted n d t j (o ∷ p ∷ log)) id
-      → has set (id + length (turn_of d t j o) + length (touched_blocks n p.1)) ≡ true
+      → has set (id + length (transaction_of d t j o) + length (touched_blocks n p.1)) ≡ true
       → has set (id + length (touched_blocks n o.1)) ≡ true
   before_it d t j id o p log lies held =
       let d' : Disk = with_changes d o.1 in
       let j' : ℕ = j + 1 + length (touched_blocks n o.1) in
       let one = parts d t j o in
       let two = parts d' (t + 1) j' p in
-      let long : length (turn_of d t j o) ≡ length (touched_blocks n o.1) + 1 + length o.1 + 1 = one.long in
-      closed (id + length (turn_of d t j o) + length (touched_blocks n p.1)) (id + length (touched_blocks n o.1))
+      let long : length (transaction_of d t j o) ≡ length (touched_blocks n o.1) + 1 + length o.1 + 1 = one.long in
+      closed (id + length (transaction_of d t j o) + length (touched_blocks n p.1)) (id + length (touched_blocks n o.1))
       two.commit one.commit
-      (commit_lies d' (t + 1) j' (id + length (turn_of d t j o)) p log (rest_lies d t j id o (p ∷ log) lies))
+      (commit_lies d' (t + 1) j' (id + length (transaction_of d t j o)) p log (rest_lies d t j id o (p ∷ log) lies))
       (commit_lies d t j id o (p ∷ log) lies) (omega arith)
       (by_row whole links two.commit (id + length (touched_blocks n o.1)) one.commit Commit Commit (t + 1) t
       two.commit_is one.commit_is (rw (same_test (t + 1)) refl)) held
@@ -118,12 +118,12 @@ module _ (n : ℕ) (all : List Emitted) (whole : Bool) (links : List (List ℕ �
         let none : one_if (has set (id + length (touched_blocks n o.1))) ≡ 0 = ap one_if without in
         before_it d t j id o p log lies
         (first_held p log (with_changes d o.1) (t + 1) (j + 1 + length (touched_blocks n o.1))
-        (id + length (turn_of d t j o)) (rest_lies d t j id o (p ∷ log) lies) (omega arith))
+        (id + length (transaction_of d t j o)) (rest_lies d t j id o (p ∷ log) lies) (omega arith))
   ]
 
-  -- the set has the commits of a turn
+  -- the set has the commits of an operation
   abbrev pub HasTurn : List Emitted → ℕ → ℕ → Type 0
-  HasTurn log id last = (i : ℕ) (y : Emitted) → slice_get log i ≡ Some y → y.part ≡ Commit → y.turn ≡ last
+  HasTurn log id last = (i : ℕ) (y : Emitted) → slice_get log i ≡ Some y → y.part ≡ Commit → y.op_number ≡ last
       → has set (id + i) ≡ true
 
   this_turn : (o : Origin × List Change) (log : Logged) (d : Disk) (t j id : ℕ)
@@ -133,24 +133,25 @@ module _ (n : ℕ) (all : List Emitted) (whole : Bool) (links : List (List ℕ �
       let one = parts d t j o in
       let held : has set (id + length (touched_blocks n o.1)) ≡ true =
       forced (length (touched_blocks n o.1)) one.commit
-      (get-left (turn_of d t j o) (rest_of d t j o log) (length (touched_blocks n o.1)) one.commit one.commit_at)
-      one.commit_is.part one.commit_is.turn in
+      (get-left (transaction_of d t j o) (rest_of d t j o log) (length (touched_blocks n o.1)) one.commit one.commit_at)
+      one.commit_is.part one.commit_is.op_number in
       let split = split_commits d t j id o log in
       let there : one_if (has set (id + length (touched_blocks n o.1))) ≡ 1 = ap one_if held in
       omega arith
 
   rest_forced : (d : Disk) (t j id last : ℕ) (o : Origin × List Change) (log : Logged)
       → HasTurn (log_emitted n d t j (o ∷ log)) id last
-      → HasTurn (rest_of d t j o log) (id + length (turn_of d t j o)) last
+      → HasTurn (rest_of d t j o log) (id + length (transaction_of d t j o)) last
   rest_forced d t j id last o log forced i y at part turn =
-      subst (λ (m : ℕ). has set m ≡ true) (plus id (length (turn_of d t j o)) i)
-      (forced (length (turn_of d t j o) + i) y
-      (get-right (turn_of d t j o) (rest_of d t j o log) i (length (turn_of d t j o) + i) refl ∙ at) part turn)
+      subst (λ (m : ℕ). has set m ≡ true) (plus id (length (transaction_of d t j o)) i)
+      (forced (length (transaction_of d t j o) + i) y
+      (get-right (transaction_of d t j o) (rest_of d t j o log) i (length (transaction_of d t j o) + i) refl
+      ∙ at) part turn)
     where
       plus : (a b c : ℕ) → a + (b + c) ≡ a + b + c
       plus a b c = omega arith
 
-  -- a set that has the commit of a turn has those of all before it
+  -- a set that has the commit of an operation has those of all before it
   pub reaches : (o : Origin × List Change) (log : Logged) (d : Disk) (t j id last : ℕ)
       → Lies (log_emitted n d t j (o ∷ log)) id → HasTurn (log_emitted n d t j (o ∷ log)) id last
       → t ≤ last → last < t + suc (length log)
@@ -167,7 +168,7 @@ module _ (n : ℕ) (all : List Emitted) (whole : Bool) (links : List (List ℕ �
       | inl behind ↦
           let split = split_commits d t j id o (p ∷ log) in
           let rest = reaches p log (with_changes d o.1) (t + 1) (j + 1 + length (touched_blocks n o.1))
-          (id + length (turn_of d t j o)) last (rest_lies d t j id o (p ∷ log) lies)
+          (id + length (transaction_of d t j o)) last (rest_lies d t j id o (p ∷ log) lies)
           (rest_forced d t j id last o (p ∷ log) forced) (omega arith) (omega arith) in
           let there : one_if (has set (id + length (touched_blocks n o.1))) ≡ 1 =
           ap one_if (first_held o (p ∷ log) d t j id lies (omega arith)) in

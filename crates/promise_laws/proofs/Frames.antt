@@ -13,7 +13,7 @@ use Rattle.crash_model.specs.Patches.{Place, place}
 use Rattle.crash_model.specs.Plan.{with_changes}
 use Rattle.crash_model.specs.Trace.{Emitted, Origin, part_of, in_place_patch, copies, journal_patches, touched_blocks}
 use Rattle.crash_model.specs.Waiting.{range, inode_range, block_ranges, pointed_ranges, ranges_from, meets_range, meets}
-use Rattle.crash_model.specs.Waiting.{is_of_contents, last_turn}
+use Rattle.crash_model.specs.Waiting.{is_of_contents, last_op_number}
 use Rattle.crash_model.specs.declared.plans.Change.{Change}
 use Rattle.crash_model.specs.declared.ranges.Range.{Range}
 use Rattle.crash_model.specs.declared.rules.Part.TheVariants.{Commit, Done}
@@ -81,39 +81,42 @@ change-spared (r ∷ rs) n jl d p shaped placed spared =
     let both = or_parts (meets_range p r) (list_any (meets_range p) rs) spared in
     (range-spared r n jl d p shaped placed both.0, change-spared rs n jl d p shaped placed both.1)
 
--- ---- the last turn that has a property
+-- ---- the last operation that has a property
 
 module _ (test : Emitted → Bool) where
-  pub last-append : (xs ys : List Emitted) → last_turn test (xs ++ ys) ≡ max (last_turn test xs) (last_turn test ys)
+  pub last-append : (xs ys : List Emitted) → last_op_number test (xs ++ ys) ≡ max (last_op_number test xs)
+      (last_op_number test ys)
   last-append [] ys = omega arith
   last-append (x ∷ xs) ys = by (test x) (last-append xs ys)
     where
-      by : (b : Bool) → last_turn test (xs ++ ys) ≡ max (last_turn test xs) (last_turn test ys)
-          → (if b then max x.turn (last_turn test (xs ++ ys)) else last_turn test (xs ++ ys))
-          ≡ max (if b then max x.turn (last_turn test xs) else last_turn test xs) (last_turn test ys)
+      by : (b : Bool) → last_op_number test (xs ++ ys) ≡ max (last_op_number test xs) (last_op_number test ys)
+          → (if b then max x.op_number (last_op_number test (xs ++ ys)) else last_op_number test (xs ++ ys))
+          ≡ max (if b then max x.op_number (last_op_number test xs) else last_op_number test xs)
+          (last_op_number test ys)
       by true more = omega arith
       by false more = more
 
-  one-last : (x : Emitted) (xs : List Emitted) (t : ℕ) → x.turn ≡ t → last_turn test xs ≤ t
-      → last_turn test (x ∷ xs) ≤ t
+  one-last : (x : Emitted) (xs : List Emitted) (t : ℕ) → x.op_number ≡ t → last_op_number test xs ≤ t
+      → last_op_number test (x ∷ xs) ≤ t
   one-last x xs t is rest = by (test x)
     where
-      by : (b : Bool) → (if b then max x.turn (last_turn test xs) else last_turn test xs) ≤ t
+      by : (b : Bool) → (if b then max x.op_number (last_op_number test xs) else last_op_number test xs) ≤ t
       by true = omega arith
       by false = rest
 
-  last-copies : (after : Disk) (t j : ℕ) (g : Origin) (bs : List ℕ) → last_turn test (copies after t j g bs) ≤ t
+  last-copies : (after : Disk) (t j : ℕ) (g : Origin) (bs : List ℕ) → last_op_number test (copies after t j g bs) ≤ t
   last-copies after t j g [] = omega arith
   last-copies after t j g (b ∷ bs) = one-last _ (copies after t (j + 1) g bs) t refl (last-copies after t (j + 1) g bs)
 
-  last-plain : (t : ℕ) (g : Origin) (cs : List Change) → last_turn test (map (in_place_patch t g) cs) ≤ t
+  last-plain : (t : ℕ) (g : Origin) (cs : List Change) → last_op_number test (map (in_place_patch t g) cs) ≤ t
   last-plain t g [] = omega arith
   last-plain t g (c ∷ cs) = one-last (in_place_patch t g c) (map (in_place_patch t g) cs) t refl (last-plain t g cs)
 
   -- those of a transaction, and of the changes among its patches
   pub last-turn : (after : Disk) (t j : ℕ) (g : Origin) (targets : List ℕ) (cs : List Change)
-      → (last_turn test (journal_patches after t j g targets cs) ≤ t)
-      × (last_turn test (map (in_place_patch t g) cs) ≤ last_turn test (journal_patches after t j g targets cs))
+      → (last_op_number test (journal_patches after t j g targets cs) ≤ t)
+      × (last_op_number test (map (in_place_patch t g) cs) ≤ last_op_number test
+      (journal_patches after t j g targets cs))
   last-turn after t j g targets cs =
       let commit : Emitted = part_of t g Commit j 0 (0xC7 ∷ t ∷ length targets ∷ targets) in
       let done : Emitted = part_of t g Done j 0 (0xC8 ∷ []) in
@@ -121,24 +124,25 @@ module _ (test : Emitted → Bool) where
       let first = last-copies after t (j + 1) g targets in
       let some = last-plain t g cs in
       let end = last-append plain (done ∷ []) in
-      let last : last_turn test (done ∷ []) ≤ t = one-last done [] t refl (omega arith) in
-      let rest : last_turn test (commit ∷ (plain ++ (done ∷ []))) ≤ t =
+      let last : last_op_number test (done ∷ []) ≤ t = one-last done [] t refl (omega arith) in
+      let rest : last_op_number test (commit ∷ (plain ++ (done ∷ []))) ≤ t =
       one-last commit (plain ++ (done ∷ [])) t refl (omega arith) in
-      let over : last_turn test (plain ++ (done ∷ [])) ≤ last_turn test (commit ∷ (plain ++ (done ∷ []))) =
+      let over : last_op_number test (plain ++ (done ∷ [])) ≤ last_op_number test (commit ∷ (plain ++ (done ∷ []))) =
       more commit (plain ++ (done ∷ [])) in
       let whole = last-append (copies after t (j + 1) g targets) (commit ∷ (plain ++ (done ∷ []))) in
       (omega arith, omega arith)
     where
-      more : (x : Emitted) (xs : List Emitted) → last_turn test xs ≤ last_turn test (x ∷ xs)
+      more : (x : Emitted) (xs : List Emitted) → last_op_number test xs ≤ last_op_number test (x ∷ xs)
       more x xs = by (test x)
         where
-          by : (b : Bool) → last_turn test xs ≤ (if b then max x.turn (last_turn test xs) else last_turn test xs)
+          by : (b : Bool) → last_op_number test xs ≤
+              (if b then max x.op_number (last_op_number test xs) else last_op_number test xs)
           by true = omega arith
           by false = omega arith
 
-  -- no turn comes behind a log
+  -- no operation comes behind a log
   pub last-log : (n : ℕ) (d : Disk) (t j : ℕ) (log : Logged) → 1 ≤ t
-      → last_turn test (log_emitted n d t j log) < t + length log
+      → last_op_number test (log_emitted n d t j log) < t + length log
   last-log n d t j [] least = omega arith
   last-log n d t j (o ∷ log) least =
       let targets : List ℕ = touched_blocks n o.1 in
@@ -154,20 +158,20 @@ abbrev pub in_places : List Range → Emitted → Bool
 in_places rs q = is_of_contents q && meets rs q
 
 changes-spared : (rs : List Range) (n jl : ℕ) (d : Disk) (t : ℕ) (g : Origin) (cs : List Change) → IsShaped n jl d
-    → ArePlaced n (change_places cs) → last_turn (in_places rs) (map (in_place_patch t g) cs) < t
+    → ArePlaced n (change_places cs) → last_op_number (in_places rs) (map (in_place_patch t g) cs) < t
     → SameIn rs d (with_changes d cs)
 changes-spared rs n jl d t g [] shaped placed last = same-self rs d
 changes-spared rs n jl d t g (c ∷ cs) shaped placed last =
     let p : Place = place c.block c.offset c.new.items in
     let next : Disk = with_bytes d c.block c.offset c.new.items in
-    let rest = λ (less : last_turn (in_places rs) (map (in_place_patch t g) cs) < t).
+    let rest = λ (less : last_op_number (in_places rs) (map (in_place_patch t g) cs) < t).
     changes-spared rs n jl next t g cs (shaped-with_bytes n jl d p shaped placed.0) placed.1 less in
     by (list_any (meets_range p) rs) refl last rest
   where
     by : (b : Bool) → list_any (meets_range (place c.block c.offset c.new.items)) rs ≡ b
-        → (if b then max t (last_turn (in_places rs) (map (in_place_patch t g) cs))
-        else last_turn (in_places rs) (map (in_place_patch t g) cs)) < t
-        → (last_turn (in_places rs) (map (in_place_patch t g) cs) < t
+        → (if b then max t (last_op_number (in_places rs) (map (in_place_patch t g) cs))
+        else last_op_number (in_places rs) (map (in_place_patch t g) cs)) < t
+        → (last_op_number (in_places rs) (map (in_place_patch t g) cs) < t
         → SameIn rs (with_bytes d c.block c.offset c.new.items)
         (with_changes (with_bytes d c.block c.offset c.new.items) cs))
         → SameIn rs d (with_changes (with_bytes d c.block c.offset c.new.items) cs)
@@ -183,7 +187,7 @@ take_none (suc k) = refl
 -- The disk after the operations of a log, and that after its first k: the bytes of the ranges are the same, if no
 -- operation behind these k changes them.
 pub same-after : (rs : List Range) (log : Logged) (n jl : ℕ) (d : Disk) (t j last k : ℕ) → IsShaped n jl d
-    → IsLog n jl d j (changes_of log) → last_turn (in_places rs) (log_emitted n d t j log) ≤ last → last < t + k
+    → IsLog n jl d j (changes_of log) → last_op_number (in_places rs) (log_emitted n d t j log) ≤ last → last < t + k
     → SameIn rs (with_all_changes d (take k (changes_of log))) (with_all_changes d (changes_of log))
 same-after rs [] n jl d t j last k shaped is most less =
     subst (λ (ops : List (List Change)). SameIn rs (with_all_changes d ops) d) (sym (take_none k)) (same-self rs d)

@@ -13,7 +13,7 @@ use Rattle.crash_model.specs.StepDisks.{with_plan}
 use Rattle.crash_model.specs.Sound.{IsSound}
 use Rattle.crash_model.specs.Trace.{Emitted, trace_from}
 use Rattle.crash_model.specs.Tracing.{Tracing, trace_start}
-use Rattle.crash_model.specs.Waiting.{ranges_from, ranges_of, meets, is_file_data_patch, last_turn, fsync_forces}
+use Rattle.crash_model.specs.Waiting.{ranges_from, ranges_of, meets, is_file_data_patch, last_op_number, fsync_forces}
 use Rattle.crash_model.specs.Waiting.{forced_by_fsync, ids_from}
 use Rattle.crash_model.specs.Waiting as Waiting
 use Rattle.crash_model.specs.declared.modules.Module.TheVariants.{Full}
@@ -94,7 +94,7 @@ module _ (whole : Bool) (base : Disk) (earlier : List Step) (at : Tracing) (all 
   rs = ranges_from at.disk (Some 0) (names_of path)
 
   abbrev last : ℕ
-  last = last_turn (in_places rs) at.emitted
+  last = last_op_number (in_places rs) at.emitted
 
   abbrev k : ℕ
   k = commits_from 0 all set
@@ -116,14 +116,14 @@ module _ (whole : Bool) (base : Disk) (earlier : List Step) (at : Tracing) (all 
       none : (i : ℕ) → 0 + i ≡ i
       none i = omega arith
 
-  -- the commit of the last turn is forced
+  -- the commit of the last operation is forced
   forced : (log : List Emitted) → at.emitted ≡ log → HasTurn n all all_whole links set closed log 0 last
   unfolding forced_by_fsync ranges_of
   forced log is i y there part turn = has_true set (0 + i) (held (0 + i)
       (in_ids 0 (fsync_forces Full rs at.emitted) at.emitted i y
       (ap (λ (es : List Emitted). slice_get es i) is ∙ there)
-      (is_forced (is_file_data_patch y && meets rs y) (Waiting.is_commit y) (y.turn == last) (ap is_commit part)
-      (eq-eqb y.turn last turn))))
+      (is_forced (is_file_data_patch y && meets rs y) (Waiting.is_commit y) (y.op_number == last) (ap is_commit part)
+      (eq-eqb y.op_number last turn))))
     where
       is_forced : (a b c : Bool) → b ≡ true → c ≡ true → (a || (b && c)) ≡ true
       is_forced true b c p q = refl
@@ -131,14 +131,14 @@ module _ (whole : Bool) (base : Disk) (earlier : List Step) (at : Tracing) (all 
 
   reached : (log : Logged) → at.emitted ≡ log_emitted n base 1 4 log → last < 1 + k
   reached [] is =
-      let none : last ≡ 0 = ap (last_turn (in_places rs)) is in
+      let none : last ≡ 0 = ap (last_op_number (in_places rs)) is in
       omega arith
   reached (o ∷ log) is = elim (cases_lt last 1) [
     | inl none ↦ omega arith
     | inr some ↦
         let bound = last-log (in_places rs) n base 1 4 (o ∷ log) (omega arith) in
-        let same : last ≡ last_turn (in_places rs) (log_emitted n base 1 4 (o ∷ log)) =
-        ap (last_turn (in_places rs)) is in
+        let same : last ≡ last_op_number (in_places rs) (log_emitted n base 1 4 (o ∷ log)) =
+        ap (last_op_number (in_places rs)) is in
         let far = reaches n all all_whole links set closed o log base 1 4 0 last (lies _ is) (forced _ is) some
         (omega arith) in
         let count : commits_from 0 at.emitted set ≡ commits_from 0 (log_emitted n base 1 4 (o ∷ log)) set =
@@ -160,8 +160,8 @@ module _ (whole : Bool) (base : Disk) (earlier : List Step) (at : Tracing) (all 
       (subst (λ (d : Disk). SameIn rs d (with_all_changes base (changes_of logged.changes)))
       (plans_after k (ops_of earlier) (changes_of logged.changes) base logged.plans)
       (same-after rs logged.changes n jl base 1 4 last k (shaped n jl base good) logged.log
-      (let is : last ≡ last_turn (in_places rs) (log_emitted n base 1 4 logged.changes) =
-      ap (last_turn (in_places rs)) logged.emits in omega arith)
+      (let is : last ≡ last_op_number (in_places rs) (log_emitted n base 1 4 logged.changes) =
+      ap (last_op_number (in_places rs)) logged.emits in omega arith)
       (reached logged.changes logged.emits))))
 
   left_good : IsGood n jl left

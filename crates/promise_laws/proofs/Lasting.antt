@@ -135,32 +135,33 @@ module _ (n jl : ℕ) (path : Path) (ranges : List Range) (set : ℕ) where
   held_first : (line : ℕ) (op : Op) (u next r : Tracing) (ops : List Op) (changes : Logged) (whole : Bool)
       (links : List (List ℕ × List ℕ)) → IsGood n jl u.disk → IsClosedIn whole links r.emitted set
       → IsDone op u next → ArePlans u.disk (op ∷ ops) (changes_of changes)
-      → r.emitted ≡ u.emitted ++ log_emitted n u.disk u.turn u.journal changes
+      → r.emitted ≡ u.emitted ++ log_emitted n u.disk u.op_number u.journal changes
       → suc (commits_from 0 u.emitted set) ≤ commits_from 0 r.emitted set
       → (id : ℕ) × (length u.emitted ≤ id) × (id < length next.emitted) × Has set id
   held_first line op u next r ops [] whole links good closed is plans emits some = absurd plans
   held_first line op u next r ops (o ∷ log) whole links good closed is plans emits some =
       let from : ℕ = 0 + length u.emitted in
-      let all : List Emitted = log_emitted n u.disk u.turn u.journal (o ∷ log) in
+      let all : List Emitted = log_emitted n u.disk u.op_number u.journal (o ∷ log) in
       let split : commits_from 0 r.emitted set ≡ commits_from 0 u.emitted set + commits_from from all set =
       ap (λ (es : List Emitted). commits_from 0 es set) emits ∙ commits_from-append 0 u.emitted all set in
       let lies : Lies n r.emitted whole links set closed all from = λ i y at.
       ap (λ (es : List Emitted). slice_get es (from + i)) emits
       ∙ (get-right u.emitted all i (from + i) (omega arith) ∙ at) in
-      let held = first_held n r.emitted whole links set closed o log u.disk u.turn u.journal from lies (omega arith) in
+      let held =
+      first_held n r.emitted whole links set closed o log u.disk u.op_number u.journal from lies (omega arith) in
       let after : Disk = with_changes u.disk is.changes in
       let size : after.blocks ≡ n = (with_changes-size u.disk is.changes).0 ∙ good.blocks in
       let targets : List ℕ = touched_blocks after.blocks is.changes in
       let same : length (touched_blocks n o.1) ≡ length targets =
       ap (λ (cs : List Change). length (touched_blocks n cs)) (the_changes o.1 is.changes (sym plans.0 ∙ is.plan))
       ∙ ap (λ (m : ℕ). length (touched_blocks m is.changes)) (sym size) in
-      let parts = parts_of after u.turn u.journal is.origin targets is.changes in
-      let long : length (journal_patches after u.turn u.journal is.origin targets is.changes) ≡ length targets + 1
+      let parts = parts_of after u.op_number u.journal is.origin targets is.changes in
+      let long : length (journal_patches after u.op_number u.journal is.origin targets is.changes) ≡ length targets + 1
       + length is.changes + 1 = parts.long in
       let end : length next.emitted ≡ length u.emitted
-      + length (journal_patches after u.turn u.journal is.origin targets is.changes) =
+      + length (journal_patches after u.op_number u.journal is.origin targets is.changes) =
       ap (λ (es : List Emitted). length es) is.emits
-      ∙ length-append u.emitted (journal_patches after u.turn u.journal is.origin targets is.changes) in (
+      ∙ length-append u.emitted (journal_patches after u.op_number u.journal is.origin targets is.changes) in (
         from + length (touched_blocks n o.1),
         omega arith,
         omega arith,

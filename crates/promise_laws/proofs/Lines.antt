@@ -178,14 +178,14 @@ module _ (rules : List Rule) (whole : Bool) (asked : Asked) (base : Disk) (steps
     (is_traced : trace_from Full (trace_start whole base) steps ≡ Ok s) (among : AreAmong journal_rules rules)
     (graph : IsGraphOf rules base s patches) (full : asked.kind ≡ Full)
     (are : AreDemands asked base steps demands) where
-  told_none : AreSure steps → (closed : IsClosed (deps_of patches) set) (tells : Bool)
-      → broken_lines (promised (when tells (promises_of Full asked.durable base steps))) set
+  listed_none : AreSure steps → (closed : IsClosed (deps_of patches) set) (promising : Bool)
+      → broken_lines (promised (when promising (promises_of Full asked.durable base steps))) set
       (image_after_replay (image_of base patches set)) ≡ []
-  told_none sure closed true = none_broken (promises_of Full asked.durable base steps) set
+  listed_none sure closed true = none_broken (promises_of Full asked.durable base steps) set
       (image_after_replay (image_of base patches set)) (λ line.
       line_kept rules whole asked.durable base steps s patches
       set line disk sound zeros (steps_give steps names) is_traced among graph closed (sure line))
-  told_none sure closed false =
+  listed_none sure closed false =
       none_broken [] set (image_after_replay (image_of base patches set)) (λ line. refl)
 
   faultless : AreSure steps → IsClosed (deps_of patches) set
@@ -195,8 +195,8 @@ module _ (rules : List Rule) (whole : Bool) (asked : Asked) (base : Disk) (steps
       (recovered rules whole base steps s patches set disk sound zeros (steps_give steps names) is_traced among graph closed) demands are
       ∙ (ap (λ (ps : Option (List Promise)). broken_lines (promised ps) set
       (image_after_replay (image_of base patches set))) (are.promises
-      ∙ ap (λ (kind : Module). when asked.tells (promises_of kind asked.durable base steps)) full)
-      ∙ told_none sure closed asked.tells)
+      ∙ ap (λ (kind : Module). when asked.promising (promises_of kind asked.durable base steps)) full)
+      ∙ listed_none sure closed asked.promising)
 
   pub none_at_risk : RiskNoPromise asked steps → ¬ (IsFailingUnder demands base patches set)
   none_at_risk (inl sure) failing = failing.unclean (record {

@@ -47,7 +47,7 @@ pub record IsDone (op : Op) (s next : Tracing) : Type 0 where
   pub origin : Origin
   pub plan : plan_of s.disk op ≡ Ok changes
   pub disk : next.disk ≡ with_changes s.disk changes
-  pub emits : next.emitted ≡ s.emitted ++ journal_patches (with_changes s.disk changes) s.turn s.journal origin
+  pub emits : next.emitted ≡ s.emitted ++ journal_patches (with_changes s.disk changes) s.op_number s.journal origin
       (touched_blocks (with_changes s.disk changes).blocks changes) changes
   pub forced : next.forced ≡ s.forced
   pub current : next.current ≡ s.current
@@ -58,9 +58,10 @@ planned line op s next (Err e) is h = absurd (no_ok (trace_fault line e) next _ 
 planned line op s next (Ok cs) is h =
     let after : Disk = with_changes s.disk cs in
     let origin : Origin = origin_at line op s.current s.forced in
-    let more : List Emitted = journal_patches after s.turn s.journal origin (touched_blocks after.blocks cs) cs in
+    let more : List Emitted = journal_patches after s.op_number s.journal origin (touched_blocks after.blocks cs) cs in
     let free : ℕ = s.journal + (1 + length (touched_blocks s.disk.blocks cs)) in
-    let made : Tracing = record s { disk = after; emitted = s.emitted ++ more; turn = s.turn + 1; journal = free } in
+    let made : Tracing =
+    record s { disk = after; emitted = s.emitted ++ more; op_number = s.op_number + 1; journal = free } in
     elim (bool_is (nat_lt (4 + s.disk.journal) free)) [
       | inl full ↦ absurd (no_ok (fault.JournalFull line) next _ refl (rw full at h))
       | inr room ↦ elim (bool_is (nat_lt 124 (length s.emitted + length more))) [
@@ -92,10 +93,10 @@ pub record IsStep (act : Act) (s next : Tracing) : Type 0 where
 
 of_operation : (op : Op) (s next : Tracing) → IsDone op s next → IsStep (Do op) s next
 of_operation op s next is = record {
-  more = journal_patches (with_changes s.disk is.changes) s.turn s.journal is.origin
+  more = journal_patches (with_changes s.disk is.changes) s.op_number s.journal is.origin
       (touched_blocks (with_changes s.disk is.changes).blocks is.changes) is.changes;
   emits = is.emits;
-  counted = one_commit (with_changes s.disk is.changes) s.turn s.journal is.origin
+  counted = one_commit (with_changes s.disk is.changes) s.op_number s.journal is.origin
       (touched_blocks (with_changes s.disk is.changes).blocks is.changes) is.changes;
   disk = is.disk ∙ sym (ap (with_plan s.disk) is.plan);
   forced = λ id held. subst (λ (m : ℕ). Has m id) (sym is.forced) held;

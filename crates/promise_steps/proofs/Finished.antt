@@ -23,7 +23,8 @@ use Rattle.crash_model.specs.declared.steps.Act.{Act}
 use Rattle.crash_model.specs.declared.steps.Act.TheVariants.{Do, Group, End, Depend, Sync, Fsync, Keep, Hold, Spare}
 use Rattle.crash_model.specs.declared.steps.Target.TheVariants.{Root, At}
 use Rattle.crash_model.specs.declared.steps.Step.{Step}
-use Rattle.promise_steps.specs.Underway.{Under, ends_with, ended, spared, with_rest, rested, advanced, begun, begun_by, all_advanced}
+use Rattle.promise_steps.specs.Underway.{Under, ends_with, ended, spared, with_rest, rested, advanced, started}
+use Rattle.promise_steps.specs.Underway.{started_by, all_advanced}
 use Rattle.promise_steps.specs.Underway.{rests_left, finished, all_finished, all_ended}
 
 -- ---- sets
@@ -247,9 +248,9 @@ module _ (kind : Module) (s next : Tracing) (x : Step) (xs : List Step) (goes : 
 
 module _ (kind : Module) (is_durable : Bool) (line : ℕ) (here : Tracing) (xs : List Step) where
   -- that of a line keep
-  keep_is : (paths : List Path) → finished kind here xs (rested (begun line true paths None here) here)
+  keep_is : (paths : List Path) → finished kind here xs (rested (started line true paths None here) here)
       ≡ kept kind line paths here xs
-  keep_is paths = rested_finished kind here xs (begun line true paths None here)
+  keep_is paths = rested_finished kind here xs (started line true paths None here)
       ∙ ap (λ (rests : List Tracing). record {
         line = line;
         keeps = true;
@@ -260,34 +261,36 @@ module _ (kind : Module) (is_durable : Bool) (line : ℕ) (here : Tracing) (xs :
         spares = spares_of kind paths here xs;
       }) (sym (rests_split kind here xs))
 
-  hold_is : (path : Path) → finished kind here xs (rested (begun line false (path ∷ []) None here) here)
+  hold_is : (path : Path) → finished kind here xs (rested (started line false (path ∷ []) None here) here)
       ≡ held kind line path here xs
-  hold_is path = rested_finished kind here xs (begun line false (path ∷ []) None here)
+  hold_is path = rested_finished kind here xs (started line false (path ∷ []) None here)
 
-  durable_is : (path : Path) → finished kind here xs (rested (begun line false (path ∷ []) (Some path) here) here)
+  durable_is : (path : Path) → finished kind here xs (rested (started line false (path ∷ []) (Some path) here) here)
       ≡ durable kind line path here xs
-  durable_is path = rested_finished kind here xs (begun line false (path ∷ []) (Some path) here)
+  durable_is path = rested_finished kind here xs (started line false (path ∷ []) (Some path) here)
       ∙ ap (λ (e : ℕ). record (held kind line path here xs) { ends = e })
       (or_zero_l (touching_from kind path (touched_ranges here.disk (Some 0) (names_of path)) here xs))
 
   fsync_is : (b : Bool) (path : Path)
-      → option_map (λ u. finished kind here xs (rested u here)) (when b (begun line false (path ∷ []) (Some path) here))
+      → option_map (λ u. finished kind here xs (rested u here))
+      (when b (started line false (path ∷ []) (Some path) here))
       ≡ when b (durable kind line path here xs)
   fsync_is true path = ap Some (durable_is path)
   fsync_is false path = refl
 
-  begun_is : (act : Act) → option_map (λ u. finished kind here xs (rested u here)) (begun_by is_durable line act here)
+  started_is : (act : Act) → option_map (λ u. finished kind here xs (rested u here))
+      (started_by is_durable line act here)
       ≡ promise_of kind is_durable line act here xs
-  begun_is (Do op) = refl
-  begun_is (Group a) = refl
-  begun_is End = refl
-  begun_is (Depend b a) = refl
-  begun_is Sync = refl
-  begun_is (Fsync Root) = refl
-  begun_is (Fsync (At path)) = fsync_is is_durable path
-  begun_is (Keep paths) = ap Some (keep_is paths.items)
-  begun_is (Hold path) = ap Some (hold_is path)
-  begun_is (Spare path other) = refl
+  started_is (Do op) = refl
+  started_is (Group a) = refl
+  started_is End = refl
+  started_is (Depend b a) = refl
+  started_is Sync = refl
+  started_is (Fsync Root) = refl
+  started_is (Fsync (At path)) = fsync_is is_durable path
+  started_is (Keep paths) = ap Some (keep_is paths.items)
+  started_is (Hold path) = ap Some (hold_is path)
+  started_is (Spare path other) = refl
 
 mapped : (f : Under → Promise) (g : Under → Under) (o : Option Under)
     → map f (option_to_list (option_map g o)) ≡ option_to_list (option_map (λ u. f (g u)) o)
@@ -303,14 +306,14 @@ module _ (kind : Module) (is_durable : Bool) (s : Tracing) (x : Step) (xs : List
   all_on us next goes =
       let f : Under → Promise = finished kind next xs in
       let ahead : List Under = map (λ u. advanced u s x.act next) us in
-      let begins : Option Under = option_map (λ u. rested u next) (begun_by is_durable x.line x.act next) in
+      let begins : Option Under = option_map (λ u. rested u next) (started_by is_durable x.line x.act next) in
       let rest : List Promise = promises_from kind is_durable next xs in
       let made : promises_from kind is_durable s (x ∷ xs)
       ≡ option_to_list (promise_of kind is_durable x.line x.act next xs) ++ rest =
       promises_at kind s x xs is_durable goes in
       let new : option_to_list (promise_of kind is_durable x.line x.act next xs) ≡ map f (option_to_list begins) =
-      ap (λ (o : Option Promise). option_to_list o) (sym (begun_is kind is_durable x.line next xs x.act))
-      ∙ sym (mapped f (λ u. rested u next) (begun_by is_durable x.line x.act next)) in
+      ap (λ (o : Option Promise). option_to_list o) (sym (started_is kind is_durable x.line next xs x.act))
+      ∙ sym (mapped f (λ u. rested u next) (started_by is_durable x.line x.act next)) in
       ap (λ (ps : List Promise). ps ++ promises_from kind is_durable s (x ∷ xs)) (each_on kind s next x xs goes us)
       ∙ (ap (λ (ps : List Promise). map f ahead ++ ps) (made ∙ ap (λ (ps : List Promise). ps ++ rest) new)
       ∙ (sym (append_assoc (map f ahead) (map f (option_to_list begins)) rest)

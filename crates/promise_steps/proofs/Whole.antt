@@ -51,10 +51,11 @@ module _ (w : Bool) where
   plan_by kind line op s (Err fault) = refl
   plan_by kind line op s (Ok changes) =
       let after : Disk = with_changes s.disk changes in
-      let more : List Emitted = patches_by kind after s.turn s.journal (origin_at line op s.current s.forced) changes in
+      let more : List Emitted =
+      patches_by kind after s.op_number s.journal (origin_at line op s.current s.forced) changes in
       let next : ℕ = s.journal + journal_blocks kind s.disk.blocks changes in
       let last : Result Tracing TraceFault =
-      Ok (record s { disk = after; emitted = s.emitted ++ more; turn = s.turn + 1; journal = next }) in
+      Ok (record s { disk = after; emitted = s.emitted ++ more; op_number = s.op_number + 1; journal = next }) in
       let full : Bool = nat_lt (4 + s.disk.journal) next in
       let many : Bool = nat_lt 124 (length s.emitted + length more) in
       ap (λ (r : Result Tracing TraceFault). unless full (no.JournalFull line) r)

@@ -67,8 +67,8 @@ advanced u s act next =
     }) next
 
 -- what an act promises, right behind which a place is
-abbrev pub begun : ℕ → Bool → List Path → Option Path → Tracing → Under
-begun line keeps paths lasts here = record {
+abbrev pub started : ℕ → Bool → List Path → Option Path → Tracing → Under
+started line keeps paths lasts here = record {
   promise = record {
     line = line;
     keeps = keeps;
@@ -83,18 +83,18 @@ begun line keeps paths lasts here = record {
   ranges = elim lasts [ None ↦ [] | Some path ↦ touched_ranges here.disk (Some 0) (names_of path) ];
 }
 
-abbrev pub begun_by : Bool → ℕ → Act → Tracing → Option Under
-begun_by is_durable line (Keep paths) here = Some (begun line true paths.items None here)
-begun_by is_durable line (Hold path) here = Some (begun line false (path ∷ []) None here)
-begun_by is_durable line (Fsync (At path)) here =
-    when is_durable (begun line false (path ∷ []) (Some path) here)
-begun_by is_durable line _ here = None
+abbrev pub started_by : Bool → ℕ → Act → Tracing → Option Under
+started_by is_durable line (Keep paths) here = Some (started line true paths.items None here)
+started_by is_durable line (Hold path) here = Some (started line false (path ∷ []) None here)
+started_by is_durable line (Fsync (At path)) here =
+    when is_durable (started line false (path ∷ []) (Some path) here)
+started_by is_durable line _ here = None
 
 -- all promises after one more act
 abbrev pub all_advanced : Bool → List Under → Tracing → ℕ → Act → Tracing → List Under
 all_advanced is_durable us s line act next =
     map (λ u. advanced u s act next) us
-    ++ option_to_list (option_map (λ u. rested u next) (begun_by is_durable line act next))
+    ++ option_to_list (option_map (λ u. rested u next) (started_by is_durable line act next))
 
 -- ---- what is left
 

@@ -49,9 +49,10 @@ module _ (P : Tracing → Type 0) where
   planned_ok kind line op s (Ok changes) same =
       let after : Disk = with_changes s.disk changes in
       let more : List Emitted =
-      patches_by kind after s.turn s.journal (origin_at line op s.current s.forced) changes in
+      patches_by kind after s.op_number s.journal (origin_at line op s.current s.forced) changes in
       let free : ℕ = s.journal + journal_blocks kind s.disk.blocks changes in
-      let made : Tracing = record s { disk = after; emitted = s.emitted ++ more; turn = s.turn + 1; journal = free } in
+      let made : Tracing =
+      record s { disk = after; emitted = s.emitted ++ more; op_number = s.op_number + 1; journal = free } in
       let many : Bool = nat_lt MAX_PATCHES (length s.emitted + length more) in
       unless_ok (nat_lt (JOURNAL_AT + s.disk.journal) free) (no.JournalFull line)
       (unless many (no.TooManyPatches line) (Ok made))

@@ -24,8 +24,8 @@ use Rattle.crash_model.specs.declared.fault.Fault.{Fault}
 use Rattle.crash_model.specs.declared.patches.Patch.{Patch}
 use Rattle.crash_model.proofs.FaultNumbers.{same_fault}
 use Rattle.question_model.specs.Decided.{AreDecided}
-use Rattle.question_model.specs.Decision.{AreToldDecided}
-use Rattle.question_model.specs.ToldDecided.{ToldDecided}
+use Rattle.question_model.specs.Decision.{AreListedFaults}
+use Rattle.question_model.specs.ListedFault.{ListedFault}
 use Rattle.question_model.specs.declared.decided_fault.DecidedFault.{DecidedFault}
 use Rattle.worked_example_laws.specs.Computed.{are_in_order, have_runs, section_of}
 use Rattle.worked_example_laws.proofs.FailingSets.{all_under, failing_quickly_under, failing_under_are}
@@ -60,11 +60,11 @@ is_decided detail base patches sets fs =
     && have_runs patches (map (λ f. f.first) fs))
 
 -- what a report shows of the faults
-abbrev pub told_one : Detail → Disk → List Patch → DecidedFault → ToldDecided
-told_one detail base patches f = record { decided = f; first = section_of detail base patches f.first }
+abbrev pub listed_one : Detail → Disk → List Patch → DecidedFault → ListedFault
+listed_one detail base patches f = record { decided = f; first = section_of detail base patches f.first }
 
-abbrev pub told_all : Detail → Disk → List Patch → List DecidedFault → List ToldDecided
-told_all detail base patches fs = map (told_one detail base patches) fs
+abbrev pub listed_all : Detail → Disk → List Patch → List DecidedFault → List ListedFault
+listed_all detail base patches fs = map (listed_one detail base patches) fs
 
 -- ---- what it says
 
@@ -164,22 +164,22 @@ module _ (detail : Detail) (base : Disk) (patches : List Patch) where
       each (g ∷ gs) passes = All-cons (λ f. IsFirst (HasFault detail.demands base patches f.fault) f.first) g gs
           (first_of g (passes g (in_front g gs))) (each gs (λ f is. passes f (in_rest g gs f is)))
 
-  -- ---- what is told
+  -- ---- what is listed
 
-  told_decided : (fs : List DecidedFault) → fs ≡ map (λ t. t.decided) (told_all detail base patches fs)
-  told_decided [] = refl
-  told_decided (f ∷ fs) = ap (λ (gs : List DecidedFault). f ∷ gs) (told_decided fs)
+  listed_decided : (fs : List DecidedFault) → fs ≡ map (λ t. t.decided) (listed_all detail base patches fs)
+  listed_decided [] = refl
+  listed_decided (f ∷ fs) = ap (λ (gs : List DecidedFault). f ∷ gs) (listed_decided fs)
 
-  told_firsts : (fs : List DecidedFault) → map (λ f. f.first) fs
-      ≡ map (λ t. t.decided.first) (told_all detail base patches fs)
-  told_firsts [] = refl
-  told_firsts (f ∷ fs) = ap (λ (ns : List ℕ). f.first ∷ ns) (told_firsts fs)
+  listed_firsts : (fs : List DecidedFault) → map (λ f. f.first) fs
+      ≡ map (λ t. t.decided.first) (listed_all detail base patches fs)
+  listed_firsts [] = refl
+  listed_firsts (f ∷ fs) = ap (λ (ns : List ℕ). f.first ∷ ns) (listed_firsts fs)
 
-  told_sections : (fs : List DecidedFault) → map (section_of detail base patches) (map (λ f. f.first) fs)
-      ≡ map (λ t. t.first) (told_all detail base patches fs)
-  told_sections [] = refl
-  told_sections (f ∷ fs) =
-      ap (λ (ss : List Section). section_of detail base patches f.first ∷ ss) (told_sections fs)
+  listed_sections : (fs : List DecidedFault) → map (section_of detail base patches) (map (λ f. f.first) fs)
+      ≡ map (λ t. t.first) (listed_all detail base patches fs)
+  listed_sections [] = refl
+  listed_sections (f ∷ fs) =
+      ap (λ (ss : List Section). section_of detail base patches f.first ∷ ss) (listed_sections fs)
 
   firsts_closed : (fs : List DecidedFault)
       → All (λ f. IsFirst (HasFault detail.demands base patches f.fault) f.first) fs
@@ -190,12 +190,12 @@ module _ (detail : Detail) (base : Disk) (patches : List Patch) where
       (All-head (λ g. IsFirst (HasFault detail.demands base patches g.fault) g.first) f fs all).among.failing.closed
       (firsts_closed fs (All-tail (λ g. IsFirst (HasFault detail.demands base patches g.fault) g.first) f fs all))
 
-  all_led : (told : List ToldDecided) → All (IsLed patches) (map (λ t. t.first) told)
-      → All (λ t. IsLed patches t.first) told
+  all_led : (listed : List ListedFault) → All (IsLed patches) (map (λ t. t.first) listed)
+      → All (λ t. IsLed patches t.first) listed
   all_led [] all = All-nil (λ t. IsLed patches t.first)
-  all_led (t ∷ told) all = All-cons (λ t. IsLed patches t.first) t told
-      (All-head (IsLed patches) t.first (map (λ t. t.first) told) all)
-      (all_led told (All-tail (IsLed patches) t.first (map (λ t. t.first) told) all))
+  all_led (t ∷ listed) all = All-cons (λ t. IsLed patches t.first) t listed
+      (All-head (IsLed patches) t.first (map (λ t. t.first) listed) all)
+      (all_led listed (All-tail (IsLed patches) t.first (map (λ t. t.first) listed) all))
 
   -- the test passes
   module _ (before : AreEarlier (deps_of patches)) (sets : List ℕ) (fs : List DecidedFault)
@@ -221,17 +221,17 @@ module _ (detail : Detail) (base : Disk) (patches : List Patch) where
         (map (section_of detail base patches) (map (λ f. f.first) fs))
     sections_now = sections_if detail base patches (map (λ f. f.first) fs) parts.1
 
-    pub told_if : AreToldDecided detail base patches (told_all detail base patches fs)
-    told_if = record {
-      decided = subst (AreDecided (HasFault detail.demands base patches)) (told_decided fs) decided_now;
+    pub listed_if : AreListedFaults detail base patches (listed_all detail base patches fs)
+    listed_if = record {
+      decided = subst (AreDecided (HasFault detail.demands base patches)) (listed_decided fs) decided_now;
       firsts = subst (λ (ss : List Section). AreSections detail base patches
-          (map (λ t. t.decided.first) (told_all detail base patches fs)) ss) (told_sections fs)
+          (map (λ t. t.decided.first) (listed_all detail base patches fs)) ss) (listed_sections fs)
           (subst (λ (ns : List ℕ). AreSections detail base patches ns
-          (map (section_of detail base patches) (map (λ f. f.first) fs))) (told_firsts fs) sections_now);
+          (map (section_of detail base patches) (map (λ f. f.first) fs))) (listed_firsts fs) sections_now);
     }
 
-    pub led_if : All (λ t. IsLed patches t.first) (told_all detail base patches fs)
-    led_if = all_led (told_all detail base patches fs) (subst (All (IsLed patches)) (told_sections fs)
+    pub led_if : All (λ t. IsLed patches t.first) (listed_all detail base patches fs)
+    led_if = all_led (listed_all detail base patches fs) (subst (All (IsLed patches)) (listed_sections fs)
         (sections_lead base patches before detail (map (λ f. f.first) fs)
         (map (section_of detail base patches) (map (λ f. f.first) fs))
         (firsts_closed fs decided_now.each) sections_now))

@@ -16,15 +16,15 @@ use Rattle.crash_model.specs.FirstSets.{IsFirst}
 use Rattle.crash_model.specs.Patches.{deps_of}
 use Rattle.crash_model.specs.Tracing.{Tracing}
 use Rattle.crash_model.specs.declared.refusals.TraceFault.{TraceFault}
-use Rattle.question_model.specs.Found.{IsCounted, AreCounted, IsShown, AreShown, AreFound}
+use Rattle.question_model.specs.SearchCounts.{IsCounted, AreCounted, IsShown, AreShown, AreSearchCounts}
 use Rattle.question_model.specs.Kinds.{kind_number}
 use Rattle.question_model.specs.Refused.{refusal_number}
-use Rattle.question_model.specs.SearchReport.{ToldKind, IsToldKind}
+use Rattle.question_model.specs.SearchReport.{ListedKind, IsListedKind}
 use Rattle.question_model.specs.Sequences.{AreAllSequences}
 use Rattle.question_model.specs.Workloads.{Search, steps_at, trace_at, IsWorkload, IsFailingWorkload}
 use Rattle.question_model.specs.Workloads.{IsRefusedFor, HasKind, ShowsKind}
 use Rattle.question_model.specs.declared.fault_kind.FaultKind.{FaultKind}
-use Rattle.question_model.specs.declared.found.Found.{Found}
+use Rattle.question_model.specs.declared.found.SearchCounts.{SearchCounts}
 use Rattle.question_model.specs.declared.found.RefusedCount.{RefusedCount}
 use Rattle.question_model.specs.declared.found.ShownKind.{ShownKind}
 use Rattle.question_model.specs.declared.refusal.Refusal.{Refusal}
@@ -73,7 +73,7 @@ abbrev pub shown_of : ShownBy → ShownKind
 shown_of k =
     record { kind = k.kind; workloads = length (k.first ∷ k.rest); places = record { items = k.first }; first = k.set }
 
-abbrev pub found_of : Expected → Found
+abbrev pub found_of : Expected → SearchCounts
 found_of e = record {
   workloads = length e.workloads;
   failing = length e.failing;
@@ -293,7 +293,7 @@ module _ (s : Search) where
             ];
       }
 
-  pub found_if : (e : Expected) → finds s e ≡ true → AreFound s (found_of e)
+  pub found_if : (e : Expected) → finds s e ≡ true → AreSearchCounts s (found_of e)
   found_if e passes =
       let one = and_parts (are_all (all_at s) (is_workload_at s) e.workloads) _ passes in
       let two = and_parts (are_all (all_at s) (λ places. is_workload_at s places && fails_at s places) e.failing) _
@@ -330,8 +330,8 @@ module _ (s : Search) where
   -- ---- what a report shows of kinds
 
   module _ (explain : Bool) where
-    abbrev pub told_kind : ShownBy → ToldKind
-    told_kind k =
+    abbrev pub listed_kind : ShownBy → ListedKind
+    listed_kind k =
         let last = trace_or_start s.base (trace_at s k.first) in
         let patches = graph_of s.rules s.base last in
         record {
@@ -341,10 +341,10 @@ module _ (s : Search) where
           first = section_of (record { explain = explain; demands = demands_at s k.first }) s.base patches k.set;
         }
 
-    told_from : (k : ShownBy) (has : HasFirst k) → trace_or_start s.base (trace_at s k.first) ≡ has.last
-        → IsToldKind s explain (told_kind k)
-    told_from k has same =
-        subst (λ (last : Tracing). IsToldKind s explain (record {
+    listed_from : (k : ShownBy) (has : HasFirst k) → trace_or_start s.base (trace_at s k.first) ≡ has.last
+        → IsListedKind s explain (listed_kind k)
+    listed_from k has same =
+        subst (λ (last : Tracing). IsListedKind s explain (record {
           shown = shown_of k;
           steps = steps_at s.pool k.first;
           patches = length (graph_of s.rules s.base last);
@@ -379,15 +379,15 @@ module _ (s : Search) where
             (All-cons (IsClosed (deps_of patches)) k.set [] (first_of k has).among.1.failing.closed
             (All-nil (IsClosed (deps_of patches)))) sections)
 
-    told_if : (k : ShownBy) → is_shown s k ≡ true → IsToldKind s explain (told_kind k)
-    told_if k e = let has = its_first k e in told_from k has (ap (trace_or_start s.base) has.run)
+    listed_if : (k : ShownBy) → is_shown s k ≡ true → IsListedKind s explain (listed_kind k)
+    listed_if k e = let has = its_first k e in listed_from k has (ap (trace_or_start s.base) has.run)
 
-    pub all_told_if : (ks : List ShownBy) → are_shown s ks ≡ true → All (IsToldKind s explain) (map told_kind ks)
-    all_told_if ks e =
+    pub all_listed_if : (ks : List ShownBy) → are_shown s ks ≡ true → All (IsListedKind s explain) (map listed_kind ks)
+    all_listed_if ks e =
         let one = and_parts (are_rising (map (λ k. kind_number k.kind) ks)) _ e in
         let two = and_parts (list_all (is_shown s) ks) _ one.1 in
-        all_mapped told_kind (IsToldKind s explain) ks (λ k is. told_if k (all_from (is_shown s) ks two.0 k is))
+        all_mapped listed_kind (IsListedKind s explain) ks (λ k is. listed_if k (all_from (is_shown s) ks two.0 k is))
 
-    pub same_shown : (ks : List ShownBy) → map (λ t. t.shown) (map told_kind ks) ≡ map shown_of ks
+    pub same_shown : (ks : List ShownBy) → map (λ t. t.shown) (map listed_kind ks) ≡ map shown_of ks
     same_shown [] = refl
     same_shown (k ∷ ks) = ap (λ (more : List ShownKind). shown_of k ∷ more) (same_shown ks)

@@ -26,7 +26,7 @@ pub mod SomeFound
 pub mod SomeSearch
 pub mod SomePool
 pub mod EachQuestion
-pub mod Told
+pub mod Listed
 pub mod Scripted
 pub mod ScriptedLines
 pub mod ScriptedSearch

@@ -14,16 +14,16 @@ use Rattle.crash_model.specs.declared.refusals.TraceFault.{TraceFault}
 use Rattle.crash_model.specs.declared.rules.Rule.{Rule}
 use Rattle.question_model.specs.Enough.{rules_but}
 use Rattle.question_model.specs.EnoughFor.{FailsBy, AreEnoughFor, search_with}
-use Rattle.question_model.specs.SearchRulesReport.{ToldNeed, IsToldNeed}
+use Rattle.question_model.specs.SearchRulesReport.{ListedNeed, IsListedNeed}
 use Rattle.question_model.specs.Sequences.{AreAllSequences}
 use Rattle.question_model.specs.Workloads.{Search, steps_at, trace_at}
 use Rattle.question_model.specs.declared.decided_fault.DecidedFault.{DecidedFault}
 use Rattle.worked_example_laws.specs.Computed.{graph_of, trace_or_start}
 use Rattle.worked_example_laws.proofs.Graphs.{earlier}
-use Rattle.question_laws.proofs.DecidedIf.{is_decided, told_one, told_all, told_if, led_if}
+use Rattle.question_laws.proofs.DecidedIf.{is_decided, listed_one, listed_all, listed_if, led_if}
 use Rattle.question_laws.proofs.SequencesIf.{are_all, all_if, none_if}
 use Rattle.question_laws.proofs.Sequences.{first_is}
-use Rattle.question_laws.proofs.SomeFirst.{first_told}
+use Rattle.question_laws.proofs.SomeFirst.{first_listed}
 use Rattle.question_laws.proofs.SomeWorkloads.{some_patches}
 use Rattle.question_laws.proofs.Testing.{both_true, true_or_false, all_from}
 use Rattle.question_laws.proofs.WorkloadsIf.{all_at, demands_at, is_workload_at, fails_at, fails_if, if_fails}
@@ -64,15 +64,15 @@ is_needed_by s explain k =
     are_all (all_at s) (fails_by s (rules_but s.rules k.group)) (k.first ∷ k.rest)
     && is_first_fault s explain k (trace_at s k.first)
 
-abbrev pub told_need : Search → Bool → NeededBy → ToldNeed
-told_need s explain k =
+abbrev pub listed_need : Search → Bool → NeededBy → ListedNeed
+listed_need s explain k =
     let patches = patches_but s k.group (trace_or_start s.base (trace_at s k.first)) in
     record {
       group = k.group;
       places = k.first;
       steps = steps_at s.pool k.first;
       patches = length patches;
-      fault = told_one (detail_at s explain k.first) s.base patches k.fault;
+      fault = listed_one (detail_at s explain k.first) s.base patches k.fault;
     }
 
 -- ---- what the tests say
@@ -120,7 +120,7 @@ module _ (s : Search) where
       enough it.0 (fails_by_if rules it.0 (not_of_false (fails_by s rules it.0) it.1))
 
   module _ (explain : Bool) where
-    need_if : (k : NeededBy) → is_needed_by s explain k ≡ true → IsToldNeed s explain (told_need s explain k)
+    need_if : (k : NeededBy) → is_needed_by s explain k ≡ true → IsListedNeed s explain (listed_need s explain k)
     need_if k e =
         let parts = and_parts (are_all (all_at s) (fails_by s (rules_but s.rules k.group)) (k.first ∷ k.rest)) _ e in
         by (all_if (FailsBy s (rules_but s.rules k.group)) (all_at s) (fails_by s (rules_but s.rules k.group))
@@ -130,18 +130,18 @@ module _ (s : Search) where
         by : AreAllSequences (FailsBy s (rules_but s.rules k.group)) (k.first ∷ k.rest)
             → (r : Result Tracing TraceFault)
             → trace_at s k.first ≡ r → is_first_fault s explain k r ≡ true
-            → IsToldNeed s explain (told_need s explain k)
+            → IsListedNeed s explain (listed_need s explain k)
         by all (Err fault) run e' = cc
         by all (Ok last) run e' =
             let patches = patches_but s k.group last in
             let detail = detail_at s explain k.first in
             let before = earlier (rules_but s.rules k.group) s.base last in
-            let is : IsToldNeed s explain (record {
+            let is : IsListedNeed s explain (record {
               group = k.group;
               places = k.first;
               steps = steps_at s.pool k.first;
               patches = length (patches_but s k.group last);
-              fault = told_one (detail_at s explain k.first) s.base (patches_but s k.group last) k.fault;
+              fault = listed_one (detail_at s explain k.first) s.base (patches_but s k.group last) k.fault;
             }) = record {
               earliest = first_is (FailsBy s (rules_but s.rules k.group)) k.first k.rest all;
               steps = refl;
@@ -149,30 +149,31 @@ module _ (s : Search) where
               patches = patches;
               traced = some_patches (search_with s (rules_but s.rules k.group)) k.first last run;
               number = refl;
-              first = first_told detail s.base patches (told_one detail s.base patches k.fault)
-                  (told_all detail s.base patches k.faults)
-                  (told_if detail s.base patches before k.failing (k.fault ∷ k.faults) e')
+              first = first_listed detail s.base patches (listed_one detail s.base patches k.fault)
+                  (listed_all detail s.base patches k.faults)
+                  (listed_if detail s.base patches before k.failing (k.fault ∷ k.faults) e')
                   (led_if detail s.base patches before k.failing (k.fault ∷ k.faults) e');
             } in
-            subst (λ (end : Tracing). IsToldNeed s explain (record {
+            subst (λ (end : Tracing). IsListedNeed s explain (record {
               group = k.group;
               places = k.first;
               steps = steps_at s.pool k.first;
               patches = length (patches_but s k.group end);
-              fault = told_one (detail_at s explain k.first) s.base (patches_but s k.group end) k.fault;
+              fault = listed_one (detail_at s explain k.first) s.base (patches_but s k.group end) k.fault;
             })) (sym (ap (trace_or_start s.base) run)) is
 
     pub needs_if : (ks : List NeededBy) → list_all (is_needed_by s explain) ks ≡ true
-        → All (IsToldNeed s explain) (map (told_need s explain) ks)
+        → All (IsListedNeed s explain) (map (listed_need s explain) ks)
     needs_if ks e = each ks (all_from (is_needed_by s explain) ks e)
       where
         each : (js : List NeededBy) → ((k : NeededBy) → Contains js k → is_needed_by s explain k ≡ true)
-            → All (IsToldNeed s explain) (map (told_need s explain) js)
-        each [] passes = All-nil (IsToldNeed s explain)
-        each (k ∷ js) passes = All-cons (IsToldNeed s explain) (told_need s explain k) (map (told_need s explain) js)
+            → All (IsListedNeed s explain) (map (listed_need s explain) js)
+        each [] passes = All-nil (IsListedNeed s explain)
+        each (k ∷ js) passes =
+            All-cons (IsListedNeed s explain) (listed_need s explain k) (map (listed_need s explain) js)
             (need_if k (passes k (in_front k js))) (each js (λ j is. passes j (in_rest k js j is)))
 
     pub same_needs : (ks : List NeededBy) → map (λ k. k.group) ks
-        ≡ map (λ t. t.group) (map (told_need s explain) ks)
+        ≡ map (λ t. t.group) (map (listed_need s explain) ks)
     same_needs [] = refl
     same_needs (k ∷ ks) = ap (λ (ns : List ℕ). k.group ∷ ns) (same_needs ks)

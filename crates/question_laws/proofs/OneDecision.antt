@@ -19,11 +19,11 @@ use Rattle.crash_model.specs.declared.fault.Fault.{Fault}
 use Rattle.crash_model.specs.declared.patches.Patch.{Patch}
 use Rattle.crash_model.specs.declared.settings.Settings.{Settings}
 use Rattle.question_model.specs.Decided.{AreDecided}
-use Rattle.question_model.specs.Decision.{AreToldDecided, IsDecision, decision_bytes}
-use Rattle.question_model.specs.ToldDecided.{ToldDecided}
+use Rattle.question_model.specs.Decision.{AreListedFaults, IsDecision, decision_bytes}
+use Rattle.question_model.specs.ListedFault.{ListedFault}
 use Rattle.question_model.specs.declared.decided_fault.DecidedFault.{DecidedFault}
 use Rattle.worked_example_laws.proofs.OneBody.{sections_one, not_both, first_one}
-use Rattle.worked_example_laws.proofs.Orders.{one_keyed, same_parts, same_told}
+use Rattle.worked_example_laws.proofs.Orders.{one_keyed, same_parts, same_listed}
 
 module _ (has : Fault → ℕ → Type 0) where
   abbrev pub IsShown : DecidedFault → Type 0
@@ -40,18 +40,18 @@ module _ (has : Fault → ℕ → Type 0) where
       one_keyed IsFaultBefore not_both (λ f. f.fault) IsShown shown_one fs gs is.ordered also.ordered is.each also.each
       (λ f here. is.every f.fault f.first here.among) (λ f here. also.every f.fault f.first here.among)
 
-told_one : (t o : ToldDecided) → t.decided ≡ o.decided → t.first ≡ o.first → t ≡ o
-told_one t o decided first = λ i. record { decided = decided i; first = first i }
+listed_one : (t o : ListedFault) → t.decided ≡ o.decided → t.first ≡ o.first → t ≡ o
+listed_one t o decided first = λ i. record { decided = decided i; first = first i }
 
-pub told_decided_one : (detail : Detail) (base : Disk) (patches : List Patch) (told others : List ToldDecided)
-    → AreToldDecided detail base patches told → AreToldDecided detail base patches others → told ≡ others
-told_decided_one detail base patches told others is also =
-    let faults = decided_one (HasFault detail.demands base patches) (map (λ t. t.decided) told)
+pub listed_decided_one : (detail : Detail) (base : Disk) (patches : List Patch) (listed others : List ListedFault)
+    → AreListedFaults detail base patches listed → AreListedFaults detail base patches others → listed ≡ others
+listed_decided_one detail base patches listed others is also =
+    let faults = decided_one (HasFault detail.demands base patches) (map (λ t. t.decided) listed)
     (map (λ t. t.decided) others) is.decided also.decided in
-    let firsts = subst (λ some. AreSections detail base patches some (map (λ t. t.first) told))
-    (same_parts (λ (t : ToldDecided). t.decided) (λ (f : DecidedFault). f.first) told others faults) is.firsts in
-    same_told (λ (t : ToldDecided). t.decided) (λ (t : ToldDecided). t.first) told_one told others faults
-    (sections_one detail base patches (map (λ t. t.decided.first) others) (map (λ t. t.first) told)
+    let firsts = subst (λ some. AreSections detail base patches some (map (λ t. t.first) listed))
+    (same_parts (λ (t : ListedFault). t.decided) (λ (f : DecidedFault). f.first) listed others faults) is.firsts in
+    same_listed (λ (t : ListedFault). t.decided) (λ (t : ListedFault). t.first) listed_one listed others faults
+    (sections_one detail base patches (map (λ t. t.decided.first) others) (map (λ t. t.first) listed)
     (map (λ t. t.first) others) firsts also.firsts)
 
 module _ (settings : Settings) where
@@ -62,7 +62,8 @@ module _ (settings : Settings) where
   decision_one demands base last patches text other number more graph is also =
       let total : is.total ≡ also.total = one_number (IsClosed (deps_of patches)) is.total also.total is.counted
       also.counted in
-      let told : is.told ≡ also.told = told_decided_one (detail_of settings demands) base patches is.told also.told
+      let listed : is.listed ≡ also.listed =
+      listed_decided_one (detail_of settings demands) base patches is.listed also.listed
       is.are
       also.are in (
         is.whole ∙ ((λ i. decision_bytes settings (record {
@@ -70,7 +71,7 @@ module _ (settings : Settings) where
           closed = total i;
           explanation = when settings.explain (explanation (ordering_rules settings) base last patches);
           promises = if settings.explain then demands.promises else None;
-          faults = told i;
+          faults = listed i;
         })) ∙ sym also.whole),
-        is.number_of ∙ (ap (λ (some : List ToldDecided). length some) told ∙ sym also.number_of),
+        is.number_of ∙ (ap (λ (some : List ListedFault). length some) listed ∙ sym also.number_of),
       )

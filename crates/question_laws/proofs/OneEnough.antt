@@ -15,10 +15,10 @@ use Rattle.crash_model.specs.Trace.{IsGraphOf}
 use Rattle.crash_model.specs.Tracing.{Tracing}
 use Rattle.crash_model.specs.declared.patches.Patch.{Patch}
 use Rattle.crash_model.specs.declared.settings.Settings.{Settings}
-use Rattle.question_model.specs.ToldDecided.{ToldDecided}
+use Rattle.question_model.specs.ListedFault.{ListedFault}
 use Rattle.question_model.specs.Enough.{IsMinimalEnough, IsNeeded}
-use Rattle.question_model.specs.EnoughReport.{IsEnoughReport, IsToldGroup, rules_report_bytes}
-use Rattle.question_laws.proofs.OneFirst.{told_any_one, told_group_one}
+use Rattle.question_model.specs.EnoughReport.{IsEnoughReport, IsListedGroup, rules_report_bytes}
+use Rattle.question_laws.proofs.OneFirst.{listed_any_one, listed_group_one}
 use Rattle.worked_example_laws.proofs.Orders.{same_keyed}
 
 module _ (settings : Settings) where
@@ -37,9 +37,9 @@ module _ (settings : Settings) where
       one_list (IsNeeded demands base last rules) (map (λ t. t.group) is.needs)
       (map (λ t. t.group) also.needs) is.needed
       also.needed in
-      let needs : is.needs ≡ also.needs = same_keyed (λ t. t.group) (IsToldGroup detail rules base last)
-      (told_group_one detail rules base last) is.needs also.needs groups is.told also.told in
-      let first : is.first ≡ also.first = told_any_one detail base patches is.first also.first is.any also.any in (
+      let needs : is.needs ≡ also.needs = same_keyed (λ t. t.group) (IsListedGroup detail rules base last)
+      (listed_group_one detail rules base last) is.needs also.needs groups is.listed also.listed in
+      let first : is.first ≡ also.first = listed_any_one detail base patches is.first also.first is.any also.any in (
         is.whole ∙ ((λ i. rules_report_bytes settings (record {
           patches = length patches;
           closed = total i;
@@ -49,5 +49,5 @@ module _ (settings : Settings) where
           needs = needs i;
           first = first i;
         })) ∙ sym also.whole),
-        is.number_of ∙ (ap (λ (some : Option ToldDecided). length (option_to_list some)) first ∙ sym also.number_of),
+        is.number_of ∙ (ap (λ (some : Option ListedFault). length (option_to_list some)) first ∙ sym also.number_of),
       )

@@ -7,14 +7,14 @@ use Rattle.crash_model.specs.Trace.{IsGraphOf}
 use Rattle.crash_model.specs.Tracing.{Tracing}
 use Rattle.crash_model.specs.declared.patches.Patch.{Patch}
 use Rattle.crash_model.specs.declared.refusals.TraceFault.{TraceFault}
-use Rattle.question_model.specs.Found.{IsCounted, AreCounted, IsShown, AreShown, AreFound}
+use Rattle.question_model.specs.SearchCounts.{IsCounted, AreCounted, IsShown, AreShown, AreSearchCounts}
 use Rattle.question_model.specs.Kinds.{kind_number}
 use Rattle.question_model.specs.Refused.{refusal_number}
 use Rattle.question_model.specs.Sequences.{CountsSequences, IsFirstSequence}
 use Rattle.question_model.specs.Workloads.{Search, workload_at, trace_at, HasPatches, IsWorkload, IsFailingWorkload}
 use Rattle.question_model.specs.Workloads.{IsRefusedFor, HasKind, ShowsKind}
 use Rattle.question_model.specs.declared.fault_kind.FaultKind.{FaultKind}
-use Rattle.question_model.specs.declared.found.Found.{Found}
+use Rattle.question_model.specs.declared.found.SearchCounts.{SearchCounts}
 use Rattle.question_model.specs.declared.found.RefusedCount.{RefusedCount}
 use Rattle.question_model.specs.declared.found.ShownKind.{ShownKind}
 use Rattle.question_model.specs.declared.refusal.Refusal.{Refusal}
@@ -36,7 +36,7 @@ module _ (s : Search) where
       → HasPatches s places demands patches → HasPatches s places more others → (demands ≡ more) × (patches ≡ others)
   patches_one places demands more patches others is also =
       let lasts : is.last ≡ also.last = last_one (trace_at s places) is.last also.last is.traced also.traced in (
-        one_demands s.asked s.base (workload_at s places) demands more is.told also.told,
+        one_demands s.asked s.base (workload_at s places) demands more is.demanded also.demanded,
         graph_one s.rules s.base also.last patches others
             (subst (λ last. IsGraphOf s.rules s.base last patches) lasts is.graph) also.graph,
       )
@@ -87,7 +87,7 @@ module _ (s : Search) where
       (λ k here. are.every k.kind k.places.items here.earliest.among)
       (λ k here. also.every k.kind k.places.items here.earliest.among)
 
-  pub found_one : (found other : Found) → AreFound s found → AreFound s other → found ≡ other
+  pub found_one : (found other : SearchCounts) → AreSearchCounts s found → AreSearchCounts s other → found ≡ other
   found_one found other is also =
       let workloads : found.workloads ≡ other.workloads = count_one (IsWorkload s) found.workloads other.workloads
       is.workloads also.workloads in

@@ -17,25 +17,25 @@ use Rattle.crash_model.specs.Trace.{IsGraphOf}
 use Rattle.crash_model.specs.Tracing.{Tracing}
 use Rattle.crash_model.specs.declared.patches.Patch.{Patch}
 use Rattle.crash_model.specs.declared.settings.Settings.{Settings}
-use Rattle.question_model.specs.ToldDecided.{ToldDecided}
+use Rattle.question_model.specs.ListedFault.{ListedFault}
 use Rattle.question_model.specs.EnoughLines.{all_waits, IsMinimalLines, IsNeededLines}
-use Rattle.question_model.specs.EnoughReport.{ToldGroup, enough_bytes}
-use Rattle.question_model.specs.LinesReport.{IsToldLines, line_choices, IsLinesReport}
-use Rattle.question_laws.proofs.OneFirst.{told_any_one, told_by_one, same_group}
+use Rattle.question_model.specs.EnoughReport.{ListedGroup, enough_bytes}
+use Rattle.question_model.specs.LinesReport.{IsListedLines, line_choices, IsLinesReport}
+use Rattle.question_laws.proofs.OneFirst.{listed_any_one, listed_by_one, same_group}
 use Rattle.worked_example_laws.proofs.Orders.{same_keyed}
 
 module _ (settings : Settings) where
-  told_lines_one : (demands : Demands) (base : Disk) (s : Tracing) (told other : ToldGroup)
-      → IsToldLines settings demands base s told → IsToldLines settings demands base s other
-      → told.group ≡ other.group → told ≡ other
-  told_lines_one demands base s told other is also same =
-      let here : IsToldLines settings demands base s (record { group = other.group; fault = told.fault }) =
-      subst (λ (group : ℕ). IsToldLines settings demands base s (record { group = group; fault = told.fault })) same
+  listed_lines_one : (demands : Demands) (base : Disk) (s : Tracing) (listed other : ListedGroup)
+      → IsListedLines settings demands base s listed → IsListedLines settings demands base s other
+      → listed.group ≡ other.group → listed ≡ other
+  listed_lines_one demands base s listed other is also same =
+      let here : IsListedLines settings demands base s (record { group = other.group; fault = listed.fault }) =
+      subst (λ (group : ℕ). IsListedLines settings demands base s (record { group = group; fault = listed.fault })) same
       is in
       let others = difference_of (all_waits s.waits) other.group in
-      same_group told other same
-      (told_by_one (detail_of settings (demands_waiting s.waits others.0 demands)) (ordering_rules settings) base
-      (tracing_waiting others.0 s) told.fault other.fault (here others.0 others.1) (also others.0 others.1))
+      same_group listed other same
+      (listed_by_one (detail_of settings (demands_waiting s.waits others.0 demands)) (ordering_rules settings) base
+      (tracing_waiting others.0 s) listed.fault other.fault (here others.0 others.1) (also others.0 others.1))
 
   pub lines_one : (demands : Demands) (base : Disk) (last : Tracing) (patches : List Patch) (text other : List ℕ)
       (number more : ℕ) → IsGraphOf (ordering_rules settings) base last patches
@@ -51,9 +51,9 @@ module _ (settings : Settings) where
       one_list (IsNeededLines demands base rules last) (map (λ t. t.group) is.needs)
       (map (λ t. t.group) also.needs) is.needed
       also.needed in
-      let needs : is.needs ≡ also.needs = same_keyed (λ t. t.group) (IsToldLines settings demands base last)
-      (told_lines_one demands base last) is.needs also.needs groups is.told also.told in
-      let first : is.first ≡ also.first = told_any_one (detail_of settings demands) base patches is.first also.first
+      let needs : is.needs ≡ also.needs = same_keyed (λ t. t.group) (IsListedLines settings demands base last)
+      (listed_lines_one demands base last) is.needs also.needs groups is.listed also.listed in
+      let first : is.first ≡ also.first = listed_any_one (detail_of settings demands) base patches is.first also.first
       is.any also.any in (
         is.whole ∙ ((λ i. enough_bytes (line_choices last.waits) settings (record {
           patches = length patches;
@@ -64,5 +64,5 @@ module _ (settings : Settings) where
           needs = needs i;
           first = first i;
         })) ∙ sym also.whole),
-        is.number_of ∙ (ap (λ (some : Option ToldDecided). length (option_to_list some)) first ∙ sym also.number_of),
+        is.number_of ∙ (ap (λ (some : Option ListedFault). length (option_to_list some)) first ∙ sym also.number_of),
       )

@@ -25,21 +25,21 @@ use Rattle.question_model.specs.Answers.{IsAnswerTo}
 use Rattle.question_model.specs.Decision.{decision_bytes}
 use Rattle.question_model.specs.Enough.{rules_but, AreEnough, IsMinimalEnough, IsNeeded}
 use Rattle.question_model.specs.MinimalRules.{IsMinimalFor, IsNeededFor}
-use Rattle.question_model.specs.EnoughReport.{ToldGroup, IsToldFirst, IsToldGroup, rules_report_bytes}
+use Rattle.question_model.specs.EnoughReport.{ListedGroup, IsListedFirst, IsListedGroup, rules_report_bytes}
 use Rattle.question_model.specs.declared.decided_fault.DecidedFault.{DecidedFault}
 use Rattle.question_model.specs.declared.question.Question.TheVariants.{Decide, Enough}
 use Rattle.uniqueness_laws.proofs.OneGraph.{graph_one}
 use Rattle.worked_example_laws.specs.Computed.{closed_sets, failing_under, graph_of}
 use Rattle.worked_example_laws.specs.Spelled.{script, base_of, graph}
-use Rattle.worked_example_laws.proofs.Answering.{told_detail}
+use Rattle.worked_example_laws.proofs.Answering.{reported_detail}
 use Rattle.worked_example_laws.proofs.FailingSets.{failing_quickly_under, failing_under_are, under_at, in_under}
 use Rattle.worked_example_laws.proofs.Graphs.{earlier, graph_is}
-use Rattle.question_laws.proofs.DecidedIf.{is_decided, told_one, told_all, failing_if, told_if, led_if}
+use Rattle.question_laws.proofs.DecidedIf.{is_decided, listed_one, listed_all, failing_if, listed_if, led_if}
 use Rattle.question_laws.proofs.RulesIf.{are_minimal, are_needed, all_minimal, all_needed}
-use Rattle.question_laws.proofs.SomeFirst.{first_told}
+use Rattle.question_laws.proofs.SomeFirst.{first_listed}
 use Rattle.question_laws.proofs.SomeSets.{all_like}
 use Rattle.question_laws.proofs.Testing.{is_no_set}
-use Rattle.question_laws.proofs.Told.{last_of, demanded, is_traced, has_graph, are_demanded, counted}
+use Rattle.question_laws.proofs.Listed.{last_of, demanded, is_traced, has_graph, are_demanded, counted}
 
 -- ---- which rules are enough, as a test
 
@@ -90,44 +90,46 @@ patches_but rules base s g = graph_of (rules_but rules g.group) base s
 abbrev pub is_group : Detail → List Rule → Disk → Tracing → Group → Bool
 is_group detail rules base s g = is_decided detail base (patches_but rules base s g) g.sets (g.first ∷ g.rest)
 
-abbrev pub told_group : Detail → List Rule → Disk → Tracing → Group → ToldGroup
-told_group detail rules base s g =
-    record { group = g.group; fault = told_one detail base (patches_but rules base s g) g.first }
+abbrev pub listed_group : Detail → List Rule → Disk → Tracing → Group → ListedGroup
+listed_group detail rules base s g =
+    record { group = g.group; fault = listed_one detail base (patches_but rules base s g) g.first }
 
 module _ (detail : Detail) (rules : List Rule) (base : Disk) (s : Tracing) where
   -- the first of what is decided of the patches by some rules
   pub first_if : (sets : List ℕ) (first : DecidedFault) (rest : List DecidedFault)
       → is_decided detail base (graph_of rules base s) sets (first ∷ rest) ≡ true
-      → HasGraphBy rules base s (λ patches. IsToldFirst detail base patches (told_one detail base
+      → HasGraphBy rules base s (λ patches. IsListedFirst detail base patches (listed_one detail base
       (graph_of rules base s) first))
   first_if sets first rest e =
       let patches = graph_of rules base s in
       let before = earlier rules base s in
-      let told = told_if detail base patches before sets (first ∷ rest) e in
+      let listed = listed_if detail base patches before sets (first ∷ rest) e in
       let led = led_if detail base patches before sets (first ∷ rest) e in (
         patches,
         graph_is rules base s,
-        first_told detail base patches (told_one detail base patches first) (told_all detail base patches rest) told
+        first_listed detail base patches (listed_one detail base patches first)
+            (listed_all detail base patches rest) listed
             led,
       )
 
 group_if : (detail : Detail) (rules : List Rule) (base : Disk) (s : Tracing) (g : Group)
-    → is_group detail rules base s g ≡ true → IsToldGroup detail rules base s (told_group detail rules base s g)
+    → is_group detail rules base s g ≡ true → IsListedGroup detail rules base s (listed_group detail rules base s g)
 group_if detail rules base s g e = first_if detail (rules_but rules g.group) base s g.sets g.first g.rest e
 
--- what is told of groups that pass a test
-module _ (IsTold : ToldGroup → Type 0) (passes : Group → Bool) (tell : Group → ToldGroup)
-    (told : (g : Group) → passes g ≡ true → IsTold (tell g)) where
-  pub groups_if : (groups : List Group) → list_all passes groups ≡ true → All IsTold (map tell groups)
-  groups_if [] e = All-nil IsTold
+-- what is listed of groups that pass a test
+module _ (IsListed : ListedGroup → Type 0) (passes : Group → Bool) (listed_as : Group → ListedGroup)
+    (listed : (g : Group) → passes g ≡ true → IsListed (listed_as g)) where
+  pub groups_if : (groups : List Group) → list_all passes groups ≡ true → All IsListed (map listed_as groups)
+  groups_if [] e = All-nil IsListed
   groups_if (g ∷ groups) e =
       let parts = and_parts (passes g) (list_all passes groups) e in
-      All-cons IsTold (tell g) (map tell groups) (told g parts.0) (groups_if groups parts.1)
+      All-cons IsListed (listed_as g) (map listed_as groups) (listed g parts.0) (groups_if groups parts.1)
 
-pub same_groups : (tell : Group → ToldGroup) → ((g : Group) → g.group ≡ (tell g).group) → (groups : List Group)
-    → map (λ g. g.group) groups ≡ map (λ t. t.group) (map tell groups)
-same_groups tell same [] = refl
-same_groups tell same (g ∷ groups) = λ i. same g i ∷ same_groups tell same groups i
+pub same_groups : (listed_as : Group → ListedGroup) → ((g : Group) → g.group ≡ (listed_as g).group)
+    → (groups : List Group)
+    → map (λ g. g.group) groups ≡ map (λ t. t.group) (map listed_as groups)
+same_groups listed_as same [] = refl
+same_groups listed_as same (g ∷ groups) = λ i. same g i ∷ same_groups listed_as same groups i
 
 -- ---- a script
 
@@ -147,13 +149,14 @@ module _ (settings : Settings) (before after : List Act) (closed : ℕ) (text : 
   demands = demanded settings before after
 
   abbrev detail : Detail
-  detail = told_detail settings before after
+  detail = reported_detail settings before after
 
   abbrev rules : List Rule
   rules = ordering_rules settings
 
   pub decided : (sets : List ℕ) (fs : List DecidedFault)
-      → is_decided (told_detail settings before after) (base_of settings before) (graph settings before after) sets fs
+      → is_decided (reported_detail settings before after) (base_of settings before)
+      (graph settings before after) sets fs
       ≡ true
       → text ≡ decision_bytes settings (record {
         patches = length (graph settings before after);
@@ -161,7 +164,7 @@ module _ (settings : Settings) (before after : List Act) (closed : ℕ) (text : 
         explanation = when settings.explain (explanation (ordering_rules settings) (base_of settings before)
             (last_of settings before after) (graph settings before after));
         promises = if settings.explain then (demanded settings before after).promises else None;
-        faults = told_all (told_detail settings before after) (base_of settings before)
+        faults = listed_all (reported_detail settings before after) (base_of settings before)
             (graph settings before after) fs;
       })
       → IsAnswerTo Decide (script before after) settings (Reported text (length fs))
@@ -175,17 +178,17 @@ module _ (settings : Settings) (before after : List Act) (closed : ℕ) (text : 
     report = record {
       total = closed;
       counted = counted settings before after closed many;
-      told = told_all detail base patches fs;
-      are = told_if detail base patches (earlier rules base last) sets fs passes;
+      listed = listed_all detail base patches fs;
+      are = listed_if detail base patches (earlier rules base last) sets fs passes;
       led = led_if detail base patches (earlier rules base last) sets fs passes;
-      number_of = sym (length-map fs (told_one detail base patches));
+      number_of = sym (length-map fs (listed_one detail base patches));
       whole = whole;
     };
   }
 
   -- where no set fails by all rules
   pub needed : (sets : List ℕ) (groups : List Group)
-      → is_decided (told_detail settings before after) (base_of settings before) (graph settings before after) [] []
+      → is_decided (reported_detail settings before after) (base_of settings before) (graph settings before after) [] []
       ≡ true
       → are_minimal (are_enough (demanded settings before after) (base_of settings before)
       (last_of settings before after))
@@ -193,7 +196,7 @@ module _ (settings : Settings) (before after : List Act) (closed : ℕ) (text : 
       → are_needed (are_enough (demanded settings before after) (base_of settings before)
       (last_of settings before after))
       (ordering_rules settings) (map (λ g. g.group) groups) ≡ true
-      → list_all (is_group (told_detail settings before after) (ordering_rules settings) (base_of settings before)
+      → list_all (is_group (reported_detail settings before after) (ordering_rules settings) (base_of settings before)
       (last_of settings before after)) groups ≡ true
       → text ≡ rules_report_bytes settings (record {
         patches = length (graph settings before after);
@@ -202,7 +205,8 @@ module _ (settings : Settings) (before after : List Act) (closed : ℕ) (text : 
             (last_of settings before after) (graph settings before after));
         promises = if settings.explain then (demanded settings before after).promises else None;
         enough = sets;
-        needs = map (told_group (told_detail settings before after) (ordering_rules settings) (base_of settings before)
+        needs = map (listed_group (reported_detail settings before after) (ordering_rules settings)
+            (base_of settings before)
             (last_of settings before after)) groups;
         first = None;
       })
@@ -225,17 +229,17 @@ module _ (settings : Settings) (before after : List Act) (closed : ℕ) (text : 
               (λ s is. record { places = is.places; enough = is.enough; minimal = is.minimal }) sets
               (all_minimal (AreEnough demands base last) (are_enough demands base last) (enough_if demands base last)
               (not_enough_if demands base last) rules sets minimal);
-          needs = map (told_group detail rules base last) groups;
+          needs = map (listed_group detail rules base last) groups;
           needed = subst (λ (some : List ℕ). AreAllInOrder (IsNeeded demands base last rules) some)
-              (same_groups (told_group detail rules base last) (λ g. refl) groups)
+              (same_groups (listed_group detail rules base last) (λ g. refl) groups)
               (all_like (IsNeededFor (AreEnough demands base last) rules) (IsNeeded demands base last rules)
               (λ s is. record { places = is.places; some = is.some; needed = is.needed; minimal = is.minimal })
               (λ s is. record { places = is.places; some = is.some; needed = is.needed; minimal = is.minimal })
               (map (λ g. g.group) groups)
               (all_needed (AreEnough demands base last) (are_enough demands base last) (enough_if demands base last)
               (not_enough_if demands base last) rules (map (λ g. g.group) groups) need));
-          told = groups_if (IsToldGroup detail rules base last) (is_group detail rules base last)
-              (told_group detail rules base last) (group_if detail rules base last) groups each;
+          listed = groups_if (IsListedGroup detail rules base last) (is_group detail rules base last)
+              (listed_group detail rules base last) (group_if detail rules base last) groups each;
           first = None;
           any = λ f s has. in_none s ((failing.exactly s).1 has.failing);
           number_of = refl;

@@ -29,21 +29,21 @@ use Rattle.crash_model.specs.declared.settings.Settings.{Settings}
 use Rattle.crash_model.specs.declared.steps.Act.{Act}
 use Rattle.question_model.specs.Answers.{IsAnswerTo}
 use Rattle.question_model.specs.EnoughLines.{all_waits, AreEnoughLines, IsNeededLines}
-use Rattle.question_model.specs.EnoughReport.{ToldGroup, IsToldFirst, enough_bytes}
-use Rattle.question_model.specs.LinesReport.{IsToldLines, line_choices}
+use Rattle.question_model.specs.EnoughReport.{ListedGroup, IsListedFirst, enough_bytes}
+use Rattle.question_model.specs.LinesReport.{IsListedLines, line_choices}
 use Rattle.question_model.specs.declared.question.Question.TheVariants.{EnoughLines}
 use Rattle.question_model.specs.declared.question.TheConstants.{MAX_SYNCS}
 use Rattle.worked_example_laws.specs.Computed.{closed_sets, graph_of, set_below}
 use Rattle.worked_example_laws.specs.Spelled.{script, base_of, graph}
-use Rattle.worked_example_laws.proofs.Answering.{told_detail}
+use Rattle.worked_example_laws.proofs.Answering.{reported_detail}
 use Rattle.worked_example_laws.proofs.Graphs.{earlier, from_set_below, to_set_below}
 use Rattle.question_laws.proofs.ChoicesIf.{are_minimal, are_needed, all_minimal, all_needed}
-use Rattle.question_laws.proofs.DecidedIf.{is_decided, told_one, failing_if}
+use Rattle.question_laws.proofs.DecidedIf.{is_decided, listed_one, failing_if}
 use Rattle.question_laws.proofs.Scripted.{Group, are_enough, enough_if, not_enough_if, first_if, groups_if, same_groups}
 use Rattle.question_laws.proofs.SomeLines.{difference_one, small_part, AreLines, IsEnoughBut, minimal_lines}
 use Rattle.question_laws.proofs.SomeLines.{needed_lines, one_less}
 use Rattle.question_laws.proofs.Testing.{not_true}
-use Rattle.question_laws.proofs.Told.{last_of, demanded, is_traced, has_graph, are_demanded, counted}
+use Rattle.question_laws.proofs.Listed.{last_of, demanded, is_traced, has_graph, are_demanded, counted}
 
 -- ---- which lines are enough, as a test
 
@@ -67,9 +67,11 @@ lines_but s group = set_below (length s.waits) (λ place. not (has group place))
 but_is : (s : Tracing) (group : ℕ) → IsDifference (all_waits s.waits) group (lines_but s group)
 but_is s group = record {
   exactly = λ id. (
-    λ is. let it = from_set_below (length s.waits) (λ place. not (has group place)) id is in
-        (bit_at_ones (length s.waits) id it.0, λ has. absurd (ne_from_false (bit_at group id) 1
-        (not_true (bit_at group id == 1) it.1) has)),
+    λ is. let it = from_set_below (length s.waits) (λ place. not (has group place)) id is in (
+      bit_at_ones (length s.waits) id it.0,
+      λ has. absurd (ne_from_false (bit_at group id) 1
+          (not_true (bit_at group id == 1) it.1) has),
+    ),
     λ is. to_set_below (length s.waits) (λ place. not (has group place)) id
         (below_from_small (all_waits s.waits) (length s.waits) id (one_less (length s.waits)) is.0)
         (ap not (false_from_ne (bit_at group id) 1 is.1)),
@@ -95,19 +97,19 @@ abbrev pub is_group : Settings → Demands → Disk → Tracing → Group → Bo
 is_group settings demands base s g =
     is_decided (detail_but settings demands s g) base (patches_but settings base s g) g.sets (g.first ∷ g.rest)
 
-abbrev pub told_group : Settings → Demands → Disk → Tracing → Group → ToldGroup
-told_group settings demands base s g = record {
+abbrev pub listed_group : Settings → Demands → Disk → Tracing → Group → ListedGroup
+listed_group settings demands base s g = record {
   group = g.group;
-  fault = told_one (detail_but settings demands s g) base (patches_but settings base s g) g.first;
+  fault = listed_one (detail_but settings demands s g) base (patches_but settings base s g) g.first;
 }
 
 group_if : (settings : Settings) (demands : Demands) (base : Disk) (s : Tracing) (g : Group)
-    → is_group settings demands base s g ≡ true → IsToldLines settings demands base s
-    (told_group settings demands base s g)
+    → is_group settings demands base s g ≡ true → IsListedLines settings demands base s
+    (listed_group settings demands base s g)
 group_if settings demands base s g e rest apart =
-    let told = told_group settings demands base s g in
+    let listed = listed_group settings demands base s g in
     subst (λ (lines : ℕ). HasGraphBy (ordering_rules settings) base (tracing_waiting lines s)
-    (λ patches. IsToldFirst (detail_of settings (demands_waiting s.waits lines demands)) base patches told.fault))
+    (λ patches. IsListedFirst (detail_of settings (demands_waiting s.waits lines demands)) base patches listed.fault))
     (difference_one (all_waits s.waits) g.group (lines_but s g.group) rest (but_is s g.group) apart)
     (first_if (detail_but settings demands s g) (ordering_rules settings) base
     (tracing_waiting (lines_but s g.group) s) g.sets g.first g.rest e)
@@ -134,7 +136,7 @@ module _ (settings : Settings) (before after : List Act) (closed : ℕ) (text : 
 
   -- where no set fails if all lines wait
   pub lines_needed : (sets : List ℕ) (groups : List Group)
-      → is_decided (told_detail settings before after) (base_of settings before) (graph settings before after) [] []
+      → is_decided (reported_detail settings before after) (base_of settings before) (graph settings before after) [] []
       ≡ true
       → nat_le (length (last_of settings before after).waits) MAX_SYNCS ≡ true
       → are_minimal (length (last_of settings before after).waits)
@@ -153,13 +155,13 @@ module _ (settings : Settings) (before after : List Act) (closed : ℕ) (text : 
             (last_of settings before after) (graph settings before after));
         promises = if settings.explain then (demanded settings before after).promises else None;
         enough = sets;
-        needs = map (told_group settings (demanded settings before after) (base_of settings before)
+        needs = map (listed_group settings (demanded settings before after) (base_of settings before)
             (last_of settings before after)) groups;
         first = None;
       })
       → IsAnswerTo EnoughLines (script before after) settings (Reported text 0)
   lines_needed sets groups none few minimal need each whole =
-      let detail = told_detail settings before after in
+      let detail = reported_detail settings before after in
       let failing = failing_if detail base patches (earlier rules base last) [] [] none in
       let enough = enough_lines_if demands base rules last in
       let lacking = not_enough_lines_if demands base rules last in
@@ -180,9 +182,9 @@ module _ (settings : Settings) (before after : List Act) (closed : ℕ) (text : 
           exactly = minimal_lines demands base rules last sets
               (all_minimal (length last.waits) (AreLines demands base rules last) places parts
               (AreEnoughLines demands base rules last) test enough lacking sets minimal);
-          needs = map (told_group settings demands base last) groups;
+          needs = map (listed_group settings demands base last) groups;
           needed = subst (λ (some : List ℕ). AreAllInOrder (IsNeededLines demands base rules last) some)
-              (same_groups (told_group settings demands base last) (λ g. refl) groups)
+              (same_groups (listed_group settings demands base last) (λ g. refl) groups)
               (needed_lines demands base rules last (map (λ g. g.group) groups)
               (all_needed (length last.waits) (AreLines demands base rules last) places parts
               (IsEnoughBut demands base rules last) (λ group. test (lines_but last group))
@@ -191,8 +193,8 @@ module _ (settings : Settings) (before after : List Act) (closed : ℕ) (text : 
               (λ group e is. lacking (lines_but last group) e
               (subst (AreEnoughLines demands base rules last) (sym (but_one last group)) is))
               (map (λ g. g.group) groups) need));
-          told = groups_if (IsToldLines settings demands base last) (is_group settings demands base last)
-              (told_group settings demands base last) (group_if settings demands base last) groups each;
+          listed = groups_if (IsListedLines settings demands base last) (is_group settings demands base last)
+              (listed_group settings demands base last) (group_if settings demands base last) groups each;
           first = None;
           any = λ f s has. in_none s ((failing.exactly s).1 has.failing);
           number_of = refl;

@@ -19,12 +19,12 @@ use Rattle.question_model.specs.Workloads.{Search, IsOfPool, is_place, is_keep, 
 use Rattle.question_model.specs.declared.length.WorkloadLength.{WorkloadLength}
 use Rattle.question_model.specs.declared.question.Question.TheVariants as asks
 use Rattle.worked_example_laws.specs.Spelled.{script, base_of, trace_steps}
-use Rattle.question_laws.proofs.FoundIf.{Expected, found_of, finds, found_if, told_kind, shown_part, all_told_if}
+use Rattle.question_laws.proofs.FoundIf.{Expected, found_of, finds, found_if, listed_kind, shown_part, all_listed_if}
 use Rattle.question_laws.proofs.FoundIf.{same_shown}
-use Rattle.question_laws.proofs.NeedsIf.{NeededBy, are_enough_for, is_needed_by, told_need, enough_for_if}
+use Rattle.question_laws.proofs.NeedsIf.{NeededBy, are_enough_for, is_needed_by, listed_need, enough_for_if}
 use Rattle.question_laws.proofs.NeedsIf.{not_enough_for_if, needs_if, same_needs}
 use Rattle.question_laws.proofs.RulesIf.{are_minimal, are_needed, all_minimal, all_needed}
-use Rattle.question_laws.proofs.Told.{is_started, started}
+use Rattle.question_laws.proofs.Listed.{is_started, started}
 
 -- a pool may have all of the steps
 abbrev pub are_of_pool : List Step → Bool
@@ -49,7 +49,8 @@ module _ (settings : Settings) (before after : List Act) (longest : WorkloadLeng
 
   pub searched : text ≡ search_bytes settings (operations_of longest)
       (length (places_of (trace_steps before after))) (found_of e)
-      (map (told_kind (search_of settings (operations_of longest) (base_of settings before) (trace_steps before after))
+      (map (listed_kind
+      (search_of settings (operations_of longest) (base_of settings before) (trace_steps before after))
       settings.explain) e.kinds)
       → IsAnswerTo (asks.Search longest) (script before after) settings
       (Reported text (if length e.failing == 0 then 0 else 1))
@@ -61,9 +62,9 @@ module _ (settings : Settings) (before after : List Act) (longest : WorkloadLeng
     report = record {
       found = found_of e;
       exactly = found_if s e found;
-      told = map (told_kind s settings.explain) e.kinds;
+      listed = map (listed_kind s settings.explain) e.kinds;
       kinds = same_shown s settings.explain e.kinds;
-      each = all_told_if s settings.explain e.kinds (shown_part s e found);
+      each = all_listed_if s settings.explain e.kinds (shown_part s e found);
       whole = whole;
       number_of = refl;
     };
@@ -81,7 +82,8 @@ module _ (settings : Settings) (before after : List Act) (longest : WorkloadLeng
       settings.explain) needs ≡ true
       → text ≡ search_rules_bytes settings (operations_of longest) (length (places_of (trace_steps before after)))
       (found_of e) sets
-      (map (told_need (search_of settings (operations_of longest) (base_of settings before) (trace_steps before after))
+      (map (listed_need
+      (search_of settings (operations_of longest) (base_of settings before) (trace_steps before after))
       settings.explain) needs)
       → IsAnswerTo (asks.SearchRules longest) (script before after) settings
       (Reported text (if length e.failing == 0 then 0 else 1))
@@ -96,11 +98,11 @@ module _ (settings : Settings) (before after : List Act) (longest : WorkloadLeng
       enough = sets;
       minimal = all_minimal (AreEnoughFor s) (are_enough_for s) (enough_for_if s)
           (not_enough_for_if s) s.rules sets minimal;
-      needs = map (told_need s settings.explain) needs;
+      needs = map (listed_need s settings.explain) needs;
       needed = subst (λ (some : List ℕ). AreAllInOrder (IsNeededInSearch s) some) (same_needs s settings.explain needs)
           (all_needed (AreEnoughFor s) (are_enough_for s) (enough_for_if s) (not_enough_for_if s) s.rules
           (map (λ k. k.group) needs) need);
-      told = needs_if s settings.explain needs each;
+      listed = needs_if s settings.explain needs each;
       whole = whole;
       number_of = refl;
     };

@@ -14,28 +14,28 @@ use Rattle.crash_model.specs.declared.settings.Settings.{Settings}
 use Rattle.question_model.specs.Decision.{Decision, IsDecision, decision_bytes}
 use Rattle.worked_example_laws.specs.Computed.{closed_sets}
 use Rattle.worked_example_laws.proofs.FailingSets.{counts_closed}
-use Rattle.question_laws.proofs.SomeFirst.{told_decided}
+use Rattle.question_laws.proofs.SomeFirst.{listed_decided}
 
 pub some_decision : (settings : Settings) (demands : Demands) (base : Disk) (last : Tracing) (patches : List Patch)
     → IsGraphOf (ordering_rules settings) base last patches → (text : List ℕ) × (number : ℕ)
     × IsDecision settings demands base last patches text number
 some_decision settings demands base last patches graph =
-    let told = told_decided settings demands base patches graph.earlier in
+    let listed = listed_decided settings demands base patches graph.earlier in
     let decision : Decision = record {
       patches = length patches;
       closed = length (closed_sets (deps_of patches));
       explanation = when settings.explain (explanation (ordering_rules settings) base last patches);
       promises = if settings.explain then demands.promises else None;
-      faults = told.0;
+      faults = listed.0;
     } in (
       decision_bytes settings decision,
-      length told.0,
+      length listed.0,
       record {
         total = length (closed_sets (deps_of patches));
         counted = counts_closed patches (length (closed_sets (deps_of patches))) graph.earlier refl;
-        told = told.0;
-        are = told.1;
-        led = told.2;
+        listed = listed.0;
+        are = listed.1;
+        led = listed.2;
         number_of = refl;
         whole = refl;
       },

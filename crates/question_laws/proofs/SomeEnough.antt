@@ -20,28 +20,29 @@ use Rattle.crash_model.specs.declared.rules.Rule.{Rule}
 use Rattle.crash_model.specs.declared.settings.Settings.{Settings}
 use Rattle.question_model.specs.Enough.{rules_but, AreEnough, IsMinimalEnough, IsNeeded}
 use Rattle.question_model.specs.MinimalRules.{IsMinimalFor, IsNeededFor}
-use Rattle.question_model.specs.ToldDecided.{ToldDecided}
-use Rattle.question_model.specs.EnoughReport.{ToldGroup, IsToldFirst, IsToldGroup, EnoughFound, rules_report_bytes}
+use Rattle.question_model.specs.ListedFault.{ListedFault}
+use Rattle.question_model.specs.EnoughReport.{ListedGroup, IsListedFirst, IsListedGroup, EnoughFound}
+use Rattle.question_model.specs.EnoughReport.{rules_report_bytes}
 use Rattle.question_model.specs.EnoughReport.{IsEnoughReport}
 use Rattle.uniqueness_laws.proofs.OneGraph.{graph_one}
 use Rattle.worked_example_laws.specs.Computed.{closed_sets, graph_of}
 use Rattle.worked_example_laws.proofs.FailingSets.{counts_closed}
 use Rattle.worked_example_laws.proofs.Graphs.{graph_is, earlier}
-use Rattle.question_laws.proofs.SomeFirst.{failing_or_not, told_any, told_first}
+use Rattle.question_laws.proofs.SomeFirst.{failing_or_not, listed_any, listed_first}
 use Rattle.question_laws.proofs.SomeRules.{some_minimal, some_needed}
 use Rattle.question_laws.proofs.SomeSets.{all_like}
 
 -- what a report shows of groups, if it can show each
-module _ (IsShown : ℕ → Type 0) (IsTold : ToldGroup → Type 0)
-    (tell : (group : ℕ) → IsShown group → (told : ToldGroup) × IsTold told × (told.group ≡ group)) where
-  pub told_groups : (groups : List ℕ) → ((group : ℕ) → Contains groups group → IsShown group)
-      → (told : List ToldGroup) × All IsTold told × (groups ≡ map (λ t. t.group) told)
-  told_groups [] each = ([], All-nil IsTold, refl)
-  told_groups (group ∷ groups) each =
-      let one = tell group (each group (in_front group groups)) in
-      let rest = told_groups groups (λ g is. each g (in_rest group groups g is)) in (
+module _ (IsShown : ℕ → Type 0) (IsListed : ListedGroup → Type 0)
+    (listed_as : (group : ℕ) → IsShown group → (listed : ListedGroup) × IsListed listed × (listed.group ≡ group)) where
+  pub listed_groups : (groups : List ℕ) → ((group : ℕ) → Contains groups group → IsShown group)
+      → (listed : List ListedGroup) × All IsListed listed × (groups ≡ map (λ t. t.group) listed)
+  listed_groups [] each = ([], All-nil IsListed, refl)
+  listed_groups (group ∷ groups) each =
+      let one = listed_as group (each group (in_front group groups)) in
+      let rest = listed_groups groups (λ g is. each g (in_rest group groups g is)) in (
         one.0 ∷ rest.0,
-        All-cons IsTold one.0 rest.0 one.1 rest.1,
+        All-cons IsListed one.0 rest.0 one.1 rest.1,
         front (sym one.2) rest.2,
       )
     where
@@ -65,18 +66,19 @@ module _ (settings : Settings) (demands : Demands) (base : Disk) (s : Tracing) w
       by (inr none) = yes (graph_of rules base s, graph_is rules base s, none)
 
   -- the first fault by rules that are not enough
-  pub told_by : (rules : List Rule) → ¬ (AreEnough demands base s rules) → (fault : ToldDecided)
-      × HasGraphBy rules base s (λ patches. IsToldFirst (detail_of settings demands) base patches fault)
-  told_by rules lacking = by (failing_by rules)
+  pub listed_by : (rules : List Rule) → ¬ (AreEnough demands base s rules) → (fault : ListedFault)
+      × HasGraphBy rules base s (λ patches. IsListedFirst (detail_of settings demands) base patches fault)
+  listed_by rules lacking = by (failing_by rules)
     where
       by : ((set : ℕ) × IsFailingUnder demands base (graph_of rules base s) set)
           ⊎ ((set : ℕ) → ¬ (IsFailingUnder demands base (graph_of rules base s) set))
-          → (fault : ToldDecided)
-          × HasGraphBy rules base s (λ patches. IsToldFirst (detail_of settings demands) base patches fault)
+          → (fault : ListedFault)
+          × HasGraphBy rules base s (λ patches. IsListedFirst (detail_of settings demands) base patches fault)
       by (inr none) = absurd (lacking (graph_of rules base s, graph_is rules base s, none))
       by (inl fails) =
-          let told = told_first settings demands base (graph_of rules base s) (earlier rules base s) fails.0 fails.1 in
-          (told.0, (graph_of rules base s, graph_is rules base s, told.1))
+          let listed =
+          listed_first settings demands base (graph_of rules base s) (earlier rules base s) fails.0 fails.1 in
+          (listed.0, (graph_of rules base s, graph_is rules base s, listed.1))
 
   module _ (rules : List Rule) where
     pub all_minimal : (sets : List ℕ) × AreAllInOrder (IsMinimalEnough demands base s rules) sets
@@ -99,11 +101,11 @@ module _ (settings : Settings) (demands : Demands) (base : Disk) (s : Tracing) w
         )
 
     -- what a report shows of a group
-    told_group : (group : ℕ) → IsNeeded demands base s rules group → (told : ToldGroup)
-        × IsToldGroup (detail_of settings demands) rules base s told × (told.group ≡ group)
-    told_group group is =
-        let told = told_by (rules_but rules group) is.needed in
-        (record { group = group; fault = told.0 }, told.1, refl)
+    listed_group : (group : ℕ) → IsNeeded demands base s rules group → (listed : ListedGroup)
+        × IsListedGroup (detail_of settings demands) rules base s listed × (listed.group ≡ group)
+    listed_group group is =
+        let listed = listed_by (rules_but rules group) is.needed in
+        (record { group = group; fault = listed.0 }, listed.1, refl)
 
 pub some_enough : (settings : Settings) (demands : Demands) (base : Disk) (last : Tracing) (patches : List Patch)
     → IsGraphOf (ordering_rules settings) base last patches → (text : List ℕ) × (number : ℕ)
@@ -112,10 +114,11 @@ some_enough settings demands base last patches graph =
     let rules = ordering_rules settings in
     let enough = all_minimal settings demands base last rules in
     let groups = all_needed settings demands base last rules in
-    let needs = told_groups (IsNeeded demands base last rules)
-    (IsToldGroup (detail_of settings demands) rules base last) (told_group settings demands base last rules) groups.0
+    let needs = listed_groups (IsNeeded demands base last rules)
+    (IsListedGroup (detail_of settings demands) rules base last)
+    (listed_group settings demands base last rules) groups.0
     (λ group is. (groups.1.exactly group).0 is) in
-    let first = told_any settings demands base patches graph.earlier in
+    let first = listed_any settings demands base patches graph.earlier in
     let report : EnoughFound = record {
       patches = length patches;
       closed = length (closed_sets (deps_of patches));
@@ -134,7 +137,7 @@ some_enough settings demands base last patches graph =
         exactly = enough.1;
         needs = needs.0;
         needed = subst (λ (some : List ℕ). AreAllInOrder (IsNeeded demands base last rules) some) needs.2 groups.1;
-        told = needs.1;
+        listed = needs.1;
         first = first.0;
         any = first.1;
         number_of = refl;

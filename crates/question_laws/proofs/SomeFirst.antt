@@ -1,4 +1,4 @@
--- Which faults the closed sets have can be told, and of these the first.
+-- Which faults the closed sets have can be listed, and of these the first.
 use Rattle.std.proofs.Common.{◌≡◌, ℕ, List, [], ◌∷◌, map, All, refl, sym, subst, ap}
 use Rattle.std.proofs.Common.{inl, inr, false}
 use Rattle.std.specs.Prelude.{◌⊎◌, Option, Some, None}
@@ -8,7 +8,7 @@ use Rattle.patch_sets.specs.Closed.{AreEarlier}
 use Rattle.patch_sets.proofs.Lists.{front_or_rest, in_front, in_none}
 use Rattle.report_model.specs.Answer.{IsBody, detail_of}
 use Rattle.report_model.specs.Report.{Detail, AreSections, IsLed}
-use Rattle.report_model.specs.Summary.{ToldFault}
+use Rattle.report_model.specs.Summary.{CountedFault}
 use Rattle.report_model.specs.Whole.{Body, Sets, Faults, Rules}
 use Rattle.crash_model.specs.Disk.{Disk}
 use Rattle.crash_model.specs.Patches.{deps_of, image_of}
@@ -24,9 +24,9 @@ use Rattle.crash_model.specs.declared.patches.Patch.{Patch}
 use Rattle.crash_model.specs.declared.settings.Settings.{Settings}
 use Rattle.crash_model.specs.declared.visit.ReportBy.TheVariants.{BySet, ByFault, ByRule}
 use Rattle.question_model.specs.Decided.{AreDecided}
-use Rattle.question_model.specs.Decision.{AreToldDecided}
-use Rattle.question_model.specs.ToldDecided.{ToldDecided}
-use Rattle.question_model.specs.EnoughReport.{IsToldFirst, IsToldAny}
+use Rattle.question_model.specs.Decision.{AreListedFaults}
+use Rattle.question_model.specs.ListedFault.{ListedFault}
+use Rattle.question_model.specs.EnoughReport.{IsListedFirst, IsListedIfAny}
 use Rattle.question_model.specs.declared.decided_fault.DecidedFault.{DecidedFault}
 use Rattle.uniqueness_laws.proofs.OneGraph.{heads}
 use Rattle.worked_example_laws.proofs.SomeBody.{some_body, some_failing}
@@ -37,8 +37,8 @@ use Rattle.worked_example_laws.proofs.Orders.{Ascends, ascends, in_pairs, at_key
 abbrev decided_of : FaultRow → DecidedFault
 decided_of row = record { fault = row.fault; first = row.first }
 
-abbrev told_of : ToldFault → ToldDecided
-told_of t = record { decided = decided_of t.row; first = t.first }
+abbrev listed_of : CountedFault → ListedFault
+listed_of t = record { decided = decided_of t.row; first = t.first }
 
 module _ (has : Fault → ℕ → Type 0) where
   in_decided : (rows : List FaultRow) (f : DecidedFault) → Contains (map decided_of rows) f → (row : FaultRow)
@@ -74,45 +74,46 @@ module _ (has : Fault → ℕ → Type 0) where
     every = λ fault set is. subst (λ (fs : List Fault). Contains fs fault) (same_faults rows) (are.every fault set is);
   }
 
-same_decided : (told : List ToldFault) → map decided_of (map (λ t. t.row) told)
-    ≡ map (λ t. t.decided) (map told_of told)
+same_decided : (listed : List CountedFault) → map decided_of (map (λ t. t.row) listed)
+    ≡ map (λ t. t.decided) (map listed_of listed)
 same_decided [] = refl
-same_decided (t ∷ told) = ap (λ (fs : List DecidedFault). decided_of t.row ∷ fs) (same_decided told)
+same_decided (t ∷ listed) = ap (λ (fs : List DecidedFault). decided_of t.row ∷ fs) (same_decided listed)
 
-same_firsts : (told : List ToldFault) → map (λ t. t.row.first) told ≡ map (λ t. t.decided.first) (map told_of told)
+same_firsts : (listed : List CountedFault) → map (λ t. t.row.first) listed ≡ map (λ t. t.decided.first)
+    (map listed_of listed)
 same_firsts [] = refl
-same_firsts (t ∷ told) = ap (λ (fs : List ℕ). t.row.first ∷ fs) (same_firsts told)
+same_firsts (t ∷ listed) = ap (λ (fs : List ℕ). t.row.first ∷ fs) (same_firsts listed)
 
-same_sections : (told : List ToldFault) → map (λ t. t.first) told ≡ map (λ t. t.first) (map told_of told)
+same_sections : (listed : List CountedFault) → map (λ t. t.first) listed ≡ map (λ t. t.first) (map listed_of listed)
 same_sections [] = refl
-same_sections (t ∷ told) = cc (same_sections told)
+same_sections (t ∷ listed) = cc (same_sections listed)
 
-told_led : (patches : List Patch) (told : List ToldFault) → All (λ t. IsLed patches t.first) told
-    → All (λ t. IsLed patches t.first) (map told_of told)
-told_led patches [] all = All-nil (λ t. IsLed patches t.first)
-told_led patches (t ∷ told) all = All-cons (λ t. IsLed patches t.first) (told_of t) (map told_of told)
-    (All-head (λ t. IsLed patches t.first) t told all)
-    (told_led patches told (All-tail (λ t. IsLed patches t.first) t told all))
+listed_led : (patches : List Patch) (listed : List CountedFault) → All (λ t. IsLed patches t.first) listed
+    → All (λ t. IsLed patches t.first) (map listed_of listed)
+listed_led patches [] all = All-nil (λ t. IsLed patches t.first)
+listed_led patches (t ∷ listed) all = All-cons (λ t. IsLed patches t.first) (listed_of t) (map listed_of listed)
+    (All-head (λ t. IsLed patches t.first) t listed all)
+    (listed_led patches listed (All-tail (λ t. IsLed patches t.first) t listed all))
 
 -- the first thing of what is decided
 module _ (detail : Detail) (base : Disk) (patches : List Patch) where
-  pub first_told : (t : ToldDecided) (told : List ToldDecided) → AreToldDecided detail base patches (t ∷ told)
-      → All (λ t. IsLed patches t.first) (t ∷ told) → IsToldFirst detail base patches t
-  first_told t told are led = record {
+  pub first_listed : (t : ListedFault) (listed : List ListedFault) → AreListedFaults detail base patches (t ∷ listed)
+      → All (λ t. IsLed patches t.first) (t ∷ listed) → IsListedFirst detail base patches t
+  first_listed t listed are led = record {
     fault = record {
       first = All-head (λ (f : DecidedFault). IsFirst (HasFault detail.demands base patches f.fault) f.first) t.decided
-          (map (λ t. t.decided) told) are.decided.each;
+          (map (λ t. t.decided) listed) are.decided.each;
       before = λ other set has apart. elim (front_or_rest t.decided.fault
-          (map (λ f. f.fault) (map (λ t. t.decided) told)) other (are.decided.every other set has)) [
+          (map (λ f. f.fault) (map (λ t. t.decided) listed)) other (are.decided.every other set has)) [
             | inl e ↦ absurd (apart (sym e))
-            | inr more ↦ let at = at_key (λ (f : DecidedFault). f.fault) other (map (λ t. t.decided) told) more in
+            | inr more ↦ let at = at_key (λ (f : DecidedFault). f.fault) other (map (λ t. t.decided) listed) more in
                 subst (IsFaultBefore t.decided.fault) at.2
-                ((ascends (λ (a b : DecidedFault). IsFaultBefore a.fault b.fault) (map (λ t. t.decided) (t ∷ told))
+                ((ascends (λ (a b : DecidedFault). IsFaultBefore a.fault b.fault) (map (λ t. t.decided) (t ∷ listed))
                 are.decided.ordered).0 at.0 at.1)
           ];
     };
     section = (are.firsts.0, [], are.firsts.2, refl, ap (λ s. s ∷ []) (heads are.firsts.4));
-    led = All-head (λ t. IsLed patches t.first) t told led;
+    led = All-head (λ t. IsLed patches t.first) t listed led;
   }
 
 -- ---- failing sets
@@ -145,59 +146,59 @@ module _ (demands : Demands) (base : Disk) (patches : List Patch) where
         by [] from to = inr (λ set is. in_none set (to set is))
         by (x ∷ xs) from to = inl (x, from x (in_front x xs))
 
--- ---- what is told
+-- ---- what is listed
 
 module _ (settings : Settings) (demands : Demands) (base : Disk) (patches : List Patch)
     (before : AreEarlier (deps_of patches)) where
-  pub told_decided : (told : List ToldDecided) × AreToldDecided (detail_of settings demands) base patches told
-      × All (λ t. IsLed patches t.first) told
-  told_decided =
+  pub listed_decided : (listed : List ListedFault) × AreListedFaults (detail_of settings demands) base patches listed
+      × All (λ t. IsLed patches t.first) listed
+  listed_decided =
       let all = some_failing demands base patches before in
       let body = some_body settings ByFault 0 demands base (trace_start false base) patches before all.0 all.1 all.2 in
       by all.0 body.0 body.1
     where
       by : (sets : List ℕ) (body : Body)
           → IsBody settings ByFault 0 demands base (trace_start false base) patches sets body
-          → (told : List ToldDecided) × AreToldDecided (detail_of settings demands) base patches told
-          × All (λ t. IsLed patches t.first) told
+          → (listed : List ListedFault) × AreListedFaults (detail_of settings demands) base patches listed
+          × All (λ t. IsLed patches t.first) listed
       by sets (Sets sections) is = absurd (other is.0)
         where
           other : ByFault ≡ BySet → ⊥
           other e = cc
-      by sets (Rules told) is = absurd (other is.0)
+      by sets (Rules listed) is = absurd (other is.0)
         where
           other : ByFault ≡ ByRule → ⊥
           other e = cc
-      by sets (Faults told) is = (
-        map told_of told,
+      by sets (Faults listed) is = (
+        map listed_of listed,
         record {
-          decided = subst (AreDecided (HasFault demands base patches)) (same_decided told)
-              (are_decided (HasFault demands base patches) (map (λ t. t.row) told) is.1.rows);
+          decided = subst (AreDecided (HasFault demands base patches)) (same_decided listed)
+              (are_decided (HasFault demands base patches) (map (λ t. t.row) listed) is.1.rows);
           firsts = subst (λ sections. AreSections (detail_of settings demands) base patches
-              (map (λ t. t.decided.first) (map told_of told)) sections) (same_sections told)
+              (map (λ t. t.decided.first) (map listed_of listed)) sections) (same_sections listed)
               (subst (λ (sets : List ℕ). AreSections (detail_of settings demands) base patches sets
-              (map (λ t. t.first) told)) (same_firsts told) is.1.firsts);
+              (map (λ t. t.first) listed)) (same_firsts listed) is.1.firsts);
         },
-        told_led patches told is.2,
+        listed_led patches listed is.2,
       )
 
   -- the first of them, or nothing
-  pub told_any : (told : Option ToldDecided) × IsToldAny (detail_of settings demands) base patches told
-  told_any = by told_decided.0 told_decided.1 told_decided.2
+  pub listed_any : (listed : Option ListedFault) × IsListedIfAny (detail_of settings demands) base patches listed
+  listed_any = by listed_decided.0 listed_decided.1 listed_decided.2
     where
-      by : (told : List ToldDecided) → AreToldDecided (detail_of settings demands) base patches told
-          → All (λ t. IsLed patches t.first) told → (first : Option ToldDecided)
-          × IsToldAny (detail_of settings demands) base patches first
+      by : (listed : List ListedFault) → AreListedFaults (detail_of settings demands) base patches listed
+          → All (λ t. IsLed patches t.first) listed → (first : Option ListedFault)
+          × IsListedIfAny (detail_of settings demands) base patches first
       by [] are led = (None, λ fault set has. in_none fault (are.decided.every fault set has))
-      by (t ∷ told) are led = (Some t, first_told (detail_of settings demands) base patches t told are led)
+      by (t ∷ listed) are led = (Some t, first_listed (detail_of settings demands) base patches t listed are led)
 
   -- if a set fails, there is a first fault
-  pub told_first : (set : ℕ) → IsFailingUnder demands base patches set → (told : ToldDecided)
-      × IsToldFirst (detail_of settings demands) base patches told
-  told_first set is = by told_any.0 told_any.1
+  pub listed_first : (set : ℕ) → IsFailingUnder demands base patches set → (listed : ListedFault)
+      × IsListedFirst (detail_of settings demands) base patches listed
+  listed_first set is = by listed_any.0 listed_any.1
     where
-      by : (told : Option ToldDecided) → IsToldAny (detail_of settings demands) base patches told
-          → (first : ToldDecided)
-          × IsToldFirst (detail_of settings demands) base patches first
+      by : (listed : Option ListedFault) → IsListedIfAny (detail_of settings demands) base patches listed
+          → (first : ListedFault)
+          × IsListedFirst (detail_of settings demands) base patches first
       by None none = let fault = fault_of demands base patches set is in absurd (none fault.0 set fault.1)
-      by (Some told) first = (told, first)
+      by (Some listed) first = (listed, first)

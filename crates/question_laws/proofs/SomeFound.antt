@@ -4,14 +4,14 @@ use Rattle.std.specs.Prelude.{◌⊎◌}
 use Rattle.crash_model.specs.Checker.{Demands}
 use Rattle.crash_model.specs.FirstSets.{IsFirst}
 use Rattle.crash_model.specs.declared.patches.Patch.{Patch}
-use Rattle.question_model.specs.Found.{IsCounted, AreCounted, IsShown, AreShown, AreFound}
+use Rattle.question_model.specs.SearchCounts.{IsCounted, AreCounted, IsShown, AreShown, AreSearchCounts}
 use Rattle.question_model.specs.Kinds.{kind_number}
 use Rattle.question_model.specs.Refused.{refusal_number}
 use Rattle.question_model.specs.Sequences.{AreAllSequences, IsFirstSequence}
 use Rattle.question_model.specs.Workloads.{Search, HasPatches, IsWorkload, IsFailingWorkload, IsRefusedFor, HasKind}
 use Rattle.question_model.specs.Workloads.{ShowsKind}
 use Rattle.question_model.specs.declared.fault_kind.FaultKind.{FaultKind}
-use Rattle.question_model.specs.declared.found.Found.{Found}
+use Rattle.question_model.specs.declared.found.SearchCounts.{SearchCounts}
 use Rattle.question_model.specs.declared.found.RefusedCount.{RefusedCount}
 use Rattle.question_model.specs.declared.found.ShownKind.{ShownKind}
 use Rattle.question_model.specs.declared.refusal.Refusal.{Refusal}
@@ -134,7 +134,7 @@ module _ (s : Search) where
         },
       )
 
-  pub some_found : (found : Found) × AreFound s found
+  pub some_found : (found : SearchCounts) × AreSearchCounts s found
   some_found =
       let refusals = some_counted in
       let kinds = some_shown in (

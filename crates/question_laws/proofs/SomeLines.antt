@@ -20,14 +20,14 @@ use Rattle.crash_model.specs.declared.patches.Patch.{Patch}
 use Rattle.crash_model.specs.declared.rules.Rule.{Rule}
 use Rattle.crash_model.specs.declared.settings.Settings.{Settings}
 use Rattle.question_model.specs.EnoughLines.{all_waits, AreEnoughLines, IsMinimalLines, IsNeededLines}
-use Rattle.question_model.specs.EnoughReport.{ToldGroup, IsToldFirst, EnoughFound, enough_bytes}
-use Rattle.question_model.specs.LinesReport.{IsToldLines, line_choices, IsLinesReport}
+use Rattle.question_model.specs.EnoughReport.{ListedGroup, IsListedFirst, EnoughFound, enough_bytes}
+use Rattle.question_model.specs.LinesReport.{IsListedLines, line_choices, IsLinesReport}
 use Rattle.question_model.specs.declared.question.TheConstants.{MAX_SYNCS}
 use Rattle.worked_example_laws.specs.Computed.{closed_sets}
 use Rattle.worked_example_laws.proofs.FailingSets.{counts_closed}
 use Rattle.question_laws.proofs.SomeChoices.{IsMinimalSet, IsNeededGroup, minimal_sets, needed_groups}
-use Rattle.question_laws.proofs.SomeEnough.{are_enough, told_by, told_groups}
-use Rattle.question_laws.proofs.SomeFirst.{told_any}
+use Rattle.question_laws.proofs.SomeEnough.{are_enough, listed_by, listed_groups}
+use Rattle.question_laws.proofs.SomeFirst.{listed_any}
 use Rattle.question_laws.proofs.SomeSets.{all_like, is_subset}
 
 -- ---- sets of lines
@@ -124,16 +124,17 @@ module _ (settings : Settings) (demands : Demands) (base : Disk) (s : Tracing) w
       (found.0, needed_lines demands base rules s found.0 found.1)
 
   -- what a report shows of a group
-  told_lines : (group : ℕ) → IsNeededLines demands base (ordering_rules settings) s group → (told : ToldGroup)
-      × IsToldLines settings demands base s told × (told.group ≡ group)
-  told_lines group is =
+  listed_lines : (group : ℕ) → IsNeededLines demands base (ordering_rules settings) s group → (listed : ListedGroup)
+      × IsListedLines settings demands base s listed × (listed.group ≡ group)
+  listed_lines group is =
       let others = difference_of (all_waits s.waits) group in
-      let told = told_by settings (demands_waiting s.waits others.0 demands) base (tracing_waiting others.0 s) rules
+      let listed = listed_by settings (demands_waiting s.waits others.0 demands) base (tracing_waiting others.0 s) rules
       (is.needed others.0 others.1) in (
-        record { group = group; fault = told.0 },
+        record { group = group; fault = listed.0 },
         (λ rest apart. subst (λ (lines : ℕ). HasGraphBy rules base (tracing_waiting lines s)
-            (λ patches. IsToldFirst (detail_of settings (demands_waiting s.waits lines demands)) base patches told.0))
-            (difference_one (all_waits s.waits) group others.0 rest others.1 apart) told.1),
+            (λ patches. IsListedFirst (detail_of settings (demands_waiting s.waits lines demands)) base patches
+            listed.0))
+            (difference_one (all_waits s.waits) group others.0 rest others.1 apart) listed.1),
         refl,
       )
 
@@ -144,9 +145,9 @@ some_lines settings demands base last patches graph few =
     let rules = ordering_rules settings in
     let enough = all_minimal settings demands base last in
     let groups = all_needed settings demands base last in
-    let needs = told_groups (IsNeededLines demands base rules last) (IsToldLines settings demands base last)
-    (told_lines settings demands base last) groups.0 (λ group is. (groups.1.exactly group).0 is) in
-    let first = told_any settings demands base patches graph.earlier in
+    let needs = listed_groups (IsNeededLines demands base rules last) (IsListedLines settings demands base last)
+    (listed_lines settings demands base last) groups.0 (λ group is. (groups.1.exactly group).0 is) in
+    let first = listed_any settings demands base patches graph.earlier in
     let report : EnoughFound = record {
       patches = length patches;
       closed = length (closed_sets (deps_of patches));
@@ -167,7 +168,7 @@ some_lines settings demands base last patches graph few =
         needs = needs.0;
         needed = subst (λ (some : List ℕ). AreAllInOrder (IsNeededLines demands base rules last) some) needs.2
             groups.1;
-        told = needs.1;
+        listed = needs.1;
         first = first.0;
         any = first.1;
         number_of = refl;

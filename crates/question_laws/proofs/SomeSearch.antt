@@ -16,16 +16,16 @@ use Rattle.crash_model.specs.declared.settings.Settings.{Settings}
 use Rattle.crash_model.specs.declared.steps.Step.{Step}
 use Rattle.question_model.specs.Enough.{rules_but}
 use Rattle.question_model.specs.EnoughFor.{FailsBy, AreEnoughFor, IsNeededInSearch, search_with}
-use Rattle.question_model.specs.Found.{IsShown}
-use Rattle.question_model.specs.SearchReport.{ToldKind, IsToldKind, search_of, search_bytes, IsSearchReport}
-use Rattle.question_model.specs.SearchRulesReport.{ToldNeed, IsToldNeed, search_rules_bytes}
+use Rattle.question_model.specs.SearchCounts.{IsShown}
+use Rattle.question_model.specs.SearchReport.{ListedKind, IsListedKind, search_of, search_bytes, IsSearchReport}
+use Rattle.question_model.specs.SearchRulesReport.{ListedNeed, IsListedNeed, search_rules_bytes}
 use Rattle.question_model.specs.SearchRulesReport.{IsSearchRulesReport}
 use Rattle.question_model.specs.Sequences.{AreAllSequences, IsFirstSequence}
 use Rattle.question_model.specs.Workloads.{Search, steps_at, places_of}
 use Rattle.question_model.specs.declared.found.ShownKind.{ShownKind}
 use Rattle.worked_example_laws.proofs.SomeSections.{some_section}
 use Rattle.question_laws.proofs.Deciding.{both, negation}
-use Rattle.question_laws.proofs.SomeFirst.{told_first}
+use Rattle.question_laws.proofs.SomeFirst.{listed_first}
 use Rattle.question_laws.proofs.SomeFound.{some_found}
 use Rattle.question_laws.proofs.SomeRules.{some_minimal, some_needed}
 use Rattle.question_laws.proofs.SomeSequences.{some_sequences, first_sequence}
@@ -33,9 +33,9 @@ use Rattle.question_laws.proofs.SomeWorkloads.{is_workload, fails, workload_boun
 
 module _ (settings : Settings) (s : Search) where
   -- what a report shows of a kind
-  told_kind : (shown : ShownKind) → IsShown s shown → (told : ToldKind) × IsToldKind s settings.explain told
-      × (told.shown ≡ shown)
-  told_kind shown is =
+  listed_kind : (shown : ShownKind) → IsShown s shown → (listed : ListedKind) × IsListedKind s settings.explain listed
+      × (listed.shown ≡ shown)
+  listed_kind shown is =
       let there = is.earliest.among in
       let detail = detail_of settings there.demands in
       let section = some_section detail s.base there.patches shown.first in
@@ -63,14 +63,14 @@ module _ (settings : Settings) (s : Search) where
         refl,
       )
 
-  told_kinds : (kinds : List ShownKind) → All (IsShown s) kinds → (told : List ToldKind)
-      × All (IsToldKind s settings.explain) told × (map (λ t. t.shown) told ≡ kinds)
-  told_kinds [] are = ([], All-nil (IsToldKind s settings.explain), refl)
-  told_kinds (k ∷ kinds) are =
-      let one = told_kind k (All-head (IsShown s) k kinds are) in
-      let rest = told_kinds kinds (All-tail (IsShown s) k kinds are) in (
+  listed_kinds : (kinds : List ShownKind) → All (IsShown s) kinds → (listed : List ListedKind)
+      × All (IsListedKind s settings.explain) listed × (map (λ t. t.shown) listed ≡ kinds)
+  listed_kinds [] are = ([], All-nil (IsListedKind s settings.explain), refl)
+  listed_kinds (k ∷ kinds) are =
+      let one = listed_kind k (All-head (IsShown s) k kinds are) in
+      let rest = listed_kinds kinds (All-tail (IsShown s) k kinds are) in (
         one.0 ∷ rest.0,
-        All-cons (IsToldKind s settings.explain) one.0 rest.0 one.1 rest.1,
+        All-cons (IsListedKind s settings.explain) one.0 rest.0 one.1 rest.1,
         front one.2 rest.2,
       )
     where
@@ -108,23 +108,23 @@ module _ (settings : Settings) (s : Search) where
       by (inl it) = no (λ enough. enough it.0 it.1.among)
       by (inr enough) = yes enough
 
-  told_need : (group : ℕ) → IsNeededInSearch s group → (told : ToldNeed) × IsToldNeed s settings.explain told
-      × (told.group ≡ group)
-  told_need group is = by (first_failing (rules_but s.rules group))
+  listed_need : (group : ℕ) → IsNeededInSearch s group → (listed : ListedNeed) × IsListedNeed s settings.explain listed
+      × (listed.group ≡ group)
+  listed_need group is = by (first_failing (rules_but s.rules group))
     where
       by : ((places : List ℕ) × IsFirstSequence (FailsBy s (rules_but s.rules group)) places)
           ⊎ AreEnoughFor s (rules_but s.rules group)
-          → (told : ToldNeed) × IsToldNeed s settings.explain told × (told.group ≡ group)
+          → (listed : ListedNeed) × IsListedNeed s settings.explain listed × (listed.group ≡ group)
       by (inr enough) = absurd (is.needed enough)
       by (inl it) =
           let bad = it.1.among.1 in
-          let told = told_first settings bad.0 s.base bad.1 bad.2.graph.earlier bad.3.0 bad.3.1 in (
+          let listed = listed_first settings bad.0 s.base bad.1 bad.2.graph.earlier bad.3.0 bad.3.1 in (
             record {
               group = group;
               places = it.0;
               steps = steps_at s.pool it.0;
               patches = length bad.1;
-              fault = told.0;
+              fault = listed.0;
             },
             record {
               earliest = it.1;
@@ -133,19 +133,19 @@ module _ (settings : Settings) (s : Search) where
               patches = bad.1;
               traced = bad.2;
               number = refl;
-              first = told.1;
+              first = listed.1;
             },
             refl,
           )
 
-  told_needs : (groups : List ℕ) → ((group : ℕ) → Contains groups group → IsNeededInSearch s group)
-      → (told : List ToldNeed) × All (IsToldNeed s settings.explain) told × (groups ≡ map (λ t. t.group) told)
-  told_needs [] each = ([], All-nil (IsToldNeed s settings.explain), refl)
-  told_needs (group ∷ groups) each =
-      let one = told_need group (each group (in_front group groups)) in
-      let rest = told_needs groups (λ g is. each g (in_rest group groups g is)) in (
+  listed_needs : (groups : List ℕ) → ((group : ℕ) → Contains groups group → IsNeededInSearch s group)
+      → (listed : List ListedNeed) × All (IsListedNeed s settings.explain) listed × (groups ≡ map (λ t. t.group) listed)
+  listed_needs [] each = ([], All-nil (IsListedNeed s settings.explain), refl)
+  listed_needs (group ∷ groups) each =
+      let one = listed_need group (each group (in_front group groups)) in
+      let rest = listed_needs groups (λ g is. each g (in_rest group groups g is)) in (
         one.0 ∷ rest.0,
-        All-cons (IsToldNeed s settings.explain) one.0 rest.0 one.1 rest.1,
+        All-cons (IsListedNeed s settings.explain) one.0 rest.0 one.1 rest.1,
         front (sym one.2) rest.2,
       )
     where
@@ -157,15 +157,15 @@ module _ (settings : Settings) (most : ℕ) (base : Disk) (pool : List Step) whe
   some_search =
       let s = search_of settings most base pool in
       let found = some_found s in
-      let told = told_kinds settings s found.0.kinds.items found.1.kinds.each in (
-        search_bytes settings most (length (places_of pool)) found.0 told.0,
+      let listed = listed_kinds settings s found.0.kinds.items found.1.kinds.each in (
+        search_bytes settings most (length (places_of pool)) found.0 listed.0,
         (if found.0.failing == 0 then 0 else 1),
         record {
           found = found.0;
           exactly = found.1;
-          told = told.0;
-          kinds = told.2;
-          each = told.1;
+          listed = listed.0;
+          kinds = listed.2;
+          each = listed.1;
           whole = refl;
           number_of = refl;
         },
@@ -177,7 +177,7 @@ module _ (settings : Settings) (most : ℕ) (base : Disk) (pool : List Step) whe
       let found = some_found s in
       let enough = some_minimal (AreEnoughFor s) (are_enough settings s) s.rules in
       let groups = some_needed (AreEnoughFor s) (are_enough settings s) s.rules in
-      let needs = told_needs settings s groups.0 (λ group is. (groups.1.exactly group).0 is) in (
+      let needs = listed_needs settings s groups.0 (λ group is. (groups.1.exactly group).0 is) in (
         search_rules_bytes settings most (length (places_of pool)) found.0 enough.0 needs.0,
         (if found.0.failing == 0 then 0 else 1),
         record {
@@ -187,7 +187,7 @@ module _ (settings : Settings) (most : ℕ) (base : Disk) (pool : List Step) whe
           minimal = enough.1;
           needs = needs.0;
           needed = subst (λ (some : List ℕ). AreAllInOrder (IsNeededInSearch s) some) needs.2 groups.1;
-          told = needs.1;
+          listed = needs.1;
           whole = refl;
           number_of = refl;
         },

@@ -129,7 +129,7 @@ module _ (s : Search) where
     last = last;
     traced = is;
     graph = graph_is s.rules s.base last;
-    told = are_demands s.asked s.base (workload_at s places);
+    demanded = are_demands s.asked s.base (workload_at s places);
   }
 
   -- what can be decided of the patches of a sequence, where there are any

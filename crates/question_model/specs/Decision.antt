@@ -6,8 +6,8 @@ use Rattle.report_model.specs.Answer.{detail_of}
 use Rattle.report_model.specs.ScriptGraph.{ordering_rules}
 use Rattle.crash_model.specs.Disk.{Disk}
 use Rattle.crash_model.specs.Reasons.{Explanation, explanation}
-use Rattle.report_model.specs.OptionTexts.{explanation_text, promises_text, told_without, told_with}
-use Rattle.report_model.specs.OptionKeys.{trace_json, told_waits_json, promises_json, counted_json, durable_json}
+use Rattle.report_model.specs.OptionTexts.{explanation_text, promises_text, listed_without, listed_with}
+use Rattle.report_model.specs.OptionKeys.{trace_json, listed_waits_json, promises_json, counted_json, durable_json}
 use Rattle.report_model.specs.OptionKeys.{first_json, rules_json, before_module}
 use Rattle.crash_model.specs.Promises.{Promise}
 use Rattle.crash_model.specs.Lists.{when}
@@ -22,14 +22,14 @@ use Rattle.report_model.specs.WholeJson.{form_of}
 use Rattle.crash_model.specs.declared.patches.Patch.{Patch}
 use Rattle.crash_model.specs.declared.settings.Settings.{Settings}
 use Rattle.question_model.specs.Decided.{AreDecided}
-use Rattle.question_model.specs.ToldDecided.{ToldDecided, decided_text, decided_json}
+use Rattle.question_model.specs.ListedFault.{ListedFault, decided_text, decided_json}
 use Rattle.question_model.specs.OrderingText.{ordering_text}
 
 -- each fault that a failing set of the patches has
-pub record AreToldDecided (detail : Detail) (base : Disk) (patches : List Patch)
-    (told : List ToldDecided) : Type 0 where
-  pub decided : AreDecided (HasFault detail.demands base patches) (map (λ t. t.decided) told)
-  pub firsts : AreSections detail base patches (map (λ t. t.decided.first) told) (map (λ t. t.first) told)
+pub record AreListedFaults (detail : Detail) (base : Disk) (patches : List Patch)
+    (listed : List ListedFault) : Type 0 where
+  pub decided : AreDecided (HasFault detail.demands base patches) (map (λ t. t.decided) listed)
+  pub firsts : AreSections detail base patches (map (λ t. t.decided.first) listed) (map (λ t. t.first) listed)
 
 -- how many patches and closed sets there are, what the patches are and what is promised if that is asked for, and the
 -- faults
@@ -38,7 +38,7 @@ pub record Decision : Type 0 where
   pub closed : ℕ
   pub explanation : Option Explanation
   pub promises : Option (List Promise)
-  pub faults : List ToldDecided
+  pub faults : List ListedFault
 
 -- ---- text
 
@@ -66,10 +66,10 @@ json_decision settings d =
     ++ promises_json d.patches d.promises
     ++ (if settings.strict then codes ",\"strict\":true" else [])
     ++ trace_json d.explanation
-    ++ told_waits_json d.patches d.explanation d.promises
+    ++ listed_waits_json d.patches d.explanation d.promises
     ++ (if settings.whole_blocks then codes ",\"whole_blocks\":true" else [])
-    ++ rules_json (codes "with") (told_with settings)
-    ++ rules_json (codes "without") (told_without settings)
+    ++ rules_json (codes "with") (listed_with settings)
+    ++ rules_json (codes "without") (listed_without settings)
     ++ codes "}\n"
 
 -- the report's bytes
@@ -81,14 +81,14 @@ pub record IsDecision (settings : Settings) (demands : Demands) (base : Disk) (l
     (text : List ℕ) (number : ℕ) : Type 0 where
   pub total : ℕ
   pub counted : CountsClosed patches total
-  pub told : List ToldDecided
-  pub are : AreToldDecided (detail_of settings demands) base patches told
-  pub led : All (λ t. IsLed patches t.first) told
-  pub number_of : number ≡ length told
+  pub listed : List ListedFault
+  pub are : AreListedFaults (detail_of settings demands) base patches listed
+  pub led : All (λ t. IsLed patches t.first) listed
+  pub number_of : number ≡ length listed
   pub whole : text ≡ decision_bytes settings (record {
     patches = length patches;
     closed = total;
     explanation = when settings.explain (explanation (ordering_rules settings) base last patches);
     promises = if settings.explain then demands.promises else None;
-    faults = told;
+    faults = listed;
   })

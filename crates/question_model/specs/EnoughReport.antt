@@ -7,8 +7,8 @@ use Rattle.report_model.specs.Answer.{detail_of}
 use Rattle.report_model.specs.ScriptGraph.{ordering_rules}
 use Rattle.crash_model.specs.Disk.{Disk}
 use Rattle.crash_model.specs.Reasons.{Explanation, explanation}
-use Rattle.report_model.specs.OptionTexts.{explanation_text, promises_text, told_without, told_with}
-use Rattle.report_model.specs.OptionKeys.{trace_json, told_waits_json, promises_json, counted_json, durable_json}
+use Rattle.report_model.specs.OptionTexts.{explanation_text, promises_text, listed_without, listed_with}
+use Rattle.report_model.specs.OptionKeys.{trace_json, listed_waits_json, promises_json, counted_json, durable_json}
 use Rattle.report_model.specs.OptionKeys.{first_json, rules_json, before_module}
 use Rattle.report_model.specs.SectionJson.{shows_json, replay_json, writes_json}
 use Rattle.crash_model.specs.Promises.{Promise}
@@ -29,7 +29,7 @@ use Rattle.crash_model.specs.declared.fault.Fault.{Fault}
 use Rattle.crash_model.specs.declared.patches.Patch.{Patch}
 use Rattle.crash_model.specs.declared.rules.Rule.{Rule}
 use Rattle.crash_model.specs.declared.settings.Settings.{Settings}
-use Rattle.question_model.specs.ToldDecided.{ToldDecided, decided_shows, decided_text, decided_json}
+use Rattle.question_model.specs.ListedFault.{ListedFault, decided_shows, decided_text, decided_json}
 use Rattle.question_model.specs.OrderingText.{ordering_text}
 use Rattle.question_model.specs.declared.decided_fault.DecidedFault.{DecidedFault}
 use Rattle.question_model.specs.Enough.{rules_in, rules_but, IsMinimalEnough, IsNeeded}
@@ -42,25 +42,25 @@ pub record IsFirstFault (has : Fault → ℕ → Type 0) (f : DecidedFault) : Ty
   pub before : (other : Fault) (set : ℕ) → has other set → other ≢ f.fault → IsFaultBefore f.fault other
 
 -- the first thing that a decision on the patches reports
-pub record IsToldFirst (detail : Detail) (base : Disk) (patches : List Patch) (told : ToldDecided) : Type 0 where
-  pub fault : IsFirstFault (HasFault detail.demands base patches) told.decided
-  pub section : AreSections detail base patches (told.decided.first ∷ []) (told.first ∷ [])
-  pub led : IsLed patches told.first
+pub record IsListedFirst (detail : Detail) (base : Disk) (patches : List Patch) (listed : ListedFault) : Type 0 where
+  pub fault : IsFirstFault (HasFault detail.demands base patches) listed.decided
+  pub section : AreSections detail base patches (listed.decided.first ∷ []) (listed.first ∷ [])
+  pub led : IsLed patches listed.first
 
 -- the same if there is a fault, otherwise nothing
-abbrev pub IsToldAny : Detail → Disk → List Patch → Option ToldDecided → Type 0
-IsToldAny detail base patches None = (fault : Fault) (set : ℕ) → ¬ (HasFault detail.demands base patches fault set)
-IsToldAny detail base patches (Some told) = IsToldFirst detail base patches told
+abbrev pub IsListedIfAny : Detail → Disk → List Patch → Option ListedFault → Type 0
+IsListedIfAny detail base patches None = (fault : Fault) (set : ℕ) → ¬ (HasFault detail.demands base patches fault set)
+IsListedIfAny detail base patches (Some listed) = IsListedFirst detail base patches listed
 
 -- what is reported of a group of rules of which one is needed: the group, and the first fault of all rules but these
-pub record ToldGroup : Type 0 where
+pub record ListedGroup : Type 0 where
   pub group : ℕ
-  pub fault : ToldDecided
+  pub fault : ListedFault
 
 -- the first fault of the patches by all rules but the group
-abbrev pub IsToldGroup : Detail → List Rule → Disk → Tracing → ToldGroup → Type 0
-IsToldGroup detail rules base s told =
-    HasGraphBy (rules_but rules told.group) base s (λ patches. IsToldFirst detail base patches told.fault)
+abbrev pub IsListedGroup : Detail → List Rule → Disk → Tracing → ListedGroup → Type 0
+IsListedGroup detail rules base s listed =
+    HasGraphBy (rules_but rules listed.group) base s (λ patches. IsListedFirst detail base patches listed.fault)
 
 -- how many patches and closed sets there are, what the patches are and what is promised if that is asked for; the minimal
 -- sets of choices that are enough, the minimal groups of which one is needed, and the first fault of all choices. The
@@ -71,8 +71,8 @@ pub record EnoughFound : Type 0 where
   pub explanation : Option Explanation
   pub promises : Option (List Promise)
   pub enough : List ℕ
-  pub needs : List ToldGroup
-  pub first : Option ToldDecided
+  pub needs : List ListedGroup
+  pub first : Option ListedFault
 
 -- ---- choices
 
@@ -104,8 +104,8 @@ rule_choices rules = record {
 
 -- ---- text; patches are n in all
 
-abbrev pub group_text : Choices → ℕ → ToldGroup → List ℕ
-group_text choices n told = choices.text (codes "needs") told.group ++ decided_text n told.fault
+abbrev pub group_text : Choices → ℕ → ListedGroup → List ℕ
+group_text choices n listed = choices.text (codes "needs") listed.group ++ decided_text n listed.fault
 
 unfoldable pub text_enough : Choices → Settings → EnoughFound → List ℕ
 text_enough choices settings r =
@@ -121,20 +121,20 @@ text_enough choices settings r =
 
 -- ---- JSON: one compact object, its keys in ascending order, and a line feed
 
-abbrev pub group_json : Choices → Form → ToldGroup → List ℕ
-group_json choices form told =
-    fault_head form.numbers told.fault.decided.fault
-    ++ replay_json told.fault.first.replay
-    ++ choices.first_key told.group
-    ++ codes "\"set\":" ++ ids_json form.patches told.fault.first.set
-    ++ shows_json (decided_shows told.fault)
-    ++ choices.last_key told.group
-    ++ codes ",\"writes\":" ++ writes_json form.patches told.fault.first.writes ++ codes "}"
+abbrev pub group_json : Choices → Form → ListedGroup → List ℕ
+group_json choices form listed =
+    fault_head form.numbers listed.fault.decided.fault
+    ++ replay_json listed.fault.first.replay
+    ++ choices.first_key listed.group
+    ++ codes "\"set\":" ++ ids_json form.patches listed.fault.first.set
+    ++ shows_json (decided_shows listed.fault)
+    ++ choices.last_key listed.group
+    ++ codes ",\"writes\":" ++ writes_json form.patches listed.fault.first.writes ++ codes "}"
 
 -- a key with the fault, if there is one
-abbrev pub first_fault_json : Form → Option ToldDecided → List ℕ
+abbrev pub first_fault_json : Form → Option ListedFault → List ℕ
 first_fault_json form None = []
-first_fault_json form (Some told) = codes ",\"first\":" ++ decided_json form told
+first_fault_json form (Some listed) = codes ",\"first\":" ++ decided_json form listed
 
 -- `closed` is a text, since it can be more than a JSON number holds
 unfoldable pub json_enough : Choices → Settings → EnoughFound → List ℕ
@@ -151,10 +151,10 @@ json_enough choices settings r =
     ++ promises_json r.patches r.promises
     ++ (if settings.strict then codes ",\"strict\":true" else [])
     ++ trace_json r.explanation
-    ++ told_waits_json r.patches r.explanation r.promises
+    ++ listed_waits_json r.patches r.explanation r.promises
     ++ (if settings.whole_blocks then codes ",\"whole_blocks\":true" else [])
-    ++ rules_json (codes "with") (told_with settings)
-    ++ rules_json (codes "without") (told_without settings)
+    ++ rules_json (codes "with") (listed_with settings)
+    ++ rules_json (codes "without") (listed_without settings)
     ++ codes "}\n"
 
 -- the report's bytes
@@ -176,11 +176,11 @@ pub record IsEnoughReport (settings : Settings) (demands : Demands) (base : Disk
   pub counted : CountsClosed patches total
   pub enough : List ℕ
   pub exactly : AreAllInOrder (IsMinimalEnough demands base last (ordering_rules settings)) enough
-  pub needs : List ToldGroup
+  pub needs : List ListedGroup
   pub needed : AreAllInOrder (IsNeeded demands base last (ordering_rules settings)) (map (λ t. t.group) needs)
-  pub told : All (IsToldGroup (detail_of settings demands) (ordering_rules settings) base last) needs
-  pub first : Option ToldDecided
-  pub any : IsToldAny (detail_of settings demands) base patches first
+  pub listed : All (IsListedGroup (detail_of settings demands) (ordering_rules settings) base last) needs
+  pub first : Option ListedFault
+  pub any : IsListedIfAny (detail_of settings demands) base patches first
   pub number_of : number ≡ length (option_to_list first)
   pub whole : text ≡ rules_report_bytes settings (record {
     patches = length patches;

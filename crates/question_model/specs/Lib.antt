@@ -1,6 +1,6 @@
 pub mod Decided
 pub mod OrderingText
-pub mod ToldDecided
+pub mod ListedFault
 pub mod Decision
 pub mod Enough
 pub mod MinimalRules
@@ -13,7 +13,7 @@ pub mod Refused
 pub mod Sequences
 pub mod Workloads
 pub mod Verdict
-pub mod Found
+pub mod SearchCounts
 pub mod SearchReport
 pub mod EnoughFor
 pub mod SearchRulesReport

@@ -26,9 +26,9 @@ use Rattle.crash_model.specs.declared.refusals.RunFault.TheVariants.{TooManySync
 use Rattle.crash_model.specs.declared.refusals.TraceFault.{TraceFault}
 use Rattle.crash_model.specs.declared.settings.Settings.{Settings}
 use Rattle.crash_model.specs.declared.steps.Step.{Step}
-use Rattle.question_model.specs.ToldDecided.{ToldDecided}
+use Rattle.question_model.specs.ListedFault.{ListedFault}
 use Rattle.question_model.specs.EnoughLines.{waits_in, all_waits, IsMinimalLines, IsNeededLines}
-use Rattle.question_model.specs.EnoughReport.{IsToldFirst, IsToldAny, ToldGroup, Choices, enough_bytes}
+use Rattle.question_model.specs.EnoughReport.{IsListedFirst, IsListedIfAny, ListedGroup, Choices, enough_bytes}
 use Rattle.question_model.specs.declared.question.TheConstants.{MAX_SYNCS}
 
 -- ---- how lines are written
@@ -53,11 +53,11 @@ line_choices waits = record {
 -- ---- the answer
 
 -- the first fault of the patches if all lines but those of the group wait
-abbrev pub IsToldLines : Settings → Demands → Disk → Tracing → ToldGroup → Type 0
-IsToldLines settings demands base s told =
-    (rest : ℕ) → IsDifference (all_waits s.waits) told.group rest
+abbrev pub IsListedLines : Settings → Demands → Disk → Tracing → ListedGroup → Type 0
+IsListedLines settings demands base s listed =
+    (rest : ℕ) → IsDifference (all_waits s.waits) listed.group rest
     → HasGraphBy (ordering_rules settings) base (tracing_waiting rest s)
-    (λ patches. IsToldFirst (detail_of settings (demands_waiting s.waits rest demands)) base patches told.fault)
+    (λ patches. IsListedFirst (detail_of settings (demands_waiting s.waits rest demands)) base patches listed.fault)
 
 -- the report on a graph: exactly the minimal sets of lines that are enough, and exactly the minimal groups of which one
 -- is needed; `number` is 1 if all lines are not enough, otherwise 0
@@ -68,11 +68,11 @@ pub record IsLinesReport (settings : Settings) (demands : Demands) (base : Disk)
   pub counted : CountsClosed patches total
   pub enough : List ℕ
   pub exactly : AreAllInOrder (IsMinimalLines demands base (ordering_rules settings) last) enough
-  pub needs : List ToldGroup
+  pub needs : List ListedGroup
   pub needed : AreAllInOrder (IsNeededLines demands base (ordering_rules settings) last) (map (λ t. t.group) needs)
-  pub told : All (IsToldLines settings demands base last) needs
-  pub first : Option ToldDecided
-  pub any : IsToldAny (detail_of settings demands) base patches first
+  pub listed : All (IsListedLines settings demands base last) needs
+  pub first : Option ListedFault
+  pub any : IsListedIfAny (detail_of settings demands) base patches first
   pub number_of : number ≡ length (option_to_list first)
   pub whole : text ≡ enough_bytes (line_choices last.waits) settings (record {
     patches = length patches;

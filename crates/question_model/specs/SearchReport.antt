@@ -16,7 +16,7 @@ use Rattle.report_model.specs.Report.{Section, AreSections, IsLed, line, section
 use Rattle.crash_model.specs.Texts.{module_text}
 use Rattle.report_model.specs.JsonParts.{json_string, json_array, ids_json}
 use Rattle.crash_model.specs.Script.{words_of}
-use Rattle.report_model.specs.OptionTexts.{told_without, told_with}
+use Rattle.report_model.specs.OptionTexts.{listed_without, listed_with}
 use Rattle.report_model.specs.OptionKeys.{atomic_json, rules_json, disk_json}
 use Rattle.crash_model.specs.declared.patches.Patch.{Patch}
 use Rattle.crash_model.specs.declared.refusals.RunFault.{RunFault}
@@ -26,29 +26,29 @@ use Rattle.crash_model.specs.declared.steps.Step.{Step}
 use Rattle.question_model.specs.OrderingText.{ordering_text}
 use Rattle.question_model.specs.Kinds.{kind_number, kind_name}
 use Rattle.question_model.specs.Refused.{refusal_number, refusal_text}
-use Rattle.question_model.specs.Found.{AreFound}
+use Rattle.question_model.specs.SearchCounts.{AreSearchCounts}
 use Rattle.question_model.specs.Workloads.{Search, steps_at, IsOfPool, places_of, keeps_of, HasPatches}
-use Rattle.question_model.specs.declared.found.Found.{Found}
+use Rattle.question_model.specs.declared.found.SearchCounts.{SearchCounts}
 use Rattle.question_model.specs.declared.found.RefusedCount.{RefusedCount}
 use Rattle.question_model.specs.declared.found.ShownKind.{ShownKind}
 
 -- a kind of fault in the report: what was found; of the first workload that shows it the steps, how many patches it
 -- has, and the section of the first set that has such a fault
-pub record ToldKind : Type 0 where
+pub record ListedKind : Type 0 where
   pub shown : ShownKind
   pub steps : List Step
   pub patches : ℕ
   pub first : Section
 
-pub record IsToldKind (s : Search) (explain : Bool) (told : ToldKind) : Type 0 where
-  pub steps : told.steps ≡ steps_at s.pool told.shown.places.items
+pub record IsListedKind (s : Search) (explain : Bool) (listed : ListedKind) : Type 0 where
+  pub steps : listed.steps ≡ steps_at s.pool listed.shown.places.items
   pub demands : Demands
   pub patches : List Patch
-  pub traced : HasPatches s told.shown.places.items demands patches
-  pub number : told.patches ≡ length patches
-  pub section : AreSections (record { explain = explain; demands = demands }) s.base patches (told.shown.first ∷ [])
-      (told.first ∷ [])
-  pub led : IsLed patches told.first
+  pub traced : HasPatches s listed.shown.places.items demands patches
+  pub number : listed.patches ≡ length patches
+  pub section : AreSections (record { explain = explain; demands = demands }) s.base patches (listed.shown.first ∷ [])
+      (listed.first ∷ [])
+  pub led : IsLed patches listed.first
 
 -- ---- text
 
@@ -61,7 +61,7 @@ refused_text t =
 abbrev pub step_text : Step → List ℕ
 step_text step = join_of SPACE (words_of step.act)
 
-abbrev pub kind_text : ToldKind → List ℕ
+abbrev pub kind_text : ListedKind → List ℕ
 kind_text t =
     line (codes "kind " ++ decimal (kind_number t.shown.kind) ++ codes " " ++ kind_name t.shown.kind)
     ++ line (codes "workloads " ++ decimal t.shown.workloads)
@@ -69,7 +69,7 @@ kind_text t =
     ++ section_text t.patches t.first
 
 -- the lines before the first kind; `pool` is the number of lines of the pool
-unfoldable pub search_text : Settings → ℕ → ℕ → Found → List ℕ
+unfoldable pub search_text : Settings → ℕ → ℕ → SearchCounts → List ℕ
 search_text settings most pool found =
     ordering_text settings
     ++ line (codes "search " ++ decimal most)
@@ -78,7 +78,7 @@ search_text settings most pool found =
     ++ line (codes "failing " ++ decimal found.failing)
     ++ flat_map refused_text found.refused.items
 
-unfoldable pub text_search : Settings → ℕ → ℕ → Found → List ToldKind → List ℕ
+unfoldable pub text_search : Settings → ℕ → ℕ → SearchCounts → List ListedKind → List ℕ
 text_search settings most pool found kinds = search_text settings most pool found ++ flat_map kind_text kinds
 
 -- ---- JSON: one compact object, its keys in ascending order, and a line feed
@@ -88,7 +88,7 @@ refused_json t =
     codes "{\"count\":" ++ decimal t.count ++ codes ",\"number\":" ++ decimal (refusal_number t.reason)
     ++ codes ",\"text\":" ++ json_string (refusal_text t.reason) ++ codes "}"
 
-abbrev pub kind_json : Bool → ToldKind → List ℕ
+abbrev pub kind_json : Bool → ListedKind → List ℕ
 kind_json numbers t =
     faults_head numbers t.first.found
     ++ codes "\"kind\":" ++ decimal (kind_number t.shown.kind)
@@ -113,7 +113,7 @@ first_promise_keys settings =
 abbrev pub before_kinds : Settings → List ℕ
 before_kinds settings = disk_json settings ++ codes ",\"kinds\":"
 
-unfoldable pub json_search : Settings → ℕ → ℕ → Found → List ToldKind → List ℕ
+unfoldable pub json_search : Settings → ℕ → ℕ → SearchCounts → List ListedKind → List ℕ
 json_search settings most pool found kinds =
     codes "{" ++ atomic_json settings.atomic ++ first_promise_keys settings
     ++ codes "\"failing\":" ++ decimal found.failing
@@ -124,13 +124,13 @@ json_search settings most pool found kinds =
     ++ codes ",\"search\":" ++ decimal most
     ++ (if settings.strict then codes ",\"strict\":true" else [])
     ++ (if settings.whole_blocks then codes ",\"whole_blocks\":true" else [])
-    ++ rules_json (codes "with") (told_with settings)
-    ++ rules_json (codes "without") (told_without settings)
+    ++ rules_json (codes "with") (listed_with settings)
+    ++ rules_json (codes "without") (listed_without settings)
     ++ codes ",\"workloads\":" ++ decimal found.workloads
     ++ codes "}\n"
 
 -- the report's bytes
-abbrev pub search_bytes : Settings → ℕ → ℕ → Found → List ToldKind → List ℕ
+abbrev pub search_bytes : Settings → ℕ → ℕ → SearchCounts → List ListedKind → List ℕ
 search_bytes settings most pool found kinds =
     if settings.json then json_search settings most pool found kinds else text_search settings most pool found kinds
 
@@ -152,12 +152,12 @@ search_of settings most base lines = record {
 -- the report, and 1 if a workload fails, otherwise 0
 pub record IsSearchReport (settings : Settings) (most : ℕ) (base : Disk) (pool : List Step) (text : List ℕ)
     (number : ℕ) : Type 0 where
-  pub found : Found
-  pub exactly : AreFound (search_of settings most base pool) found
-  pub told : List ToldKind
-  pub kinds : map (λ t. t.shown) told ≡ found.kinds.items
-  pub each : All (IsToldKind (search_of settings most base pool) settings.explain) told
-  pub whole : text ≡ search_bytes settings most (length (places_of pool)) found told
+  pub found : SearchCounts
+  pub exactly : AreSearchCounts (search_of settings most base pool) found
+  pub listed : List ListedKind
+  pub kinds : map (λ t. t.shown) listed ≡ found.kinds.items
+  pub each : All (IsListedKind (search_of settings most base pool) settings.explain) listed
+  pub whole : text ≡ search_bytes settings most (length (places_of pool)) found listed
   pub number_of : number ≡ (if found.failing == 0 then 0 else 1)
 
 -- a search is refused: as any other question before the first traced step, or for the first line that no pool has

@@ -73,7 +73,7 @@ pub record HasPatches (s : Search) (places : List ℕ) (demands : Demands) (patc
   pub last : Tracing
   pub traced : trace_at s places ≡ Ok last
   pub graph : IsGraphOf s.rules s.base last patches
-  pub told : AreDemands s.asked s.base (workload_at s places) demands
+  pub demanded : AreDemands s.asked s.base (workload_at s places) demands
 
 -- a closed set of its patches fails
 abbrev pub Fails : Search → List ℕ → Type 0

@@ -28,7 +28,7 @@ pub struct ShownKind {
 /// How many workloads there are and how many fail; each reason for which operations are refused, and each kind of fault
 /// that a workload shows, in the order of their numbers.
 #[derive(Drop)]
-pub struct Found {
+pub struct SearchCounts {
     pub workloads: u128,
     pub failing: u128,
     pub refused: ArrayVec<RefusedCount, REFUSALS>,

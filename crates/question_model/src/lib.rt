@@ -18,7 +18,7 @@ pub mod verdict;
 
 pub use decided_fault::DecidedFault;
 pub use fault_kind::{FaultKind, KINDS};
-pub use found::{Found, Places, RefusedCount, ShownKind};
+pub use found::{Places, RefusedCount, SearchCounts, ShownKind};
 pub use length::{MAX_OPERATIONS, WorkloadLength};
 pub use question::{MAX_SYNCS, Question, Request};
 pub use refusal::{REFUSALS, Refusal};

@@ -28,8 +28,8 @@ pub acts_more : (pool : List Step) (places : List ℕ) (i d : ℕ) (so_far after
     → act ≡ option_map act_of (slice_get pool (get_or places i d))
     → after ≡ so_far ++ option_to_list act
     → after ≡ acts_at pool (take (i + 1) places)
-acts_more pool places i d so_far after act within told is more =
-    more ∙ (ap (λ (t : List Act). t ++ option_to_list act) told
+acts_more pool places i d so_far after act within listed is more =
+    more ∙ (ap (λ (t : List Act). t ++ option_to_list act) listed
     ∙ (ap (λ (a : Option Act). before ++ option_to_list a) is ∙ sym longer))
   where
     before : List Act

@@ -8,7 +8,7 @@ use Rattle.report_model.specs.JsonParts.{Form}
 use Rattle.crash_model.specs.Disk.{Disk}
 use Rattle.crash_model.specs.declared.fault.Fault.TheVariants.{Dangling}
 use Rattle.crash_model.specs.declared.patches.Patch.{Patch}
-use Rattle.question_model.specs.ToldDecided.{ToldDecided, decided_text, decided_json}
+use Rattle.question_model.specs.ListedFault.{ListedFault, decided_text, decided_json}
 use Rattle.question_model.specs.declared.decided_fault.DecidedFault.{DecidedFault}
 use Rattle.report_sections.specs.declared.section.Section.{Section}
 use Rattle.report_sections.specs.Sections.{section_of, IsSection}
@@ -26,19 +26,20 @@ module _ {A : Type 0} (detail : Detail) (base : Disk) (patches : List Patch) (fa
     (d : DecidedFault) (old so_far after : List ℕ) (s : Section A) (within : i < length faults)
     (is : IsSection detail base patches (get_or faults i d).first s) where
   -- the next fault with its section
-  abbrev one : ToldDecided
+  abbrev one : ListedFault
   one = record { decided = get_or faults i d; first = section_of s }
 
   -- with it one fault more is written
-  fault_more : (form : List ToldDecided → List ℕ)
-      → (tells : WritesFaults detail base patches (take i faults) form old so_far)
-      → after ≡ old ++ form (tells.told ++ one ∷ [])
+  fault_more : (form : List ListedFault → List ℕ)
+      → (listing : WritesFaults detail base patches (take i faults) form old so_far)
+      → after ≡ old ++ form (listing.listed ++ one ∷ [])
       → WritesFaults detail base patches (take (i + 1) faults) form old after
-  fault_more form tells more = record {
-    told = tells.told ++ one ∷ [];
-    of_faults = rows_more (λ (t : ToldDecided). t.decided) faults i d tells.told one within refl tells.of_faults;
-    firsts = firsts_more (λ (f : DecidedFault). f.first) (λ (t : ToldDecided). t.first) faults i d tells.told one detail
-        base patches s within refl tells.firsts is;
+  fault_more form listing more = record {
+    listed = listing.listed ++ one ∷ [];
+    of_faults = rows_more (λ (t : ListedFault). t.decided) faults i d listing.listed one within refl listing.of_faults;
+    firsts =
+        firsts_more (λ (f : DecidedFault). f.first) (λ (t : ListedFault). t.first) faults i d listing.listed one detail
+        base patches s within refl listing.firsts is;
     whole = more;
   }
 
@@ -47,9 +48,9 @@ module _ {A : Type 0} (detail : Detail) (base : Disk) (patches : List Patch) (fa
       → WritesFaults detail base patches (take i faults) (flat_map (decided_text (length patches))) old so_far
       → after ≡ so_far ++ decided_text n one
       → WritesFaults detail base patches (take (i + 1) faults) (flat_map (decided_text (length patches))) old after
-  lines_more n number tells more =
-      fault_more (flat_map (decided_text (length patches))) tells
-      (item_more (decided_text (length patches)) tells.told one old so_far after tells.whole
+  lines_more n number listing more =
+      fault_more (flat_map (decided_text (length patches))) listing
+      (item_more (decided_text (length patches)) listing.listed one old so_far after listing.whole
       (more ∙ ap (λ (k : ℕ). so_far ++ decided_text k one) number))
 
   -- and where its object does
@@ -57,16 +58,16 @@ module _ {A : Type 0} (detail : Detail) (base : Disk) (patches : List Patch) (fa
       → WritesFaults detail base patches (take i faults) (fault_items form) old so_far
       → after ≡ so_far ++ comma_before i ++ decided_json n one
       → WritesFaults detail base patches (take (i + 1) faults) (fault_items form) old after
-  object_more n form same tells more =
-      fault_more (fault_items form) tells
-      (mapped_more (decided_json form) tells.told one i old so_far after (decided_json n one) place
-      tells.whole (ap (λ (k : Form). decided_json k one) same) more)
+  object_more n form same listing more =
+      fault_more (fault_items form) listing
+      (mapped_more (decided_json form) listing.listed one i old so_far after (decided_json n one) place
+      listing.whole (ap (λ (k : Form). decided_json k one) same) more)
     where
-      place : i ≡ length tells.told
+      place : i ≡ length listing.listed
       place = omega (
         arith,
         within,
-        sym (length-map tells.told (λ (t : ToldDecided). t.decided)),
-        ap length tells.of_faults,
+        sym (length-map listing.listed (λ (t : ListedFault). t.decided)),
+        ap length listing.of_faults,
         length-take i faults,
       )

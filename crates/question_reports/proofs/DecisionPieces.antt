@@ -4,9 +4,9 @@ use Rattle.std.proofs.Common.{append_assoc}
 use Rattle.std.specs.Prelude.{if◌then◌else◌}
 use Rattle.std.specs.List.{flat_map}
 use Rattle.crash_model.specs.Disk.{Disk}
-use Rattle.report_model.specs.OptionKeys.{trace_json, told_waits_json, counted_json, durable_json, promises_json}
+use Rattle.report_model.specs.OptionKeys.{trace_json, listed_waits_json, counted_json, durable_json, promises_json}
 use Rattle.report_model.specs.OptionKeys.{first_json, rules_json, before_module}
-use Rattle.report_model.specs.OptionTexts.{explanation_text, promises_text, told_with, told_without}
+use Rattle.report_model.specs.OptionTexts.{explanation_text, promises_text, listed_with, listed_without}
 use Rattle.crash_model.specs.Lists.{when}
 use Rattle.crash_model.specs.Promises.{Promise}
 use Rattle.report_model.specs.FaultKeys.{fault_head}
@@ -16,39 +16,39 @@ use Rattle.report_model.specs.SectionJson.{replay_json, writes_json}
 use Rattle.crash_model.specs.Texts.{module_text}
 use Rattle.crash_model.specs.declared.settings.Settings.{Settings}
 use Rattle.question_model.specs.Decision.{text_decision, json_decision, decision_bytes}
-use Rattle.question_model.specs.ToldDecided.{ToldDecided, decided_text, decided_json}
+use Rattle.question_model.specs.ListedFault.{ListedFault, decided_text, decided_json}
 use Rattle.question_model.specs.OrderingText.{ordering_text}
 use Rattle.question_model.specs.declared.decided_fault.DecidedFault.{DecidedFault}
 use Rattle.json_values.specs.Items.{crash_json, fault_shows_json}
-use Rattle.report_json.specs.JsonReport.{module_key, promise_keys, strict_key, told_promises, whole_key, from_strict}
+use Rattle.report_json.specs.JsonReport.{module_key, promise_keys, strict_key, listed_promises, whole_key, from_strict}
 use Rattle.report_sections.specs.Bodies.{explanation_by}
 use Rattle.traced_patches.specs.Traced.{TracedPatches}
 use Rattle.question_reports.specs.declared.decision.findings.Decision.{Decision}
 use Rattle.question_reports.specs.DecisionParts.{WritesDecision, decision_of, fault_items, form_by, head_lines}
 
 -- the bytes of a decision in JSON or in text
-abbrev in_form : {A : Type 0} → Decision A → List ToldDecided → Bool → List ℕ
-in_form decision told json =
-    let whole = decision_of decision told in
+abbrev in_form : {A : Type 0} → Decision A → List ListedFault → Bool → List ℕ
+in_form decision listed json =
+    let whole = decision_of decision listed in
     if json then json_decision decision.settings.now whole else text_decision decision.settings.now whole
 
 -- a decision in one form, if the settings ask for that
 pub as_json : {A : Type 0} (decision : Decision A) (text : List ℕ) → decision.settings.now.json ≡ true
     → WritesDecision json_decision decision text → WritesDecision decision_bytes decision text
 as_json decision text is wrote = record {
-  told = wrote.told;
+  listed = wrote.listed;
   of_faults = wrote.of_faults;
   firsts = wrote.firsts;
-  whole = wrote.whole ∙ ap (in_form decision wrote.told) (sym is);
+  whole = wrote.whole ∙ ap (in_form decision wrote.listed) (sym is);
 }
 
 pub as_text : {A : Type 0} (decision : Decision A) (text : List ℕ) → decision.settings.now.json ≡ false
     → WritesDecision text_decision decision text → WritesDecision decision_bytes decision text
 as_text decision text is wrote = record {
-  told = wrote.told;
+  listed = wrote.listed;
   of_faults = wrote.of_faults;
   firsts = wrote.firsts;
-  whole = wrote.whole ∙ ap (in_form decision wrote.told) (sym is);
+  whole = wrote.whole ∙ ap (in_form decision wrote.listed) (sym is);
 }
 
 -- the lines of the head
@@ -61,31 +61,32 @@ pub head_pieces : (settings : Settings) (base : Disk) (t : TracedPatches) (promi
     → after ≡ three ++ promises_text (length t.patches) promises
     → after ≡ before ++ head_lines settings base t promises closed
 head_pieces settings base t promises closed n before one two three after number first second third fourth =
-    let told = explanation_text (length t.patches) (when settings.explain (explanation_by base t)) in
+    let listed = explanation_text (length t.patches) (when settings.explain (explanation_by base t)) in
     let promised = promises_text (length t.patches) promises in
     let ordering = ordering_text settings in
     let numbers = λ (k : ℕ). codes "patches " ++ (decimal k ++ (codes "\nclosed " ++ (decimal closed ++ codes "\n"))) in
     fourth ∙ (ap (λ (t : List ℕ). t ++ promised) (third
-    ∙ ap (λ (t : List ℕ). t ++ told) (second ∙ (ap (λ (k : ℕ). one ++ numbers k) number
+    ∙ ap (λ (t : List ℕ). t ++ listed) (second ∙ (ap (λ (k : ℕ). one ++ numbers k) number
     ∙ ap (λ (text : List ℕ). text ++ numbers (length t.patches)) first)))
     ∙ regroup before ordering (codes "patches ") (decimal (length t.patches)) (codes "\n") (codes "closed ")
-    (decimal closed) told promised)
+    (decimal closed) listed promised)
   where
     regroup : (a b c d e f g h i : List ℕ) → a ++ b ++ (c ++ (d ++ ((e ++ f) ++ (g ++ e)))) ++ h ++ i
         ≡ a ++ (b ++ ((c ++ d) ++ e) ++ ((f ++ g) ++ e) ++ h ++ i)
     regroup a b c d e f g h i = simp append_assoc
 
 -- the lines of the head and those of the faults
-pub text_pieces : {A : Type 0} (decision : Decision A) (told : List ToldDecided) (empty head last : List ℕ) → empty ≡ []
+pub text_pieces : {A : Type 0} (decision : Decision A) (listed : List ListedFault) (empty head last : List ℕ)
+    → empty ≡ []
     → head ≡ empty ++ head_lines decision.settings.now decision.base.now decision.traced.now
-    (told_promises decision.settings.now decision.demands.now) decision.closed
-    → last ≡ head ++ flat_map (decided_text (length decision.traced.now.patches)) told
-    → last ≡ text_decision decision.settings.now (decision_of decision told)
+    (listed_promises decision.settings.now decision.demands.now) decision.closed
+    → last ≡ head ++ flat_map (decided_text (length decision.traced.now.patches)) listed
+    → last ≡ text_decision decision.settings.now (decision_of decision listed)
 unfolding text_decision
-text_pieces decision told empty head last none first second =
-    second ∙ ap (λ (t : List ℕ). t ++ flat_map (decided_text (length decision.traced.now.patches)) told)
+text_pieces decision listed empty head last none first second =
+    second ∙ ap (λ (t : List ℕ). t ++ flat_map (decided_text (length decision.traced.now.patches)) listed)
     (first ∙ ap (λ (t : List ℕ). t ++ head_lines decision.settings.now decision.base.now decision.traced.now
-    (told_promises decision.settings.now decision.demands.now) decision.closed) none)
+    (listed_promises decision.settings.now decision.demands.now) decision.closed) none)
 
 -- the object of a fault
 pub fault_pieces : (form : Form) (decided : DecidedFault) (s : Section) (before one after : List ℕ)
@@ -103,7 +104,7 @@ fault_pieces form decided s before one after first second =
     regroup before a b c d e f g h = simp append_assoc
 
 -- the keys of the whole
-pub json_pieces : {A : Type 0} (decision : Decision A) (n : ℕ) (told : List ToldDecided)
+pub json_pieces : {A : Type 0} (decision : Decision A) (n : ℕ) (listed : List ListedFault)
     (empty one two three four five six seven eight nine ten last : List ℕ)
     → n ≡ length decision.traced.now.patches → empty ≡ []
     → one ≡ empty ++ codes "{"
@@ -112,44 +113,44 @@ pub json_pieces : {A : Type 0} (decision : Decision A) (n : ℕ) (told : List To
     → three ≡ two ++ (codes "\"closed\":\"" ++ decimal decision.closed ++ codes "\"")
     → four ≡ three ++ promise_keys decision.settings.now
     → five ≡ four ++ codes ",\"faults\":["
-    → six ≡ five ++ fault_items (form_by decision) told
+    → six ≡ five ++ fault_items (form_by decision) listed
     → seven ≡ six ++ codes "]"
     → eight ≡ seven ++ module_key decision.settings.now n
-    → nine ≡ eight ++ promises_json n (told_promises decision.settings.now decision.demands.now)
+    → nine ≡ eight ++ promises_json n (listed_promises decision.settings.now decision.demands.now)
     → ten ≡ nine ++ from_strict decision.settings.now (length decision.traced.now.patches)
-    (explanation_by decision.base.now decision.traced.now) (told_promises decision.settings.now decision.demands.now)
+    (explanation_by decision.base.now decision.traced.now) (listed_promises decision.settings.now decision.demands.now)
     → last ≡ ten ++ codes "}\n"
-    → last ≡ json_decision decision.settings.now (decision_of decision told)
+    → last ≡ json_decision decision.settings.now (decision_of decision listed)
 unfolding json_decision
-json_pieces decision n told empty one two three four five six seven eight nine ten last number none first second third
+json_pieces decision n listed empty one two three four five six seven eight nine ten last number none first second third
     fourth fifth sixth seventh eighth ninth tenth eleventh =
     let settings = decision.settings.now in
     let patches = length decision.traced.now.patches in
     let explained = explanation_by decision.base.now decision.traced.now in
-    let promises = told_promises settings decision.demands.now in
+    let promises = listed_promises settings decision.demands.now in
     let base = first_json settings (when settings.explain explained) in
     let closed = codes "\"closed\":\"" ++ decimal decision.closed ++ codes "\"" in
     let keys = promise_keys settings in
-    let items = fault_items (form_by decision) told in
+    let items = fault_items (form_by decision) listed in
     let key = module_key settings in
-    let told_key = promises_json patches promises in
+    let listed_key = promises_json patches promises in
     let rest = from_strict settings patches explained promises in
     let start : five ≡ codes "{" ++ base ++ closed ++ keys ++ codes ",\"faults\":[" =
     fifth ∙ ap (λ (t : List ℕ). t ++ codes ",\"faults\":[") (fourth ∙ ap (λ (t : List ℕ). t ++ keys)
     (third ∙ ap (λ (t : List ℕ). t ++ closed) (second ∙ ap (λ (t : List ℕ). t ++ base)
     (first ∙ ap (λ (t : List ℕ). t ++ codes "{") none)))) in
-    let middle : nine ≡ five ++ items ++ codes "]" ++ key patches ++ told_key =
-    ninth ∙ (ap (λ (k : ℕ). eight ++ promises_json k promises) number ∙ ap (λ (t : List ℕ). t ++ told_key)
+    let middle : nine ≡ five ++ items ++ codes "]" ++ key patches ++ listed_key =
+    ninth ∙ (ap (λ (k : ℕ). eight ++ promises_json k promises) number ∙ ap (λ (t : List ℕ). t ++ listed_key)
     (eighth ∙ (ap (λ (k : ℕ). seven ++ key k) number ∙ ap (λ (t : List ℕ). t ++ key patches)
     (seventh ∙ ap (λ (t : List ℕ). t ++ codes "]") sixth)))) in
     eleventh ∙ (ap (λ (t : List ℕ). t ++ codes "}\n") (tenth ∙ ap (λ (t : List ℕ). t ++ rest)
-    (middle ∙ ap (λ (t : List ℕ). t ++ items ++ codes "]" ++ key patches ++ told_key) start))
+    (middle ∙ ap (λ (t : List ℕ). t ++ items ++ codes "]" ++ key patches ++ listed_key) start))
     ∙ regroup (codes "{") base (codes "\"closed\":") (codes "\"") (decimal decision.closed)
     (counted_json settings.counted) (durable_json settings.durable) (codes ",\"faults\":") (codes "[") items (codes "]")
     (before_module settings) (module_text settings.module) (codes ",\"patches\":") (decimal patches)
-    told_key (strict_key settings.strict) (trace_json (when settings.explain explained))
-    (told_waits_json patches (when settings.explain explained) promises) (whole_key settings.whole_blocks)
-    (rules_json (codes "with") (told_with settings)) (rules_json (codes "without") (told_without settings))
+    listed_key (strict_key settings.strict) (trace_json (when settings.explain explained))
+    (listed_waits_json patches (when settings.explain explained) promises) (whole_key settings.whole_blocks)
+    (rules_json (codes "with") (listed_with settings)) (rules_json (codes "without") (listed_without settings))
     (codes "}\n"))
   where
     regroup : (a b c d e f g h i j k l m n o p q r s t u v w : List ℕ)

@@ -7,21 +7,21 @@ use Rattle.report_model.specs.FaultKeys.{faults_head}
 use Rattle.report_model.specs.JsonParts.{ids_json, json_array, json_string}
 use Rattle.report_model.specs.SectionJson.{replay_json, write_json, shows_json}
 use Rattle.report_model.specs.OptionKeys.{atomic_json, rules_json}
-use Rattle.report_model.specs.OptionTexts.{told_with, told_without}
+use Rattle.report_model.specs.OptionTexts.{listed_with, listed_without}
 use Rattle.crash_model.specs.declared.settings.Settings.{Settings}
 use Rattle.crash_model.specs.declared.steps.Step.{Step}
 use Rattle.report_json.specs.JsonReport.{strict_key, whole_key}
-use Rattle.report_sections.specs.Replay.{told_replay}
+use Rattle.report_sections.specs.Replay.{listed_replay}
 use Rattle.report_sections.specs.Sections.{section_of}
 use Rattle.question_model.specs.Kinds.{kind_number, kind_name}
 use Rattle.question_model.specs.Refused.{refusal_number, refusal_text}
 use Rattle.question_model.specs.SearchReport.{first_promise_keys, json_search, kind_json, refused_json, step_text}
 use Rattle.question_model.specs.SearchReport.{before_kinds}
-use Rattle.question_model.specs.declared.found.Found.{Found}
+use Rattle.question_model.specs.declared.found.SearchCounts.{SearchCounts}
 use Rattle.question_model.specs.declared.found.RefusedCount.{RefusedCount}
 use Rattle.question_reports.specs.SearchFindings.{kind_head, kind_items, last_keys, ordering_keys}
-use Rattle.question_reports.specs.SearchFindings.{told_kind, failing_keys}
-use Rattle.question_reports.specs.SearchFindings.{told_kinds}
+use Rattle.question_reports.specs.SearchFindings.{listed_kind, failing_keys}
+use Rattle.question_reports.specs.SearchFindings.{listed_kinds}
 use Rattle.question_reports.specs.declared.search.findings.KindCrash.{KindCrash}
 use Rattle.question_reports.specs.declared.search.findings.SearchFindings.{SearchFindings}
 
@@ -32,10 +32,10 @@ pub refusal_pieces : (r : RefusedCount) (number : ℕ) (text before after : List
     ++ (codes ",\"text\":\"" ++ (text ++ codes "\"}"))))))
     → after ≡ before ++ refused_json r
 refusal_pieces r number text before after number_is text_is wrote =
-    let told = λ (n : ℕ) (t : List ℕ). codes "{\"count\":" ++ (decimal r.count ++ (codes ",\"number\":" ++ (decimal n
+    let listed = λ (n : ℕ) (t : List ℕ). codes "{\"count\":" ++ (decimal r.count ++ (codes ",\"number\":" ++ (decimal n
     ++ (codes ",\"text\":\"" ++ (t ++ codes "\"}"))))) in
-    wrote ∙ (ap (λ (n : ℕ). before ++ told n text) number_is
-    ∙ (ap (λ (t : List ℕ). before ++ told (refusal_number r.reason) t) text_is
+    wrote ∙ (ap (λ (n : ℕ). before ++ listed n text) number_is
+    ∙ (ap (λ (t : List ℕ). before ++ listed (refusal_number r.reason) t) text_is
     ∙ ap (λ (t : List ℕ). before ++ t) (regroup (codes "{\"count\":") (decimal r.count) (codes ",\"number\":")
     (decimal (refusal_number r.reason)) (codes ",\"text\":") (codes "\"") (refusal_text r.reason) (codes "}"))))
   where
@@ -49,12 +49,12 @@ pub kind_head_pieces : {A : Type 0} (numbers : Bool) (k : KindCrash A) (number :
     → number ≡ kind_number k.shown.now.kind → name ≡ kind_name k.shown.now.kind
     → one ≡ before ++ faults_head numbers k.section.faults.items
     → two ≡ one ++ (codes "\"kind\":" ++ (decimal number ++ (codes ",\"name\":\"" ++ (name ++ codes "\","))))
-    → after ≡ two ++ replay_json (told_replay k.section.replay)
+    → after ≡ two ++ replay_json (listed_replay k.section.replay)
     → after ≡ before ++ kind_head numbers k
 kind_head_pieces numbers k number name before one two after number_is name_is first second third =
     let kind = k.shown.now.kind in
     let head = faults_head numbers k.section.faults.items in
-    let replay = replay_json (told_replay k.section.replay) in
+    let replay = replay_json (listed_replay k.section.replay) in
     let keys = λ (n : ℕ) (text : List ℕ). codes "\"kind\":" ++ (decimal n ++ (codes ",\"name\":\"" ++ (text
     ++ codes "\","))) in
     third ∙ (ap (λ (t : List ℕ). t ++ replay) (second ∙ (ap (λ (n : ℕ). one ++ keys n name) number_is
@@ -76,14 +76,14 @@ pub kind_pieces : {A : Type 0} (numbers : Bool) (pool : List Step) (k : KindCras
     → three ≡ two ++ ids_json k.patches k.section.set
     → shown ≡ three ++ shows_json (section_of k.section).shows
     → four ≡ shown ++ codes ",\"steps\":["
-    → five ≡ four ++ join_of 44 (map (λ step. json_string (step_text step)) (told_kind pool k).steps)
+    → five ≡ four ++ join_of 44 (map (λ step. json_string (step_text step)) (listed_kind pool k).steps)
     → six ≡ five ++ (codes "],\"workloads\":" ++ (decimal k.shown.now.workloads ++ codes ",\"writes\":["))
     → seven ≡ six ++ join_of 44 (map (write_json n) k.section.writes.items)
     → after ≡ seven ++ codes "]}"
-    → after ≡ before ++ kind_json numbers (told_kind pool k)
+    → after ≡ before ++ kind_json numbers (listed_kind pool k)
 kind_pieces numbers pool k n before one two three shown four five six seven after n_is first second third shows fourth fifth
     sixth seventh eighth =
-    let texts = join_of 44 (map (λ step. json_string (step_text step)) (told_kind pool k).steps) in
+    let texts = join_of 44 (map (λ step. json_string (step_text step)) (listed_kind pool k).steps) in
     let writes = join_of 44 (map (write_json k.patches) k.section.writes.items) in
     let ids = ids_json k.patches k.section.set in
     let count = codes "],\"workloads\":" ++ (decimal k.shown.now.workloads ++ codes ",\"writes\":[") in
@@ -91,11 +91,12 @@ kind_pieces numbers pool k n before one two three shown four five six seven afte
     let set : shown ≡ before ++ kind_head numbers k ++ codes "\"set\":" ++ ids ++ showing =
     shows ∙ ap (λ (t : List ℕ). t ++ showing) (third ∙ ap (λ (t : List ℕ). t ++ ids)
     (second ∙ ap (λ (t : List ℕ). t ++ codes "\"set\":") first)) in
-    let told : five ≡ before ++ kind_head numbers k ++ codes "\"set\":" ++ ids ++ showing ++ codes ",\"steps\":[" ++ texts =
+    let listed : five ≡ before ++ kind_head numbers k ++ codes "\"set\":" ++ ids ++ showing ++ codes ",\"steps\":["
+    ++ texts =
     fifth ∙ ap (λ (t : List ℕ). t ++ texts) (fourth ∙ ap (λ (t : List ℕ). t ++ codes ",\"steps\":[") set) in
     eighth ∙ (ap (λ (t : List ℕ). t ++ codes "]}") (seventh
     ∙ (ap (λ (j : ℕ). six ++ join_of 44 (map (write_json j) k.section.writes.items)) n_is
-    ∙ ap (λ (t : List ℕ). t ++ writes) (sixth ∙ ap (λ (t : List ℕ). t ++ count) told)))
+    ∙ ap (λ (t : List ℕ). t ++ writes) (sixth ∙ ap (λ (t : List ℕ). t ++ count) listed)))
     ∙ regroup before (kind_head numbers k) (codes "\"set\":") ids showing (codes ",\"steps\":") (codes "[") texts
     (codes "]") (codes ",\"workloads\":") (decimal k.shown.now.workloads) (codes ",\"writes\":") writes (codes "}"))
   where
@@ -105,7 +106,8 @@ kind_pieces numbers pool k n before one two three shown four five six seven afte
     regroup before h s i j t o p q w n x y z = simp append_assoc
 
 -- the keys behind the module's
-pub last_pieces : (settings : Settings) (most pool : ℕ) (found : Found) (before one two three four after : List ℕ)
+pub last_pieces : (settings : Settings) (most pool : ℕ) (found : SearchCounts)
+    (before one two three four after : List ℕ)
     → one ≡ before ++ (codes ",\"pool\":" ++ (decimal pool ++ codes ",\"refused\":["))
     → two ≡ one ++ join_of 44 (map refused_json found.refused.items)
     → three ≡ two ++ (codes "],\"search\":" ++ decimal most)
@@ -139,7 +141,7 @@ pub json_pieces : {A : Type 0} (f : SearchFindings A) (empty zero half keyed one
     → three ≡ two ++ codes "]"
     → four ≡ three ++ (codes ",\"module\":" ++ json_string (module_text f.settings.now.module))
     → last ≡ four ++ last_keys f.settings.now f.most (length f.pool.now) f.found.now
-    → last ≡ json_search f.settings.now f.most (length f.pool.now) f.found.now (told_kinds f)
+    → last ≡ json_search f.settings.now f.most (length f.pool.now) f.found.now (listed_kinds f)
 unfolding json_search
 json_pieces {A = A} f empty zero half keyed one two three four last none opened atomic_is keys_are first second third
     fourth fifth =
@@ -149,13 +151,13 @@ json_pieces {A = A} f empty zero half keyed one two three four last none opened 
     let atomic = atomic_json settings.atomic in
     let fails = failing_keys found.failing settings in
     let keys = first_promise_keys settings in
-    let kinds = join_of 44 (map (kind_json settings.numbers) (told_kinds f)) in
+    let kinds = join_of 44 (map (kind_json settings.numbers) (listed_kinds f)) in
     let name = codes ",\"module\":" ++ json_string (module_text settings.module) in
     let end = last_keys settings f.most pool found in
     fifth ∙ (ap (λ (t : List ℕ). t ++ end) (fourth ∙ ap (λ (t : List ℕ). t ++ name)
     (third ∙ ap (λ (t : List ℕ). t ++ codes "]")
     (second ∙ (ap (λ (ts : List (List ℕ)). one ++ join_of 44 ts)
-    (sym (map-map (kind_json settings.numbers) (told_kind {A = A} f.pool.now) f.kinds.now))
+    (sym (map-map (kind_json settings.numbers) (listed_kind {A = A} f.pool.now) f.kinds.now))
     ∙ ap (λ (t : List ℕ). t ++ kinds) (first ∙ ap (λ (t : List ℕ). t ++ fails)
     (keys_are ∙ ap (λ (t : List ℕ). t ++ keys)
     (atomic_is ∙ ap (λ (t : List ℕ). t ++ atomic) (opened ∙ ap (λ (t : List ℕ). t ++ codes "{") none))))))))
@@ -164,7 +166,7 @@ json_pieces {A = A} f empty zero half keyed one two three four last none opened 
     (codes ",\"module\":") (json_string (module_text settings.module)) (codes ",\"pool\":") (decimal pool)
     (codes ",\"refused\":") (json_array (map refused_json found.refused.items)) (codes ",\"search\":")
     (decimal f.most) (strict_key settings.strict) (whole_key settings.whole_blocks)
-    (rules_json (codes "with") (told_with settings)) (rules_json (codes "without") (told_without settings))
+    (rules_json (codes "with") (listed_with settings)) (rules_json (codes "without") (listed_without settings))
     (codes ",\"workloads\":") (decimal found.workloads) (codes "}\n"))
   where
     regroup : (j u l a b c o k p d m e n f r g s x v y z h w i : List ℕ)

@@ -2,18 +2,18 @@
 use Rattle.std.proofs.Common.{◌≡◌, ℕ, List, length, Bool, true, false, sym, ap}
 use Rattle.std.specs.Prelude.{if◌then◌else◌}
 use Rattle.question_model.specs.SearchRulesReport.{json_search_rules, search_rules_bytes, text_search_rules}
-use Rattle.question_reports.specs.SearchRulesFindings.{told_needs}
+use Rattle.question_reports.specs.SearchRulesFindings.{listed_needs}
 use Rattle.question_reports.specs.declared.search_rules.findings.SearchRulesFindings.{SearchRulesFindings}
 
 -- the report in JSON, in text, and in the form that is asked for
 abbrev pub in_json : {A : Type 0} → SearchRulesFindings A → List ℕ
-in_json f = json_search_rules f.settings.now f.most (length f.pool.now) f.found.now f.enough.now (told_needs f)
+in_json f = json_search_rules f.settings.now f.most (length f.pool.now) f.found.now f.enough.now (listed_needs f)
 
 abbrev pub in_text : {A : Type 0} → SearchRulesFindings A → List ℕ
-in_text f = text_search_rules f.settings.now f.most (length f.pool.now) f.found.now f.enough.now (told_needs f)
+in_text f = text_search_rules f.settings.now f.most (length f.pool.now) f.found.now f.enough.now (listed_needs f)
 
 abbrev pub asked_bytes : {A : Type 0} → SearchRulesFindings A → List ℕ
-asked_bytes f = search_rules_bytes f.settings.now f.most (length f.pool.now) f.found.now f.enough.now (told_needs f)
+asked_bytes f = search_rules_bytes f.settings.now f.most (length f.pool.now) f.found.now f.enough.now (listed_needs f)
 
 abbrev in_form : {A : Type 0} → SearchRulesFindings A → Bool → List ℕ
 in_form f json = if json then in_json f else in_text f

@@ -7,14 +7,14 @@ use Rattle.crash_model.specs.declared.settings.Settings.{Settings}
 use Rattle.question_model.specs.OrderingText.{ordering_text}
 use Rattle.question_model.specs.Kinds.{kind_number, kind_name}
 use Rattle.question_model.specs.Refused.{refusal_number, refusal_text}
-use Rattle.question_model.specs.SearchReport.{ToldKind, kind_text, refused_text, search_text, step_text, text_search}
-use Rattle.question_model.specs.declared.found.Found.{Found}
+use Rattle.question_model.specs.SearchReport.{ListedKind, kind_text, refused_text, search_text, step_text, text_search}
+use Rattle.question_model.specs.declared.found.SearchCounts.{SearchCounts}
 use Rattle.question_model.specs.declared.found.RefusedCount.{RefusedCount}
-use Rattle.question_reports.specs.SearchFindings.{kind_lines, told_kind, told_kinds}
+use Rattle.question_reports.specs.SearchFindings.{kind_lines, listed_kind, listed_kinds}
 use Rattle.question_reports.specs.declared.search.findings.SearchFindings.{SearchFindings}
 
 -- the lines before the first kind
-pub head_pieces : (settings : Settings) (most pool : ℕ) (found : Found) (before one two after : List ℕ)
+pub head_pieces : (settings : Settings) (most pool : ℕ) (found : SearchCounts) (before one two after : List ℕ)
     → one ≡ before ++ ordering_text settings
     → two ≡ one ++ (codes "search " ++ (decimal most ++ (codes "\npool " ++ (decimal pool ++ (codes "\nworkloads "
     ++ (decimal found.workloads ++ (codes "\nfailing " ++ (decimal found.failing ++ codes "\n"))))))))
@@ -42,10 +42,10 @@ pub refusal_pieces : (r : RefusedCount) (number : ℕ) (text before after : List
     ++ codes "\n"))))))
     → after ≡ before ++ refused_text r
 refusal_pieces r number text before after number_is text_is wrote =
-    let told = λ (n : ℕ) (t : List ℕ). codes "refused " ++ (decimal n ++ (codes " " ++ (t ++ (codes ": "
+    let listed = λ (n : ℕ) (t : List ℕ). codes "refused " ++ (decimal n ++ (codes " " ++ (t ++ (codes ": "
     ++ (decimal r.count ++ codes "\n"))))) in
-    wrote ∙ (ap (λ (n : ℕ). before ++ told n text) number_is
-    ∙ (ap (λ (t : List ℕ). before ++ told (refusal_number r.reason) t) text_is
+    wrote ∙ (ap (λ (n : ℕ). before ++ listed n text) number_is
+    ∙ (ap (λ (t : List ℕ). before ++ listed (refusal_number r.reason) t) text_is
     ∙ ap (λ (t : List ℕ). before ++ t) (regroup (codes "refused ") (decimal (refusal_number r.reason)) (codes " ")
     (refusal_text r.reason) (codes ": ") (decimal r.count) (codes "\n"))))
   where
@@ -54,7 +54,7 @@ refusal_pieces r number text before after number_is text_is wrote =
     regroup a b c d e f g = simp append_assoc
 
 -- the lines of a kind
-pub kind_pieces : (t : ToldKind) (number : ℕ) (name before one two after : List ℕ)
+pub kind_pieces : (t : ListedKind) (number : ℕ) (name before one two after : List ℕ)
     → number ≡ kind_number t.shown.kind → name ≡ kind_name t.shown.kind
     → one ≡ before ++ (codes "kind " ++ (decimal number ++ (codes " " ++ (name ++ (codes "\nworkloads "
     ++ (decimal t.shown.workloads ++ codes "\n"))))))
@@ -82,10 +82,10 @@ kind_pieces t number name before one two after number_is name_is first second th
 pub text_pieces : {A : Type 0} (f : SearchFindings A) (empty head last : List ℕ) → empty ≡ []
     → head ≡ empty ++ search_text f.settings.now f.most (length f.pool.now) f.found.now
     → last ≡ head ++ kind_lines f.pool.now f.kinds.now
-    → last ≡ text_search f.settings.now f.most (length f.pool.now) f.found.now (told_kinds f)
+    → last ≡ text_search f.settings.now f.most (length f.pool.now) f.found.now (listed_kinds f)
 unfolding text_search
 text_pieces {A = A} f empty head last none first second =
     let start = search_text f.settings.now f.most (length f.pool.now) f.found.now in
     second ∙ (ap (λ (t : List ℕ). t ++ kind_lines f.pool.now f.kinds.now)
     (first ∙ ap (λ (t : List ℕ). t ++ start) none)
-    ∙ ap (λ (t : List ℕ). start ++ t) (sym (flat_map-map kind_text (told_kind {A = A} f.pool.now) f.kinds.now)))
+    ∙ ap (λ (t : List ℕ). start ++ t) (sym (flat_map-map kind_text (listed_kind {A = A} f.pool.now) f.kinds.now)))

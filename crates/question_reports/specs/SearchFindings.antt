@@ -5,18 +5,18 @@ use Rattle.crash_model.specs.Lists.{join_of}
 use Rattle.report_model.specs.FaultKeys.{faults_head}
 use Rattle.report_model.specs.JsonParts.{json_array, json_string}
 use Rattle.report_model.specs.SectionJson.{replay_json}
-use Rattle.report_model.specs.OptionTexts.{told_with, told_without}
+use Rattle.report_model.specs.OptionTexts.{listed_with, listed_without}
 use Rattle.report_model.specs.OptionKeys.{rules_json}
 use Rattle.crash_model.specs.declared.settings.Settings.{Settings}
 use Rattle.crash_model.specs.declared.steps.Act.{Act}
 use Rattle.crash_model.specs.declared.steps.Step.{Step}
 use Rattle.report_json.specs.JsonReport.{strict_key, whole_key}
-use Rattle.report_sections.specs.Replay.{told_replay}
+use Rattle.report_sections.specs.Replay.{listed_replay}
 use Rattle.report_sections.specs.Sections.{section_of}
 use Rattle.question_model.specs.Kinds.{kind_number, kind_name}
-use Rattle.question_model.specs.SearchReport.{ToldKind, kind_json, kind_text, refused_json, before_kinds}
+use Rattle.question_model.specs.SearchReport.{ListedKind, kind_json, kind_text, refused_json, before_kinds}
 use Rattle.question_model.specs.Workloads.{steps_at}
-use Rattle.question_model.specs.declared.found.Found.{Found}
+use Rattle.question_model.specs.declared.found.SearchCounts.{SearchCounts}
 use Rattle.question_reports.specs.declared.search.findings.KindCrash.{KindCrash}
 use Rattle.question_reports.specs.declared.search.findings.SearchFindings.{SearchFindings}
 
@@ -25,24 +25,24 @@ abbrev pub acts_at : List Step → List ℕ → List Act
 acts_at pool places = map (λ step. step.act) (steps_at pool places)
 
 -- a kind of fault, whose steps are at its places of the pool
-abbrev pub told_kind : {A : Type 0} → List Step → KindCrash A → ToldKind
-told_kind pool k = record {
+abbrev pub listed_kind : {A : Type 0} → List Step → KindCrash A → ListedKind
+listed_kind pool k = record {
   shown = k.shown.now;
   steps = steps_at pool k.shown.now.places.items;
   patches = k.patches;
   first = section_of k.section;
 }
 
-abbrev pub told_kinds : {A : Type 0} → SearchFindings A → List ToldKind
-told_kinds f = map (told_kind f.pool.now) f.kinds.now
+abbrev pub listed_kinds : {A : Type 0} → SearchFindings A → List ListedKind
+listed_kinds f = map (listed_kind f.pool.now) f.kinds.now
 
 -- the lines of kinds
 abbrev pub kind_lines : {A : Type 0} → List Step → List (KindCrash A) → List ℕ
-kind_lines pool kinds = flat_map (λ k. kind_text (told_kind pool k)) kinds
+kind_lines pool kinds = flat_map (λ k. kind_text (listed_kind pool k)) kinds
 
 -- their objects, with a comma between two
 abbrev pub kind_items : {A : Type 0} → Bool → List Step → List (KindCrash A) → List ℕ
-kind_items numbers pool kinds = join_of COMMA (map (λ k. kind_json numbers (told_kind pool k)) kinds)
+kind_items numbers pool kinds = join_of COMMA (map (λ k. kind_json numbers (listed_kind pool k)) kinds)
 
 -- the keys of a kind's object before the set
 abbrev pub kind_head : {A : Type 0} → Bool → KindCrash A → List ℕ
@@ -50,7 +50,7 @@ kind_head numbers k =
     faults_head numbers k.section.faults.items
     ++ codes "\"kind\":" ++ decimal (kind_number k.shown.now.kind)
     ++ codes ",\"name\":" ++ json_string (kind_name k.shown.now.kind) ++ codes ","
-    ++ replay_json (told_replay k.section.replay)
+    ++ replay_json (listed_replay k.section.replay)
 
 -- how many workloads fail, the keys of the disk, and the key of the kinds up to its array
 abbrev pub failing_keys : ℕ → Settings → List ℕ
@@ -62,11 +62,11 @@ abbrev pub ordering_keys : Settings → List ℕ
 ordering_keys settings =
     strict_key settings.strict
     ++ whole_key settings.whole_blocks
-    ++ rules_json (codes "with") (told_with settings)
-    ++ rules_json (codes "without") (told_without settings)
+    ++ rules_json (codes "with") (listed_with settings)
+    ++ rules_json (codes "without") (listed_without settings)
 
 -- the keys after the module's, the object's end and a line feed; a pool has so many operations
-abbrev pub last_keys : Settings → ℕ → ℕ → Found → List ℕ
+abbrev pub last_keys : Settings → ℕ → ℕ → SearchCounts → List ℕ
 last_keys settings most pool found =
     codes ",\"pool\":" ++ decimal pool
     ++ codes ",\"refused\":" ++ json_array (map refused_json found.refused.items)

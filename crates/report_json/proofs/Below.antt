@@ -9,22 +9,22 @@ use Rattle.json_values.specs.Items.{comma_before}
 use Rattle.json_values.proofs.Commas.{item_more}
 
 -- what there is of the first numbers, each of which has one
-pub record TellsBelow {X : Type 0} (form : X → List ℕ) (n : ℕ) (at : ℕ → Option X) (before all : List ℕ) : Type 0 where
+pub record ListsBelow {X : Type 0} (form : X → List ℕ) (n : ℕ) (at : ℕ → Option X) (before all : List ℕ) : Type 0 where
   pub whole : all ≡ before ++ join_of 44 (map form (some_below n at))
   pub number : length (some_below n at) ≡ n
 
-pub tells_more : {X : Type 0} (form : X → List ℕ) (n : ℕ) (at : ℕ → Option X) (x : X) (before all after text : List ℕ)
-    → TellsBelow form n at before all → at n ≡ Some x → text ≡ form x → after ≡ all ++ comma_before n ++ text
-    → TellsBelow form (n + 1) at before after
-tells_more {X = X} form n at x before all after text tells is text_is more =
+pub lists_more : {X : Type 0} (form : X → List ℕ) (n : ℕ) (at : ℕ → Option X) (x : X) (before all after text : List ℕ)
+    → ListsBelow form n at before all → at n ≡ Some x → text ≡ form x → after ≡ all ++ comma_before n ++ text
+    → ListsBelow form (n + 1) at before after
+lists_more {X = X} form n at x before all after text listing is text_is more =
     let step : some_below (n + 1) at ≡ some_below n at ++ x ∷ [] = some_below-step n at
     ∙ ap (λ (o : Option X). some_below n at ++ option_to_list o) is in
     let place : n ≡ length (map form (some_below n at)) =
-    omega (arith, length-map (some_below n at) form, tells.number) in
+    omega (arith, length-map (some_below n at) form, listing.number) in
     record {
-      whole = item_more (map form (some_below n at)) n before all after (form x) place tells.whole
+      whole = item_more (map form (some_below n at)) n before all after (form x) place listing.whole
           (more ∙ ap (λ (t : List ℕ). all ++ comma_before n ++ t) text_is)
           ∙ ap (λ (ts : List (List ℕ)). before ++ join_of 44 ts)
           (sym (ap (map form) step ∙ map-append form (some_below n at) (x ∷ [])));
-      number = ap length step ∙ (length-append (some_below n at) (x ∷ []) ∙ ap (λ (k : ℕ). k + 1) tells.number);
+      number = ap length step ∙ (length-append (some_below n at) (x ∷ []) ∙ ap (λ (k : ℕ). k + 1) listing.number);
     }

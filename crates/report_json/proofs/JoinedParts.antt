@@ -38,8 +38,8 @@ regroup a b c d = simp append_assoc
 pub placed_more : (items : List (List ℕ)) (place at : ℕ) (old so_far after item : List ℕ) → at ≡ length items + place
     → so_far ≡ old ++ items_from place items → after ≡ so_far ++ comma_before at ++ item
     → after ≡ old ++ items_from place (items ++ item ∷ [])
-placed_more items place at old so_far after item e told more =
-    more ∙ (ap (λ (t : List ℕ). t ++ comma_before at ++ item) told
+placed_more items place at old so_far after item e listed more =
+    more ∙ (ap (λ (t : List ℕ). t ++ comma_before at ++ item) listed
     ∙ (regroup old (items_from place items) (comma_before at) item ∙ ap (λ (t : List ℕ). old ++ t)
     (sym (items_append place at items (item ∷ []) e
     ∙ ap (λ (t : List ℕ). items_from place items ++ t) (append-nil (comma_before at ++ item))))))

@@ -1,4 +1,4 @@
--- The keys of promises and of lines that wait, if they are told.
+-- The keys of promises and of lines that wait, if they are listed.
 use Rattle.std.proofs.Common.{◌≡◌, ℕ, List, ◌++◌, Bool, true, false, Option, Some, None}
 use Rattle.std.proofs.Common.{map, codes, decimal, sym, ap, ◌∙◌}
 use Rattle.std.proofs.Common.{append_assoc}
@@ -12,7 +12,7 @@ use Rattle.crash_model.specs.PathTexts.{path_text}
 use Rattle.crash_model.specs.PatchTexts.{act_text}
 use Rattle.crash_model.specs.Waiting.{Wait}
 use Rattle.crash_model.specs.declared.names.Path.{Path}
-use Rattle.report_model.specs.OptionKeys.{told_waits_json, promises_json}
+use Rattle.report_model.specs.OptionKeys.{listed_waits_json, promises_json}
 use Rattle.report_model.specs.JsonParts.{ids_json, json_string}
 use Rattle.report_model.specs.Shows.{promise_json, spare_text, together, wait_json}
 use Rattle.report_sections.proofs.Pieces.{array_pieces}
@@ -21,38 +21,38 @@ use Rattle.json_values.proofs.SectionPieces.{three_pieces}
 
 -- ---- the keys
 
-pub promises_told : (explain : Bool) (o : Option (List Promise)) (n : ℕ) (before one two after : List ℕ)
+pub promises_listed : (explain : Bool) (o : Option (List Promise)) (n : ℕ) (before one two after : List ℕ)
     → is_some (if explain then o else None) ≡ true → one ≡ before ++ codes ",\"promises\":["
     → two ≡ one ++ join_of 44 (map (promise_json n) (promised o)) → after ≡ two ++ codes "]"
     → after ≡ before ++ promises_json n (if explain then o else None)
-promises_told false o n before one two after is first second third = cc
-promises_told true None n before one two after is first second third = cc
-promises_told true (Some ps) n before one two after is first second third =
+promises_listed false o n before one two after is first second third = cc
+promises_listed true None n before one two after is first second third = cc
+promises_listed true (Some ps) n before one two after is first second third =
     array_pieces before one two after (codes ",\"promises\":") (join_of 44 (map (promise_json n) ps)) first second third
 
-pub promises_untold : (explain : Bool) (o : Option (List Promise)) (n : ℕ) (before : List ℕ)
+pub promises_unlisted : (explain : Bool) (o : Option (List Promise)) (n : ℕ) (before : List ℕ)
     → is_some (if explain then o else None) ≡ false → before ≡ before ++ promises_json n (if explain then o else None)
-promises_untold false o n before is = sym (append-nil before)
-promises_untold true None n before is = sym (append-nil before)
-promises_untold true (Some ps) n before is = cc
+promises_unlisted false o n before is = sym (append-nil before)
+promises_unlisted true None n before is = sym (append-nil before)
+promises_unlisted true (Some ps) n before is = cc
 
-pub waits_told : (explain : Bool) (o : Option (List Promise)) (told : Explanation) (n : ℕ)
+pub waits_listed : (explain : Bool) (o : Option (List Promise)) (listed : Explanation) (n : ℕ)
     (before one two after : List ℕ) → is_some (if explain then o else None) ≡ true
-    → one ≡ before ++ codes ",\"waits\":[" → two ≡ one ++ join_of 44 (map (wait_json n) told.waits)
+    → one ≡ before ++ codes ",\"waits\":[" → two ≡ one ++ join_of 44 (map (wait_json n) listed.waits)
     → after ≡ two ++ codes "]"
-    → after ≡ before ++ told_waits_json n (when explain told) (if explain then o else None)
-waits_told false o told n before one two after is first second third = cc
-waits_told true None told n before one two after is first second third = cc
-waits_told true (Some ps) told n before one two after is first second third =
-    array_pieces before one two after (codes ",\"waits\":") (join_of 44 (map (wait_json n) told.waits)) first second
+    → after ≡ before ++ listed_waits_json n (when explain listed) (if explain then o else None)
+waits_listed false o listed n before one two after is first second third = cc
+waits_listed true None listed n before one two after is first second third = cc
+waits_listed true (Some ps) listed n before one two after is first second third =
+    array_pieces before one two after (codes ",\"waits\":") (join_of 44 (map (wait_json n) listed.waits)) first second
     third
 
-pub waits_untold : (explain : Bool) (o : Option (List Promise)) (told : Explanation) (n : ℕ) (before : List ℕ)
+pub waits_unlisted : (explain : Bool) (o : Option (List Promise)) (listed : Explanation) (n : ℕ) (before : List ℕ)
     → is_some (if explain then o else None) ≡ false
-    → before ≡ before ++ told_waits_json n (when explain told) (if explain then o else None)
-waits_untold false o told n before is = sym (append-nil before)
-waits_untold true None told n before is = sym (append-nil before)
-waits_untold true (Some ps) told n before is = cc
+    → before ≡ before ++ listed_waits_json n (when explain listed) (if explain then o else None)
+waits_unlisted false o listed n before is = sym (append-nil before)
+waits_unlisted true None listed n before is = sym (append-nil before)
+waits_unlisted true (Some ps) listed n before is = cc
 
 -- ---- the objects
 

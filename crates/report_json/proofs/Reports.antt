@@ -3,16 +3,16 @@ use Rattle.std.proofs.Common.{◌≡◌, ℕ, ◌+◌, ◌<◌, List, [], ◌∷
 use Rattle.std.proofs.Common.{decimal, refl, sym, ap, ◌∙◌, arith, append_assoc, length-take}
 use Rattle.std.proofs.lemmas.List.{length-map, map-append}
 use Rattle.crash_model.specs.Lists.{when}
-use Rattle.report_model.specs.OptionKeys.{trace_json, told_waits_json, counted_json, durable_json, promises_json}
+use Rattle.report_model.specs.OptionKeys.{trace_json, listed_waits_json, counted_json, durable_json, promises_json}
 use Rattle.report_model.specs.OptionKeys.{first_json, rules_json, before_module}
 use Rattle.crash_model.specs.Disk.{Disk}
 use Rattle.report_model.specs.Report.{Detail}
 use Rattle.report_model.specs.JsonParts.{Form}
 use Rattle.report_model.specs.SectionJson.{section_json}
 use Rattle.crash_model.specs.Texts.{module_text}
-use Rattle.report_model.specs.Summary.{ToldFault, told_fault_json}
+use Rattle.report_model.specs.Summary.{CountedFault, counted_fault_json}
 use Rattle.report_model.specs.Whole.{Body}
-use Rattle.report_model.specs.OptionTexts.{told_with, told_without}
+use Rattle.report_model.specs.OptionTexts.{listed_with, listed_without}
 use Rattle.report_model.specs.WholeJson.{early_json, late_json, json_report}
 use Rattle.crash_model.specs.declared.fault.FaultRow.{FaultRow}
 use Rattle.crash_model.specs.declared.patches.Patch.{Patch}
@@ -24,7 +24,7 @@ use Rattle.report_sections.proofs.Joined.{rows_more, firsts_more}
 use Rattle.report_sections.proofs.Pieces.{four_pieces}
 use Rattle.report_sections.proofs.Pushed.{sections_more, length-sections}
 use Rattle.report_json.specs.JsonReport.{WritesSections, WritesFaults, items_from, module_key, strict_key, whole_key}
-use Rattle.report_json.specs.JsonReport.{form_by, from_module, from_strict, promise_keys, told_promises}
+use Rattle.report_json.specs.JsonReport.{form_by, from_module, from_strict, promise_keys, listed_promises}
 use Rattle.report_json.proofs.JoinedParts.{placed_more}
 use Rattle.json_values.specs.Items.{comma_before}
 use Rattle.json_values.proofs.Commas.{mapped_more}
@@ -35,22 +35,22 @@ pub section_more : {A : Type 0} (form : Form) (detail : Detail) (base : Disk) (p
     → IsSection detail base patches (get_or sets i 0) s → text ≡ section_json form (section_of s)
     → after ≡ so_far ++ comma_before (place + i) ++ text
     → WritesSections form detail base patches place (take (i + 1) sets) old after
-section_more form detail base patches sets place i old so_far after text s within tells is written more = record {
-  sections = tells.sections ++ section_of s ∷ [];
-  are = sections_more detail base patches sets i tells.sections s within tells.are is;
-  whole = placed_more (map (section_json form) tells.sections) place (place + i) old so_far after
-      (section_json form (section_of s)) at tells.whole
+section_more form detail base patches sets place i old so_far after text s within listing is written more = record {
+  sections = listing.sections ++ section_of s ∷ [];
+  are = sections_more detail base patches sets i listing.sections s within listing.are is;
+  whole = placed_more (map (section_json form) listing.sections) place (place + i) old so_far after
+      (section_json form (section_of s)) at listing.whole
       (more ∙ ap (λ (t : List ℕ). so_far ++ comma_before (place + i) ++ t) written)
       ∙ ap (λ (ts : List (List ℕ)). old ++ items_from place ts)
-      (sym (map-append (section_json form) tells.sections (section_of s ∷ [])));
+      (sym (map-append (section_json form) listing.sections (section_of s ∷ [])));
 }
   where
-    at : place + i ≡ length (map (section_json form) tells.sections) + place
+    at : place + i ≡ length (map (section_json form) listing.sections) + place
     at = omega (
       arith,
       within,
-      length-map tells.sections (section_json form),
-      length-sections detail base patches (take i sets) tells.sections tells.are,
+      length-map listing.sections (section_json form),
+      length-sections detail base patches (take i sets) listing.sections listing.are,
       length-take i sets,
     )
 
@@ -58,25 +58,26 @@ pub fault_more : {A : Type 0} (form : Form) (detail : Detail) (base : Disk) (pat
     (i : ℕ) (d : FaultRow) (old so_far after text : List ℕ) (s : code.Section A) → i < length rows
     → WritesFaults form detail base patches (take i rows) old so_far
     → IsSection detail base patches (get_or rows i d).first s
-    → text ≡ told_fault_json form (record { row = get_or rows i d; first = section_of s })
+    → text ≡ counted_fault_json form (record { row = get_or rows i d; first = section_of s })
     → after ≡ so_far ++ comma_before i ++ text → WritesFaults form detail base patches (take (i + 1) rows) old after
-fault_more form detail base patches rows i d old so_far after text s within tells is written more = record {
-  told = tells.told ++ one ∷ [];
-  of_rows = rows_more (λ (t : ToldFault). t.row) rows i d tells.told one within refl tells.of_rows;
-  firsts = firsts_more (λ (row : FaultRow). row.first) (λ (t : ToldFault). t.first) rows i d tells.told one
-      detail base patches s within refl tells.firsts is;
-  whole = mapped_more (told_fault_json form) tells.told one i old so_far after text place tells.whole written more;
+fault_more form detail base patches rows i d old so_far after text s within listing is written more = record {
+  listed = listing.listed ++ one ∷ [];
+  of_rows = rows_more (λ (t : CountedFault). t.row) rows i d listing.listed one within refl listing.of_rows;
+  firsts = firsts_more (λ (row : FaultRow). row.first) (λ (t : CountedFault). t.first) rows i d listing.listed one
+      detail base patches s within refl listing.firsts is;
+  whole = mapped_more (counted_fault_json form) listing.listed one i old so_far after text place listing.whole written
+      more;
 }
   where
-    one : ToldFault
+    one : CountedFault
     one = record { row = get_or rows i d; first = section_of s }
 
-    place : i ≡ length tells.told
+    place : i ≡ length listing.listed
     place = omega (
       arith,
       within,
-      sym (length-map tells.told (λ (t : ToldFault). t.row)),
-      ap length tells.of_rows,
+      sym (length-map listing.listed (λ (t : CountedFault). t.row)),
+      ap length listing.of_rows,
       length-take i rows,
     )
 
@@ -86,13 +87,13 @@ fault_more form detail base patches rows i d old so_far after text s within tell
 pub keys_from_module : {A : Type 0} (report : Report A) (n : ℕ) (body : Body) (before one two three last : List ℕ)
     → n ≡ length report.traced.now.patches
     → one ≡ before ++ module_key report.settings.now n
-    → two ≡ one ++ promises_json n (told_promises report.settings.now report.demands.now)
+    → two ≡ one ++ promises_json n (listed_promises report.settings.now report.demands.now)
     → three ≡ two ++ late_json (form_by report) report.failing body
     → last ≡ three ++ from_strict report.settings.now (length report.traced.now.patches)
-    (explanation_by report.base.now report.traced.now) (told_promises report.settings.now report.demands.now)
+    (explanation_by report.base.now report.traced.now) (listed_promises report.settings.now report.demands.now)
     → last ≡ before ++ from_module report body
 keys_from_module report n body before one two three last number first second third fourth =
-    let promises = told_promises report.settings.now report.demands.now in
+    let promises = listed_promises report.settings.now report.demands.now in
     four_pieces before one two three last _ _ _ _
     (first ∙ ap (λ (k : ℕ). before ++ module_key report.settings.now k) number)
     (second ∙ ap (λ (k : ℕ). one ++ promises_json k promises) number) third fourth
@@ -111,14 +112,14 @@ pub whole_text : {A : Type 0} (report : Report A) (body : Body) (empty one two t
     → last ≡ json_report report.settings.now (whole_of report body)
 unfolding json_report
 whole_text report body empty one two three four five six last none first second third fourth fifth sixth seventh =
-    let told = when report.settings.now.explain (explanation_by report.base.now report.traced.now) in
+    let listed = when report.settings.now.explain (explanation_by report.base.now report.traced.now) in
     let patches = length report.traced.now.patches in
-    let base = first_json report.settings.now told in
+    let base = first_json report.settings.now listed in
     let keys = promise_keys report.settings.now in
     let form = form_by report in
     let early = early_json form report.failing body in
     let rest = from_module report body in
-    let promises = told_promises report.settings.now report.demands.now in
+    let promises = listed_promises report.settings.now report.demands.now in
     let start : four ≡ codes "{" ++ base ++ (codes "\"closed\":" ++ decimal report.closed) ++ keys =
     fourth ∙ ap (λ (t : List ℕ). t ++ keys) (third
     ∙ ap (λ (t : List ℕ). t ++ (codes "\"closed\":" ++ decimal report.closed))
@@ -133,11 +134,11 @@ whole_text report body empty one two three four five six last none first second 
     (before_module report.settings.now) (codes "\"")
     (module_text report.settings.now.module) (codes "\"") (codes ",\"patches\":") (decimal patches)
     (promises_json patches promises)
-    (late_json form report.failing body) (strict_key report.settings.now.strict) (trace_json told)
-    (told_waits_json patches told promises)
+    (late_json form report.failing body) (strict_key report.settings.now.strict) (trace_json listed)
+    (listed_waits_json patches listed promises)
     (whole_key report.settings.now.whole_blocks)
-    (rules_json (codes "with") (told_with report.settings.now))
-    (rules_json (codes "without") (told_without report.settings.now)) (codes "}\n")))
+    (rules_json (codes "with") (listed_with report.settings.now))
+    (rules_json (codes "without") (listed_without report.settings.now)) (codes "}\n")))
   where
     front : (a b c d e f g h i : List ℕ)
         → a ++ b ++ (c ++ d) ++ (e ++ f) ++ g ++ h ++ i ≡ a ++ b ++ c ++ d ++ e ++ f ++ g ++ h ++ i

@@ -6,37 +6,37 @@ use Rattle.crash_model.specs.Lists.{join_of, when}
 use Rattle.crash_model.specs.Checker.{Demands}
 use Rattle.crash_model.specs.Disk.{Disk}
 use Rattle.crash_model.specs.Promises.{Promise}
-use Rattle.crash_model.specs.Reasons.{Explanation, blocks_of, told_patches}
-use Rattle.report_model.specs.Explain.{hex_json, told_json}
-use Rattle.report_model.specs.OptionKeys.{trace_json, told_waits_json, counted_json, durable_json, promises_json}
+use Rattle.crash_model.specs.Reasons.{Explanation, blocks_of, explained_patches}
+use Rattle.report_model.specs.Explain.{hex_json, explained_json}
+use Rattle.report_model.specs.OptionKeys.{trace_json, listed_waits_json, counted_json, durable_json, promises_json}
 use Rattle.report_model.specs.OptionKeys.{rules_json, before_module}
 use Rattle.report_model.specs.Report.{Detail, Section, AreSections}
 use Rattle.report_model.specs.JsonParts.{Form, json_array, json_string}
 use Rattle.report_model.specs.SectionJson.{section_json}
 use Rattle.crash_model.specs.PathTexts.{path_text}
 use Rattle.crash_model.specs.Texts.{module_text}
-use Rattle.report_model.specs.Summary.{ToldFault, told_fault_json}
-use Rattle.report_model.specs.Needs.{told_rule_json}
+use Rattle.report_model.specs.Summary.{CountedFault, counted_fault_json}
+use Rattle.report_model.specs.Needs.{listed_rule_json}
 use Rattle.report_model.specs.Whole as whole
 use Rattle.report_model.specs.WholeJson.{early_json, late_json, form_of}
-use Rattle.report_model.specs.OptionTexts.{told_with, told_without}
+use Rattle.report_model.specs.OptionTexts.{listed_with, listed_without}
 use Rattle.crash_model.specs.declared.fault.FaultRow.{FaultRow}
 use Rattle.crash_model.specs.declared.patches.Patch.{Patch}
 use Rattle.crash_model.specs.declared.names.Path.{Path}
 use Rattle.crash_model.specs.declared.settings.Settings.{Settings}
 use Rattle.traced_patches.specs.Traced.{TracedPatches}
-use Rattle.report_sections.specs.Bodies.{detail_by, TellsBody, explanation_by}
-use Rattle.report_sections.specs.ToldRules.{told_rule}
+use Rattle.report_sections.specs.Bodies.{detail_by, ListsBody, explanation_by}
+use Rattle.report_sections.specs.ListedRules.{listed_rule}
 use Rattle.json_values.specs.Items.{comma_before}
 use Rattle.report_sections.specs.declared.report.Report.{Report}
-use Rattle.report_sections.specs.declared.rules.ToldRule.{ToldRule}
+use Rattle.report_sections.specs.declared.rules.ListedRule.{ListedRule}
 
 -- the keys that explain: the base and the patches
 abbrev pub base_key : Disk → List ℕ
 base_key base = codes "\"base\":" ++ json_array (map hex_json (blocks_of base)) ++ codes ","
 
 abbrev pub trace_key : TracedPatches → List ℕ
-trace_key t = codes ",\"trace\":" ++ json_array (map told_json (told_patches t.rules t.whole t.links t.emitted
+trace_key t = codes ",\"trace\":" ++ json_array (map explained_json (explained_patches t.rules t.whole t.links t.emitted
     t.patches))
 
 -- the keys of the disk, the module and the number of patches
@@ -52,9 +52,9 @@ strict_key strict = if strict then codes ",\"strict\":true" else []
 abbrev pub whole_key : Bool → List ℕ
 whole_key whole = if whole then codes ",\"whole_blocks\":true" else []
 
--- the promises that are told: if patches are explained, and a line of the script waits or promises
-abbrev pub told_promises : Settings → Demands → Option (List Promise)
-told_promises settings demands = if settings.explain then demands.promises else None
+-- the promises that are listed: if patches are explained, and a line of the script waits or promises
+abbrev pub listed_promises : Settings → Demands → Option (List Promise)
+listed_promises settings demands = if settings.explain then demands.promises else None
 
 -- which faults count, if not all do, and that fsyncs promise, if they do
 abbrev pub promise_keys : Settings → List ℕ
@@ -71,10 +71,10 @@ abbrev pub from_strict : Settings → ℕ → Explanation → Option (List Promi
 from_strict settings n explanation promises =
     strict_key settings.strict
     ++ trace_json (when settings.explain explanation)
-    ++ told_waits_json n (when settings.explain explanation) promises
+    ++ listed_waits_json n (when settings.explain explanation) promises
     ++ whole_key settings.whole_blocks
-    ++ rules_json (codes "with") (told_with settings)
-    ++ rules_json (codes "without") (told_without settings)
+    ++ rules_json (codes "with") (listed_with settings)
+    ++ rules_json (codes "without") (listed_without settings)
 
 -- how the objects of a report are written
 abbrev pub form_by : {A : Type 0} → Report A → Form
@@ -83,28 +83,28 @@ form_by report = form_of report.settings.now (length report.traced.now.patches)
 -- the text has the body's key before `module` appended
 abbrev pub WritesEarly : {A : Type 0} → Report A → List ℕ → List ℕ → Type 0
 WritesEarly report old new =
-    (body : whole.Body) × TellsBody (detail_by report) report.base.now report.traced.now.patches report.body body
+    (body : whole.Body) × ListsBody (detail_by report) report.base.now report.traced.now.patches report.body body
     × (new ≡ old ++ early_json (form_by report) report.failing body)
 
 -- and its key after `patches`
 abbrev pub WritesLate : {A : Type 0} → Report A → List ℕ → List ℕ → Type 0
 WritesLate report old new =
-    (body : whole.Body) → TellsBody (detail_by report) report.base.now report.traced.now.patches report.body body
+    (body : whole.Body) → ListsBody (detail_by report) report.base.now report.traced.now.patches report.body body
     → new ≡ old ++ late_json (form_by report) report.failing body
 
 -- the keys from the module on
 abbrev pub from_module : {A : Type 0} → Report A → whole.Body → List ℕ
 from_module report body =
     module_key report.settings.now (length report.traced.now.patches)
-    ++ promises_json (length report.traced.now.patches) (told_promises report.settings.now report.demands.now)
+    ++ promises_json (length report.traced.now.patches) (listed_promises report.settings.now report.demands.now)
     ++ late_json (form_by report) report.failing body
     ++ from_strict report.settings.now (length report.traced.now.patches)
-    (explanation_by report.base.now report.traced.now) (told_promises report.settings.now report.demands.now)
+    (explanation_by report.base.now report.traced.now) (listed_promises report.settings.now report.demands.now)
 
 -- the text has those appended
 abbrev pub WritesFromModule : {A : Type 0} → Report A → List ℕ → List ℕ → Type 0
 WritesFromModule report old new =
-    (body : whole.Body) → TellsBody (detail_by report) report.base.now report.traced.now.patches report.body body
+    (body : whole.Body) → ListsBody (detail_by report) report.base.now report.traced.now.patches report.body body
     → new ≡ old ++ from_module report body
 
 -- items of an array, the first of them at this place, with a comma before each that is not the first of all
@@ -122,11 +122,12 @@ pub record WritesSections (form : Form) (detail : Detail) (base : Disk) (patches
 -- the text has the objects of these rows appended, separated by commas
 pub record WritesFaults (form : Form) (detail : Detail) (base : Disk) (patches : List Patch) (rows : List FaultRow)
     (old new : List ℕ) : Type 0 where
-  pub told : List ToldFault
-  pub of_rows : map (λ t. t.row) told ≡ rows
-  pub firsts : AreSections detail base patches (map (λ row. row.first) rows) (map (λ t. t.first) told)
-  pub whole : new ≡ old ++ join_of COMMA (map (told_fault_json form) told)
+  pub listed : List CountedFault
+  pub of_rows : map (λ t. t.row) listed ≡ rows
+  pub firsts : AreSections detail base patches (map (λ row. row.first) rows) (map (λ t. t.first) listed)
+  pub whole : new ≡ old ++ join_of COMMA (map (counted_fault_json form) listed)
 
 -- and of the objects of these rules
-abbrev pub WritesRules : {A : Type 0} → Form → List (ToldRule A) → List ℕ → List ℕ → Type 0
-WritesRules form rules old new = new ≡ old ++ join_of COMMA (map (λ rule. told_rule_json form (told_rule rule)) rules)
+abbrev pub WritesRules : {A : Type 0} → Form → List (ListedRule A) → List ℕ → List ℕ → Type 0
+WritesRules form rules old new =
+    new ≡ old ++ join_of COMMA (map (λ rule. listed_rule_json form (listed_rule rule)) rules)

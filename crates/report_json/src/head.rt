@@ -12,7 +12,7 @@ ghost use Rattle.crash_model.specs.RuleTexts.{rule_text};
 ghost use Rattle.traced_patches.specs.Traced.{TracedPatches};
 ghost use Rattle.report_sections.specs.Bodies.{explanation_by};
 ghost use Rattle.report_model.specs.Shows.{counted_numbers};
-ghost use Rattle.report_json.specs.JsonReport.{module_key, promise_keys, strict_key, told_promises};
+ghost use Rattle.report_json.specs.JsonReport.{module_key, promise_keys, strict_key, listed_promises};
 ghost use Rattle.report_json.specs.JsonReport.{whole_key, from_strict};
 
 use crate::patches::{write_base, write_trace};
@@ -83,7 +83,7 @@ pub fn write_from_strict<A: Allocator + Copy, B: Allocator>(
 ) -> Result<(), AllocError>
     ensures { OnOk result ((base : Disk) → string_bytes out.new
         ≡ string_bytes out.old ++ from_strict settings.now (length traced.now.patches) (explanation_by base traced.now)
-        (told_promises settings.now demands.now)) }
+        (listed_promises settings.now demands.now)) }
 {
     write_strict_key(out, settings.strict)?;
     write_explained_trace(out, heap, traced, settings.explain)?;

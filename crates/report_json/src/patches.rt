@@ -1,11 +1,11 @@
 //! JSON of the base and of the patches of a trace.
 
 ghost use Rattle.std.specs.Prelude.{◌≡◌, ◌++◌, ◌<◌, length, map, string_bytes, OnOk, Some};
-ghost use Rattle.report_model.specs.Explain.{told_json, hex_json};
-ghost use Rattle.crash_model.specs.Reasons.{ToldPatch, blocks_of};
+ghost use Rattle.report_model.specs.Explain.{explained_json, hex_json};
+ghost use Rattle.crash_model.specs.Reasons.{ExplainedPatch, blocks_of};
 ghost use Rattle.crash_model.specs.Lists.{join_of, some_below};
 ghost use Rattle.json_values.specs.Items.{comma_before};
-ghost use Rattle.traced_patches.specs.Traced.{told_at};
+ghost use Rattle.traced_patches.specs.Traced.{explained_at};
 ghost use Rattle.report_json.specs.JsonReport.{base_key, trace_key};
 
 use crash_model::separators::COMMA;
@@ -62,8 +62,8 @@ fn write_patches<A: Allocator + Copy, B: Allocator>(
     traced: &Traced<'_, A>,
 ) -> Result<(), AllocError>
     ensures { OnOk result (string_bytes out.new
-        ≡ string_bytes out.old ++ join_of COMMA (map told_json
-        (some_below (length traced.now.patches) (told_at traced.now)))) }
+        ≡ string_bytes out.old ++ join_of COMMA (map explained_json
+        (some_below (length traced.now.patches) (explained_at traced.now)))) }
 {
     for id in 0..traced.len() {
         write_patch(out, heap, traced, id)?;
@@ -80,8 +80,8 @@ fn write_patch<A: Allocator + Copy, B: Allocator>(
 ) -> Result<(), AllocError>
     requires patch { id < length traced.now.patches }
     requires emitted { length traced.now.emitted ≡ length traced.now.patches }
-    ensures { OnOk result ((told : ToldPatch) × (told_at traced.now id ≡ Some told)
-        × (string_bytes out.new ≡ string_bytes out.old ++ comma_before id ++ told_json told)) }
+    ensures { OnOk result ((listed : ExplainedPatch) × (explained_at traced.now id ≡ Some listed)
+        × (string_bytes out.new ≡ string_bytes out.old ++ comma_before id ++ explained_json listed)) }
 {
     let value = patch_value(heap, traced, id)?;
     write_item(out, heap, id, &value)

@@ -4,12 +4,12 @@ ghost use Rattle.std.specs.Prelude.{◌≡◌, ◌++◌, codes, if◌then◌else
 ghost use Rattle.crash_model.specs.Disk.{Disk};
 ghost use Rattle.crash_model.specs.Lists.{join_of, when};
 ghost use Rattle.crash_model.specs.PathTexts.{path_text};
-ghost use Rattle.report_model.specs.OptionKeys.{told_waits_json, promises_json};
+ghost use Rattle.report_model.specs.OptionKeys.{listed_waits_json, promises_json};
 ghost use Rattle.report_model.specs.JsonParts.{json_string};
 ghost use Rattle.report_model.specs.Shows.{promise_json, spare_text, together, wait_json};
 ghost use Rattle.traced_patches.specs.Labels.{wait_by, waits_by};
 ghost use Rattle.report_sections.specs.Bodies.{explanation_by};
-ghost use Rattle.report_json.specs.JsonReport.{paths_key, told_promises};
+ghost use Rattle.report_json.specs.JsonReport.{paths_key, listed_promises};
 
 use crash_model::names::Path;
 use crash_model::promises::{Allowance, Spare};
@@ -29,9 +29,9 @@ pub fn write_promises<A: Allocator + Copy, B: Allocator>(
     demands: &Demands<A>,
 ) -> Result<(), AllocError>
     ensures { OnOk result (string_bytes out.new
-        ≡ string_bytes out.old ++ promises_json patches (told_promises settings.now demands.now)) }
+        ≡ string_bytes out.old ++ promises_json patches (listed_promises settings.now demands.now)) }
 {
-    if tells_promises(settings, demands) {
+    if lists_promises(settings, demands) {
         out.push_str(",\"promises\":[")?;
         write_each_promise(out, patches, demands.promises())?;
         out.push_str("]")?;
@@ -39,9 +39,9 @@ pub fn write_promises<A: Allocator + Copy, B: Allocator>(
     Ok(())
 }
 
-/// Whether promises are told: patches are explained, and the script has a line that waits or promises.
-fn tells_promises<A: Allocator + Copy>(settings: &Settings, demands: &Demands<A>) -> bool
-    ensures { result ≡ is_some (told_promises settings.now demands.now) }
+/// Whether promises are listed: patches are explained, and the script has a line that waits or promises.
+fn lists_promises<A: Allocator + Copy>(settings: &Settings, demands: &Demands<A>) -> bool
+    ensures { result ≡ is_some (listed_promises settings.now demands.now) }
 {
     settings.explain && demands.has_promises()
 }
@@ -159,10 +159,10 @@ pub(crate) fn write_waits<A: Allocator + Copy, B: Allocator>(
     demands: &Demands<A>,
 ) -> Result<(), AllocError>
     ensures { OnOk result ((base : Disk) → string_bytes out.new ≡ string_bytes out.old
-        ++ told_waits_json (length traced.now.patches) (when settings.now.explain (explanation_by base traced.now))
-        (told_promises settings.now demands.now)) }
+        ++ listed_waits_json (length traced.now.patches) (when settings.now.explain (explanation_by base traced.now))
+        (listed_promises settings.now demands.now)) }
 {
-    if tells_promises(settings, demands) {
+    if lists_promises(settings, demands) {
         out.push_str(",\"waits\":[")?;
         write_each_wait(out, traced.len(), traced.waits())?;
         out.push_str("]")?;

@@ -4,10 +4,10 @@ ghost use Rattle.std.specs.Prelude.{◌≡◌, ◌+◌, ◌^◌, ◌<◌, ◌++�
 ghost use Rattle.patch_sets.specs.Closed.{IsClosed};
 ghost use Rattle.crash_model.specs.Patches.{deps_of};
 ghost use Rattle.report_model.specs.SectionJson.{section_json};
-ghost use Rattle.report_model.specs.Summary.{told_fault_json};
+ghost use Rattle.report_model.specs.Summary.{counted_fault_json};
 ghost use Rattle.report_model.specs.Whole.{Body as WholeBody};
 ghost use Rattle.report_model.specs.WholeJson.{json_report};
-ghost use Rattle.report_sections.specs.Bodies.{detail_by, CanTell, TellsBody, AreOnBase, AreClosed, whole_of};
+ghost use Rattle.report_sections.specs.Bodies.{detail_by, CanReport, ListsBody, AreOnBase, AreClosed, whole_of};
 ghost use Rattle.report_sections.specs.Sections.{section_of, IsSection};
 ghost use Rattle.report_sections.specs.declared.section.Section.{Section};
 ghost use Rattle.json_values.specs.Items.{comma_before};
@@ -19,7 +19,7 @@ use crate::parts::SectionObjects;
 use crate::promises::write_promises;
 use crash_model::fault::FaultRow;
 use json_values::{KnownTexts, write_comma};
-use report_sections::{Body, Report, ToldRule};
+use report_sections::{Body, ListedRule, Report};
 use section_maker::{SectionMaker, write_together};
 use std::alloc::{AllocError, Allocator, Global};
 use std::thread::Threads;
@@ -39,9 +39,9 @@ pub fn report_json<R, A>(
 where
     R: Threads + Sync,
     A: Allocator + Copy + Send + Sync,
-    requires { CanTell report.now }
+    requires { CanReport report.now }
     ensures { IfOk result (λ text. (body : WholeBody)
-        × TellsBody (detail_by report.now) report.now.base.now report.now.traced.now.patches report.now.body
+        × ListsBody (detail_by report.now) report.now.base.now report.now.traced.now.patches report.now.body
         body
         × (string_bytes text ≡ json_report report.now.settings.now (whole_of report.now body))) }
 {
@@ -62,9 +62,9 @@ where
     R: Threads + Sync,
     A: Allocator + Copy + Send + Sync,
     requires empty { string_bytes out.old ≡ [] }
-    requires told { CanTell report.now }
+    requires listed { CanReport report.now }
     ensures { OnOk result ((body : WholeBody)
-        × TellsBody (detail_by report.now) report.now.base.now report.now.traced.now.patches report.now.body
+        × ListsBody (detail_by report.now) report.now.base.now report.now.traced.now.patches report.now.body
         body
         × (string_bytes out.new ≡ json_report report.now.settings.now (whole_of report.now body))) }
 {
@@ -106,7 +106,7 @@ fn write_early<R, A>(
 where
     R: Threads + Sync,
     A: Allocator + Copy + Send + Sync,
-    requires { CanTell report.now }
+    requires { CanReport report.now }
     ensures { OnOk result (WritesEarly report.now (string_bytes out.old) (string_bytes out.new)) }
 {
     match report.body {
@@ -206,7 +206,7 @@ fn write_section<A: Allocator + Copy>(
     set: u128,
 ) -> Result<(), AllocError>
     requires { IsClosed (deps_of maker.old.patches) set }
-    ensures told { OnOk result ((section : Section A)
+    ensures listed { OnOk result ((section : Section A)
         × IsSection maker.old.detail maker.old.base maker.old.patches set section
         × (string_bytes out.new
         ≡ string_bytes out.old ++ comma_before at ++ section_json known.old (section_of section))) }
@@ -268,10 +268,10 @@ fn write_fault<A: Allocator + Copy>(
     row: &FaultRow,
 ) -> Result<(), AllocError>
     requires { IsClosed (deps_of maker.old.patches) row.now.first }
-    ensures told { OnOk result ((section : Section A)
+    ensures listed { OnOk result ((section : Section A)
         × IsSection maker.old.detail maker.old.base maker.old.patches row.now.first section
         × (string_bytes out.new ≡ string_bytes out.old ++ comma_before at
-        ++ told_fault_json known.old (record { row = row.now; first = section_of section }))) }
+        ++ counted_fault_json known.old (record { row = row.now; first = section_of section }))) }
     ensures known { known.new ≡ known.old }
     ensures maker { maker.new ≡ maker.old }
 {
@@ -285,7 +285,7 @@ fn write_rules<A: Allocator + Copy>(
     out: &mut String<A>,
     heap: Global,
     report: &Report<'_, '_, '_, '_, A>,
-    rules: &[ToldRule<A>],
+    rules: &[ListedRule<A>],
 ) -> Result<(), AllocError>
     ensures { OnOk result (WritesRules (form_by report.now) rules.now (string_bytes out.old) (string_bytes out.new)) }
 {
@@ -298,7 +298,7 @@ fn write_rules<A: Allocator + Copy>(
 fn write_each_rule<A: Allocator + Copy>(
     out: &mut String<A>,
     known: &mut KnownTexts,
-    rules: &[ToldRule<A>],
+    rules: &[ListedRule<A>],
 ) -> Result<(), AllocError>
     ensures { OnOk result (WritesRules known.old rules.now (string_bytes out.old) (string_bytes out.new)) }
 {

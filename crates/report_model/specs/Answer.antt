@@ -9,8 +9,8 @@ use Rattle.crash_model.specs.Checker.{Demands, AreDemands, IsFailingUnder}
 use Rattle.crash_model.specs.Lists.{when}
 use Rattle.report_model.specs.Report.{Detail, AreSections, IsLed}
 use Rattle.crash_model.specs.Reasons.{explanation}
-use Rattle.report_model.specs.Summary.{AreToldFaults}
-use Rattle.report_model.specs.Needs.{AreToldRules}
+use Rattle.report_model.specs.Summary.{AreCountedFaults}
+use Rattle.report_model.specs.Needs.{AreListedRules}
 use Rattle.report_model.specs.Whole.{Body, Sets, Faults, Rules}
 use Rattle.report_model.specs.WholeText.{report}
 use Rattle.crash_model.specs.declared.patches.Patch.{Patch}
@@ -35,13 +35,13 @@ detail_of settings demands = record { explain = settings.explain; demands = dema
 abbrev pub IsBody : Settings → ReportBy → ℕ → Demands → Disk → Tracing → List Patch → List ℕ → Body → Type 0
 IsBody settings by limit demands base last patches sets (Sets sections) =
     (by ≡ BySet) × AreSections (detail_of settings demands) base patches sets sections × All (IsLed patches) sections
-IsBody settings by limit demands base last patches sets (Faults told) =
-    (by ≡ ByFault) × AreToldFaults (detail_of settings demands) base patches told
-    × All (λ t. IsLed patches t.first) told
-IsBody settings by limit demands base last patches sets (Rules told) =
+IsBody settings by limit demands base last patches sets (Faults listed) =
+    (by ≡ ByFault) × AreCountedFaults (detail_of settings demands) base patches listed
+    × All (λ t. IsLed patches t.first) listed
+IsBody settings by limit demands base last patches sets (Rules listed) =
     (by ≡ ByRule)
-    × AreToldRules (detail_of settings demands) limit (ordering_rules settings) base last patches
-    (ordering_rules settings) told
+    × AreListedRules (detail_of settings demands) limit (ordering_rules settings) base last patches
+    (ordering_rules settings) listed
 
 -- the report on a graph: how many of its closed sets fail, each of which a crash can leave
 pub record IsReport (settings : Settings) (by : ReportBy) (limit : ℕ) (demands : Demands) (base : Disk)
@@ -54,7 +54,7 @@ pub record IsReport (settings : Settings) (by : ReportBy) (limit : ℕ) (demands
   pub left : All (CanLeave (deps_of patches) (homes_of patches)) sets
   pub number : failing ≡ length sets
   pub body : Body
-  pub told : IsBody settings by limit demands base last patches sets body
+  pub listed : IsBody settings by limit demands base last patches sets body
   pub whole : text ≡ report settings (record {
     patches = length patches;
     closed = total;

@@ -4,7 +4,7 @@ use Rattle.hex.specs.Hex.{encode_lower}
 use Rattle.crash_model.specs.PatchTexts.{part_text, op_text}
 use Rattle.report_model.specs.Parts.{line}
 use Rattle.report_model.specs.JsonParts.{json_string, json_array}
-use Rattle.crash_model.specs.Reasons.{Dependency, ToldPatch}
+use Rattle.crash_model.specs.Reasons.{Dependency, ExplainedPatch}
 
 -- ---- text
 
@@ -17,8 +17,8 @@ list_text (x ∷ y ∷ ys) = x ++ codes ", " ++ list_text (y ∷ ys)
 abbrev pub dependency_text : Dependency → List ℕ
 dependency_text w = line (codes "after " ++ decimal w.id ++ codes ": " ++ list_text w.reasons)
 
-abbrev pub told_text : ToldPatch → List ℕ
-told_text t =
+abbrev pub explained_text : ExplainedPatch → List ℕ
+explained_text t =
     let e = t.emitted in
     line (codes "patch " ++ decimal t.id ++ codes " line " ++ decimal e.origin.line ++ codes " " ++ op_text e.origin.op
     ++ codes ": " ++ part_text e.part ++ codes " block " ++ decimal e.place.block ++ codes " offset "
@@ -35,8 +35,8 @@ abbrev pub dependency_json : Dependency → List ℕ
 dependency_json w =
     codes "{\"patch\":" ++ decimal w.id ++ codes ",\"why\":" ++ json_array (map json_string w.reasons) ++ codes "}"
 
-abbrev pub told_json : ToldPatch → List ℕ
-told_json t =
+abbrev pub explained_json : ExplainedPatch → List ℕ
+explained_json t =
     let e = t.emitted in
     codes "{\"after\":" ++ json_array (map dependency_json t.after)
     ++ codes ",\"block\":" ++ decimal e.place.block

@@ -12,8 +12,8 @@ abbrev pub shows_if : Option (List (List Shown)) → List (List Shown)
 shows_if None = []
 shows_if (Some shows) = shows
 
-abbrev pub told_shows : Option (List (List Shown)) → List ℕ
-told_shows shows = flat_map shows_text (shows_if shows)
+abbrev pub listed_shows : Option (List (List Shown)) → List ℕ
+listed_shows shows = flat_map shows_text (shows_if shows)
 
 -- a line for each fault, and after that of a broken promise one for what is shown
 abbrev pub faults_text : List Fault → List (List Shown) → List ℕ

@@ -31,7 +31,7 @@ pub data RuleUsage : Type 0 where
   TooMany : ℕ → RuleUsage
   Used : ℕ → Without → RuleUsage
 
-pub record ToldRule : Type 0 where
+pub record ListedRule : Type 0 where
   pub rule : Rule
   pub usage : RuleUsage
 
@@ -65,11 +65,11 @@ IsRuleUsage detail limit rules base s patches rule (Used pairs w) =
     × HasGraphBy (rules_in_first rules (rule ∷ [])) base s (λ changed. IsWithout detail limit base patches changed w)
 
 -- there is an entry for each rule of `some`, in their order; `rules` are all rules
-abbrev pub AreToldRules : Detail → ℕ → List Rule → Disk → Tracing → List Patch → List Rule → List ToldRule → Type 0
-AreToldRules detail limit rules base s patches [] told = told ≡ []
-AreToldRules detail limit rules base s patches (rule ∷ some) told =
-    (usage : RuleUsage) × (rest : List ToldRule) × IsRuleUsage detail limit rules base s patches rule usage
-    × AreToldRules detail limit rules base s patches some rest × (told ≡ record { rule = rule; usage = usage } ∷ rest)
+abbrev pub AreListedRules : Detail → ℕ → List Rule → Disk → Tracing → List Patch → List Rule → List ListedRule → Type 0
+AreListedRules detail limit rules base s patches [] list = list ≡ []
+AreListedRules detail limit rules base s patches (rule ∷ some) list =
+    (usage : RuleUsage) × (rest : List ListedRule) × IsRuleUsage detail limit rules base s patches rule usage
+    × AreListedRules detail limit rules base s patches some rest × (list ≡ record { rule = rule; usage = usage } ∷ rest)
 
 -- ---- text; patches are n in all
 
@@ -85,8 +85,8 @@ usage_text n rule (Used pairs w) =
     ++ decimal w.failing)
     ++ first_text n w.first
 
-abbrev pub told_rule_text : ℕ → ToldRule → List ℕ
-told_rule_text n t = usage_text n (codes "rule " ++ rule_text t.rule) t.usage
+abbrev pub listed_rule_text : ℕ → ListedRule → List ℕ
+listed_rule_text n t = usage_text n (codes "rule " ++ rule_text t.rule) t.usage
 
 -- ---- JSON
 
@@ -102,6 +102,6 @@ usage_json form rule (Used pairs w) =
     codes "\"closed\":" ++ decimal w.closed ++ codes ",\"failing\":" ++ decimal w.failing ++ codes ","
     ++ first_json form w.first ++ codes "\"pairs\":" ++ decimal pairs ++ rule
 
-abbrev pub told_rule_json : Form → ToldRule → List ℕ
-told_rule_json form t =
+abbrev pub listed_rule_json : Form → ListedRule → List ℕ
+listed_rule_json form t =
     codes "{" ++ usage_json form (codes ",\"rule\":" ++ json_string (rule_text t.rule)) t.usage ++ codes "}"

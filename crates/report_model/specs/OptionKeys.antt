@@ -9,7 +9,7 @@ use Rattle.crash_model.specs.declared.settings.Settings.{Settings}
 use Rattle.report_model.specs.Parts.{numbers}
 use Rattle.report_model.specs.JsonParts.{json_string, json_array}
 use Rattle.report_model.specs.Shows.{wait_json, promise_json, counted_numbers}
-use Rattle.report_model.specs.Explain.{hex_json, told_json}
+use Rattle.report_model.specs.Explain.{hex_json, explained_json}
 
 -- that operations are to be atomic, with a comma after it
 abbrev pub atomic_json : Bool → List ℕ
@@ -18,7 +18,7 @@ atomic_json atomic = if atomic then codes "\"atomic\":true," else []
 -- the base, followed by a comma
 abbrev pub base_json : Option Explanation → List ℕ
 base_json None = []
-base_json (Some told) = codes "\"base\":" ++ json_array (map hex_json told.base) ++ codes ","
+base_json (Some listed) = codes "\"base\":" ++ json_array (map hex_json listed.base) ++ codes ","
 
 -- the keys before the first that each report has
 abbrev pub first_json : Settings → Option Explanation → List ℕ
@@ -65,7 +65,7 @@ promises_json n (Some promises) = codes ",\"promises\":" ++ json_array (map (pro
 -- the patches, with a comma before them
 abbrev pub trace_json : Option Explanation → List ℕ
 trace_json None = []
-trace_json (Some told) = codes ",\"trace\":" ++ json_array (map told_json told.patches)
+trace_json (Some listed) = codes ",\"trace\":" ++ json_array (map explained_json listed.patches)
 
 -- the lines that wait with a comma before them, where promises are told
 abbrev pub waits_json : ℕ → List Wait → Option (List Promise) → List ℕ
@@ -73,9 +73,9 @@ waits_json n waits None = []
 waits_json n waits (Some _) = codes ",\"waits\":" ++ json_array (map (wait_json n) waits)
 
 -- the same, if patches are explained
-abbrev pub told_waits_json : ℕ → Option Explanation → Option (List Promise) → List ℕ
-told_waits_json n None promises = []
-told_waits_json n (Some told) promises = waits_json n told.waits promises
+abbrev pub listed_waits_json : ℕ → Option Explanation → Option (List Promise) → List ℕ
+listed_waits_json n None promises = []
+listed_waits_json n (Some listed) promises = waits_json n listed.waits promises
 
 -- a key with the texts of the rules, if there are any
 abbrev pub rules_json : List ℕ → List Rule → List ℕ

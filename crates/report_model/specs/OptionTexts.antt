@@ -8,14 +8,14 @@ use Rattle.crash_model.specs.declared.rules.Rule.{Rule}
 use Rattle.crash_model.specs.declared.settings.Settings.{Settings}
 use Rattle.report_model.specs.Parts.{line, numbers}
 use Rattle.report_model.specs.Shows.{wait_text, promise_text, counted_numbers}
-use Rattle.report_model.specs.Explain.{told_text}
+use Rattle.report_model.specs.Explain.{explained_text}
 
 -- the rules that a report lists as taken out and as put in
-abbrev pub told_without : Settings → List Rule
-told_without settings = rules_taken_out settings.module settings.without.items
+abbrev pub listed_without : Settings → List Rule
+listed_without settings = rules_taken_out settings.module settings.without.items
 
-abbrev pub told_with : Settings → List Rule
-told_with settings = rules_put_in settings.module settings.without.items settings.with.items
+abbrev pub listed_with : Settings → List Rule
+listed_with settings = rules_put_in settings.module settings.without.items settings.with.items
 
 -- a line for each rule: the word and the rule
 abbrev pub rule_lines : List ℕ → List Rule → List ℕ
@@ -34,7 +34,7 @@ counted_text (Some counted) = line (codes "faults" ++ numbers (counted_numbers c
 -- the patches, which are n in all, and the lines that wait
 abbrev pub explanation_text : ℕ → Option Explanation → List ℕ
 explanation_text n None = []
-explanation_text n (Some told) = flat_map told_text told.patches ++ flat_map (wait_text n) told.waits
+explanation_text n (Some listed) = flat_map explained_text listed.patches ++ flat_map (wait_text n) listed.waits
 
 abbrev pub promises_text : ℕ → Option (List Promise) → List ℕ
 promises_text n None = []

@@ -31,7 +31,7 @@ asked_by settings lines = record {
   atomic = settings.atomic;
   durable = settings.durable;
   counted = settings.counted;
-  tells = has_promises lines;
+  promising = has_promises lines;
   kind = settings.module;
 }
 

@@ -4,11 +4,11 @@ use Rattle.crash_model.specs.Texts.{module_text}
 use Rattle.crash_model.specs.declared.settings.Settings.{Settings}
 use Rattle.report_model.specs.JsonParts.{Form, json_string, json_array}
 use Rattle.report_model.specs.SectionJson.{section_json}
-use Rattle.report_model.specs.OptionKeys.{counted_json, durable_json, promises_json, trace_json, told_waits_json}
+use Rattle.report_model.specs.OptionKeys.{counted_json, durable_json, promises_json, trace_json, listed_waits_json}
 use Rattle.report_model.specs.OptionKeys.{rules_json, before_module, first_json}
-use Rattle.report_model.specs.Summary.{told_fault_json}
-use Rattle.report_model.specs.Needs.{told_rule_json}
-use Rattle.report_model.specs.OptionTexts.{told_without, told_with}
+use Rattle.report_model.specs.Summary.{counted_fault_json}
+use Rattle.report_model.specs.Needs.{listed_rule_json}
+use Rattle.report_model.specs.OptionTexts.{listed_without, listed_with}
 use Rattle.report_model.specs.Whole.{Body, Sets, Faults, Rules, Report}
 
 -- how the objects of a report on so many patches are written
@@ -18,14 +18,14 @@ form_of settings patches = record { patches = patches; numbers = settings.number
 -- the body's keys before `module`
 abbrev pub early_json : Form → ℕ → Body → List ℕ
 early_json form failing (Sets sections) = codes ",\"failing\":" ++ json_array (map (section_json form) sections)
-early_json form failing (Faults told) = codes ",\"faults\":" ++ json_array (map (told_fault_json form) told)
-early_json form failing (Rules told) = codes ",\"failing\":" ++ decimal failing
+early_json form failing (Faults listed) = codes ",\"faults\":" ++ json_array (map (counted_fault_json form) listed)
+early_json form failing (Rules listed) = codes ",\"failing\":" ++ decimal failing
 
 -- and those after `patches`
 abbrev pub late_json : Form → ℕ → Body → List ℕ
 late_json form failing (Sets sections) = []
-late_json form failing (Faults told) = codes ",\"sets\":" ++ decimal failing
-late_json form failing (Rules told) = codes ",\"rules\":" ++ json_array (map (told_rule_json form) told)
+late_json form failing (Faults listed) = codes ",\"sets\":" ++ decimal failing
+late_json form failing (Rules listed) = codes ",\"rules\":" ++ json_array (map (listed_rule_json form) listed)
 
 unfoldable pub json_report : Settings → Report → List ℕ
 json_report settings r =
@@ -40,8 +40,8 @@ json_report settings r =
     ++ late_json (form_of settings r.patches) r.failing r.body
     ++ (if settings.strict then codes ",\"strict\":true" else [])
     ++ trace_json r.explanation
-    ++ told_waits_json r.patches r.explanation r.promises
+    ++ listed_waits_json r.patches r.explanation r.promises
     ++ (if settings.whole_blocks then codes ",\"whole_blocks\":true" else [])
-    ++ rules_json (codes "with") (told_with settings)
-    ++ rules_json (codes "without") (told_without settings)
+    ++ rules_json (codes "with") (listed_with settings)
+    ++ rules_json (codes "without") (listed_without settings)
     ++ codes "}\n"

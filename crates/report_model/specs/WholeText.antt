@@ -3,10 +3,10 @@ use Rattle.std.specs.Prelude.{ℕ, List, [], ◌++◌, flat_map, if◌then◌els
 use Rattle.crash_model.specs.Texts.{module_text}
 use Rattle.crash_model.specs.declared.settings.Settings.{Settings}
 use Rattle.report_model.specs.Report.{line, section_text}
-use Rattle.report_model.specs.OptionTexts.{counted_text, promises_text, explanation_text, told_without, told_with}
+use Rattle.report_model.specs.OptionTexts.{counted_text, promises_text, explanation_text, listed_without, listed_with}
 use Rattle.report_model.specs.OptionTexts.{rule_lines, blocks_text}
-use Rattle.report_model.specs.Summary.{told_fault_text}
-use Rattle.report_model.specs.Needs.{told_rule_text}
+use Rattle.report_model.specs.Summary.{counted_fault_text}
+use Rattle.report_model.specs.Needs.{listed_rule_text}
 use Rattle.report_model.specs.WholeJson.{json_report}
 use Rattle.report_model.specs.Whole.{Body, Sets, Faults, Rules, Report}
 
@@ -14,8 +14,8 @@ use Rattle.report_model.specs.Whole.{Body, Sets, Faults, Rules, Report}
 abbrev pub head_text : Settings → ℕ → ℕ → ℕ → List ℕ
 head_text settings patches closed failing =
     line (codes "module " ++ module_text settings.module)
-    ++ rule_lines (codes "without") (told_without settings)
-    ++ rule_lines (codes "with") (told_with settings)
+    ++ rule_lines (codes "without") (listed_without settings)
+    ++ rule_lines (codes "with") (listed_with settings)
     ++ blocks_text settings.generations settings.whole_blocks
     ++ (if settings.strict then line (codes "strict") else [])
     ++ (if settings.atomic then line (codes "atomic") else [])
@@ -27,8 +27,8 @@ head_text settings patches closed failing =
 
 abbrev pub body_text : ℕ → Body → List ℕ
 body_text n (Sets sections) = flat_map (section_text n) sections
-body_text n (Faults told) = flat_map (told_fault_text n) told
-body_text n (Rules told) = flat_map (told_rule_text n) told
+body_text n (Faults listed) = flat_map (counted_fault_text n) listed
+body_text n (Rules listed) = flat_map (listed_rule_text n) listed
 
 unfoldable pub text_report : Settings → Report → List ℕ
 text_report settings r =

@@ -9,8 +9,8 @@ use Rattle.report_sections.specs.Showing.{shown_lists}
 abbrev pub items_of : ArrayVec Shown → List Shown
 items_of list = list.items
 
--- where nothing is told
-pub nothing_told : {A : Type 0} (shows : Option (Vec (ArrayVec Shown) A)) → is_some shows ≡ false
+-- where nothing is listed
+pub nothing_listed : {A : Type 0} (shows : Option (Vec (ArrayVec Shown) A)) → is_some shows ≡ false
     → shows_if (shown_lists shows) ≡ []
-nothing_told None none = refl
-nothing_told (Some lists) none = absurd (cc none)
+nothing_listed None none = refl
+nothing_listed (Some lists) none = absurd (cc none)

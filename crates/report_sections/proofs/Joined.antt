@@ -81,16 +81,17 @@ rows_more {X = X} row_of rows i d so_far one within is of_rows = map-append row_
     ∙ sym (take_more rows i d within)))
 
 -- and so is the section of its first set
-pub firsts_more : {X T A : Type 0} (first_of : X → ℕ) (told_of : T → report.Section) (rows : List X) (i : ℕ) (d : X)
+pub firsts_more : {X T A : Type 0} (first_of : X → ℕ) (listed_of : T → report.Section) (rows : List X) (i : ℕ) (d : X)
     (so_far : List T) (one : T) (detail : Detail) (base : Disk) (patches : List Patch) (s : Section A)
-    → i < length rows → told_of one ≡ section_of s
-    → AreSections detail base patches (map first_of (take i rows)) (map told_of so_far)
+    → i < length rows → listed_of one ≡ section_of s
+    → AreSections detail base patches (map first_of (take i rows)) (map listed_of so_far)
     → IsSection detail base patches (first_of (get_or rows i d)) s
-    → AreSections detail base patches (map first_of (take (i + 1) rows)) (map told_of (so_far ++ one ∷ []))
-firsts_more first_of told_of rows i d so_far one detail base patches s within told firsts is =
+    → AreSections detail base patches (map first_of (take (i + 1) rows)) (map listed_of (so_far ++ one ∷ []))
+firsts_more first_of listed_of rows i d so_far one detail base patches s within listed firsts is =
     let row = get_or rows i d in
     subst (λ (ss : List report.Section). AreSections detail base patches (map first_of (take (i + 1) rows)) ss)
-    (sym (map-append told_of so_far (one ∷ []) ∙ ap (λ (one : report.Section). map told_of so_far ++ one ∷ []) told))
-    (subst (λ (sets : List ℕ). AreSections detail base patches sets (map told_of so_far ++ section_of s ∷ []))
+    (sym (map-append listed_of so_far (one ∷ [])
+    ∙ ap (λ (one : report.Section). map listed_of so_far ++ one ∷ []) listed))
+    (subst (λ (sets : List ℕ). AreSections detail base patches sets (map listed_of so_far ++ section_of s ∷ []))
     (sym (ap (map first_of) (take_more rows i d within) ∙ map-append first_of (take i rows) (row ∷ [])))
-    (sections_push detail base patches (map first_of (take i rows)) (first_of row) (map told_of so_far) s firsts is))
+    (sections_push detail base patches (map first_of (take i rows)) (first_of row) (map listed_of so_far) s firsts is))

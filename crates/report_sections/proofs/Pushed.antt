@@ -28,9 +28,9 @@ sections_push detail base patches (x ∷ xs) set sections s (writes, rest, runs,
 )
 
 -- a section is the one that is reported of its set by itself
-pub is_told : {A : Type 0} (detail : Detail) (base : Disk) (patches : List Patch) (set : ℕ) (s : Section A)
+pub is_listed : {A : Type 0} (detail : Detail) (base : Disk) (patches : List Patch) (set : ℕ) (s : Section A)
     → IsSection detail base patches set s → AreSections detail base patches (set ∷ []) (section_of s ∷ [])
-is_told detail base patches set s is = sections_push detail base patches [] set [] s refl is
+is_listed detail base patches set s is = sections_push detail base patches [] set [] s refl is
 
 -- the sections of the first sets, with that of the next
 pub sections_more : {A : Type 0} (detail : Detail) (base : Disk) (patches : List Patch) (sets : List ℕ) (i : ℕ)

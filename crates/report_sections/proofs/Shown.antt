@@ -62,11 +62,11 @@ once_of xs i r is =
 
 -- ---- one fault among others
 
--- where nothing is told, nothing is shown
-pub none_told : (fault : Fault) (found : List Fault) → shown_of fault found [] ≡ []
-none_told fault [] = refl
-none_told fault (BrokenPromise _ ∷ found) = none_told fault found
-none_told fault (_ ∷ found) = none_told fault found
+-- where nothing is listed, nothing is shown
+pub none_listed : (fault : Fault) (found : List Fault) → shown_of fault found [] ≡ []
+none_listed fault [] = refl
+none_listed fault (BrokenPromise _ ∷ found) = none_listed fault found
+none_listed fault (_ ∷ found) = none_listed fault found
 
 -- and of a fault that is no broken promise
 breaks_none : (fault : Fault) (line : ℕ) → ((of : ℕ) → fault ≡ BrokenPromise of → ⊥) → breaks fault line ≡ false
@@ -76,7 +76,7 @@ breaks_none _ line other = refl
 pub none_shown : (fault : Fault) (found : List Fault) (shows : List (List Shown))
     → ((of : ℕ) → fault ≡ BrokenPromise of → ⊥) → shown_of fault found shows ≡ []
 none_shown fault [] shows other = refl
-none_shown fault (BrokenPromise line ∷ found) [] other = none_told fault found
+none_shown fault (BrokenPromise line ∷ found) [] other = none_listed fault found
 none_shown fault (BrokenPromise line ∷ found) (shown ∷ shows) other =
     ap (λ (b : Bool). if b then shown ∷ [] else shown_of fault found shows) (breaks_none fault line other)
     ∙ none_shown fault found shows other
@@ -107,7 +107,7 @@ behind_line line of found (shown ∷ shows) differ =
 -- at the promise of the line
 at_line : (line of : ℕ) (found : List Fault) (shows : List (List Shown)) → line ≡ of
     → shown_of (BrokenPromise line) (BrokenPromise of ∷ found) shows ≡ option_to_list (slice_get shows 0)
-at_line line of found [] same = none_told (BrokenPromise line) found
+at_line line of found [] same = none_listed (BrokenPromise line) found
 at_line line of found (shown ∷ shows) same =
     ap (λ (b : Bool). if b then shown ∷ [] else shown_of (BrokenPromise line) found shows)
     (eq-eqb line of same)

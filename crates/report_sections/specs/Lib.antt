@@ -2,4 +2,4 @@ pub mod Bodies
 pub mod Replay
 pub mod Sections
 pub mod Showing
-pub mod ToldRules
+pub mod ListedRules

@@ -9,9 +9,9 @@ use Rattle.report_model.specs.Report.{Detail, replay_of, shows_of}
 use Rattle.crash_model.specs.Checker.{faults_under}
 use Rattle.crash_model.specs.declared.patches.Patch.{Patch}
 use Rattle.crash_model.specs.declared.showing.Shown.{Shown}
-use Rattle.report_sections.specs.Replay.{told_replay}
+use Rattle.report_sections.specs.Replay.{listed_replay}
 use Rattle.report_sections.specs.Showing.{shown_lists}
-use Rattle.report_sections.specs.declared.section.Outcome.{Outcome}
+use Rattle.report_sections.specs.declared.section.CrashOutcome.{CrashOutcome}
 use Rattle.report_sections.specs.declared.section.Section.{Section}
 
 -- a section as the report's definition sees it
@@ -19,7 +19,7 @@ abbrev pub section_of : {A : Type 0} → Section A → report.Section
 section_of s = record {
   set = s.set;
   writes = s.writes.items;
-  replay = told_replay s.replay;
+  replay = listed_replay s.replay;
   found = s.faults.items;
   shows = shown_lists s.shows;
 }
@@ -34,13 +34,13 @@ pub record IsSection {A : Type 0} (detail : Detail) (base : Disk) (patches : Lis
     (s : Section A) : Type 0 where
   pub of_set : s.set ≡ set
   pub runs : AreRuns (homes_of patches) set s.writes.items
-  pub replay : told_replay s.replay ≡ replay_of detail.explain (image_of base patches set)
+  pub replay : listed_replay s.replay ≡ replay_of detail.explain (image_of base patches set)
   pub faults : s.faults.items ≡ faults_under detail.demands set (image_after_replay (image_of base patches set))
   pub shows : shown_lists s.shows ≡ shows_for detail base patches set
 
 -- what replay changes, the faults of the image after it, and what is shown where promises are broken
 pub record IsOutcome {A : Type 0} (detail : Detail) (base : Disk) (patches : List Patch) (set : ℕ)
-    (o : Outcome A) : Type 0 where
-  pub replay : told_replay o.replay ≡ replay_of detail.explain (image_of base patches set)
+    (o : CrashOutcome A) : Type 0 where
+  pub replay : listed_replay o.replay ≡ replay_of detail.explain (image_of base patches set)
   pub faults : o.faults.items ≡ faults_under detail.demands set (image_after_replay (image_of base patches set))
   pub shows : shown_lists o.shows ≡ shows_for detail base patches set

@@ -10,5 +10,5 @@ pub mod section;
 
 pub use replayed::ReplayedBlock;
 pub use report::{Body, Report};
-pub use rules::{RuleUsage, ToldRule};
-pub use section::{Outcome, Section};
+pub use rules::{ListedRule, RuleUsage};
+pub use section::{CrashOutcome, Section};

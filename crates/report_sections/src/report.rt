@@ -2,7 +2,7 @@
 
 ghost use Rattle.std.specs.Prelude.{◌≡◌};
 
-use crate::rules::ToldRule;
+use crate::rules::ListedRule;
 use crash_model::fault::FaultRow;
 use crash_model::settings::Settings;
 use disk_image::{Demands, Image};
@@ -13,7 +13,7 @@ use traced_patches::Traced;
 pub enum Body<'a, A: Allocator> {
     Sets(&'a [u128]),
     Faults(&'a [FaultRow]),
-    Rules(&'a [ToldRule<A>]),
+    Rules(&'a [ListedRule<A>]),
 }
 
 impl<'a, A: Allocator> Clone for Body<'a, A> {

@@ -22,7 +22,7 @@ pub enum RuleUsage<A: Allocator> {
 
 /// A rule of the ordering, and its use.
 #[derive(Drop)]
-pub struct ToldRule<A: Allocator> {
+pub struct ListedRule<A: Allocator> {
     pub rule: Rule,
     pub usage: RuleUsage<A>,
 }

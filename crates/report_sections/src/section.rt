@@ -25,7 +25,7 @@ pub struct Section<A: Allocator> {
 }
 
 impl<A: Allocator> Section<A> {
-    /// What the paths of the promise show that a fault says is broken, if the fault says so and that is told.
+    /// What the paths of the promise show that a fault says is broken, if the fault says so and that is listed.
     pub fn shows_of(&self, fault: Fault) -> Option<&Shows>
         ensures { shown_once result
             ≡ shows_if (option_map (shown_of fault self.now.faults.items) (shown_lists self.now.shows)) }
@@ -69,20 +69,20 @@ fn place_of_line(faults: &[Fault], line: usize) -> Option<usize>
 
 /// What follows from a crash: what replay changes if that is explained, and the faults of the replayed image.
 #[derive(Drop)]
-pub struct Outcome<A: Allocator> {
+pub struct CrashOutcome<A: Allocator> {
     pub replay: Option<Vec<ReplayedBlock, A>>,
     pub faults: Vec<Fault, A>,
     pub shows: Option<Vec<Shows, A>>,
 }
 
-impl<A: Allocator> Outcome<A> {
+impl<A: Allocator> CrashOutcome<A> {
     /// Nothing that replay changes, and no fault. It takes no memory.
-    pub fn new(alloc: A) -> Outcome<A>
+    pub fn new(alloc: A) -> CrashOutcome<A>
         ensures replay { result.replay ≡ None }
         ensures faults { result.faults.items ≡ [] }
         ensures shows { result.shows ≡ None }
     {
-        Outcome {
+        CrashOutcome {
             replay: None,
             faults: Vec::new(alloc),
             shows: None,

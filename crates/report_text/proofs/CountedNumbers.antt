@@ -17,9 +17,9 @@ range_end n past = let e : 11 - n ≡ 0 = omega arith in ap (range_with_len n) e
 
 module _ (counted : ℕ) where
   -- what is written of a number that counts, and of one that does not
-  pub number_told : (n : ℕ) (before after : List ℕ) → Has counted n → after ≡ before ++ (codes " " ++ decimal n)
+  pub number_listed : (n : ℕ) (before after : List ℕ) → Has counted n → after ≡ before ++ (codes " " ++ decimal n)
       → after ≡ before ++ numbers (filter (has counted) (n ∷ []))
-  number_told n before after counts more = more
+  number_listed n before after counts more = more
       ∙ ap (λ (t : List ℕ). before ++ t) (sym (append-nil (codes " " ++ decimal n))
       ∙ ap (λ (b : Bool). numbers (cond b (n ∷ []) [])) (sym (has_true counted n counts)))
 

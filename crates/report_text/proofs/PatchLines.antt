@@ -5,22 +5,22 @@ use Rattle.std.specs.Prelude.{slice_get, option_to_list, not, ◌==◌}
 use Rattle.std.specs.List.{flat_map}
 use Rattle.std.proofs.lemmas.List.{append-nil, length-map, map-append, take_more}
 use Rattle.std.proofs.lemmas.List.Concat.{flat_map-append}
-use Rattle.crash_model.specs.Reasons.{Dependency, ToldPatch, reasons}
-use Rattle.report_model.specs.Explain.{told_text, dependency_text, list_text}
+use Rattle.crash_model.specs.Reasons.{Dependency, ExplainedPatch, reasons}
+use Rattle.report_model.specs.Explain.{explained_text, dependency_text, list_text}
 use Rattle.crash_model.specs.Lists.{some_below}
 use Rattle.crash_model.proofs.EachBelow.{some_below-step}
 use Rattle.crash_model.specs.Trace.{Emitted, depends}
 use Rattle.crash_model.specs.declared.patches.Patch.{Patch}
-use Rattle.traced_patches.specs.Traced.{TracedPatches, told_at, dependency_at}
-use Rattle.traced_patches.proofs.Told.{told_is, no_dependency, dependency_is}
+use Rattle.traced_patches.specs.Traced.{TracedPatches, explained_at, dependency_at}
+use Rattle.traced_patches.proofs.Explained.{explained_is, no_dependency, dependency_is}
 use Rattle.report_text.specs.Patches.{patch_line, gap_before}
 
 -- the line of one more number is written
-pub below_told : {X : Type 0} (f : X → List ℕ) (n : ℕ) (at : ℕ → Option X) (before all after : List ℕ)
+pub below_listed : {X : Type 0} (f : X → List ℕ) (n : ℕ) (at : ℕ → Option X) (before all after : List ℕ)
     → all ≡ before ++ flat_map f (some_below n at) → after ≡ all ++ flat_map f (option_to_list (at n))
     → after ≡ before ++ flat_map f (some_below (n + 1) at)
-below_told f n at before all after told more =
-    more ∙ (ap (λ (t : List ℕ). t ++ flat_map f (option_to_list (at n))) told
+below_listed f n at before all after listed more =
+    more ∙ (ap (λ (t : List ℕ). t ++ flat_map f (option_to_list (at n))) listed
     ∙ (append_assoc before (flat_map f (some_below n at)) (flat_map f (option_to_list (at n)))
     ∙ ap (λ (t : List ℕ). before ++ t) (sym (ap (flat_map f) (some_below-step n at)
     ∙ flat_map-append f (some_below n at) (option_to_list (at n))))))
@@ -28,35 +28,36 @@ below_told f n at before all after told more =
 -- ---- a patch
 
 -- its line and those of its dependencies are its lines
-pub patch_told : (t : TracedPatches) (id : ℕ) (q : Emitted) (p : Patch) (before first after : List ℕ)
+pub patch_explained : (t : TracedPatches) (id : ℕ) (q : Emitted) (p : Patch) (before first after : List ℕ)
     → slice_get t.emitted id ≡ Some q → slice_get t.patches id ≡ Some p
     → first ≡ before ++ patch_line id q → after ≡ first ++ flat_map dependency_text (some_below id (dependency_at t q))
-    → after ≡ before ++ flat_map told_text (option_to_list (told_at t id))
-patch_told t id q p before first after emitted patch one two =
+    → after ≡ before ++ flat_map explained_text (option_to_list (explained_at t id))
+patch_explained t id q p before first after emitted patch one two =
     let waits = flat_map dependency_text (some_below id (dependency_at t q)) in
     two ∙ (ap (λ (text : List ℕ). text ++ waits) one ∙ (append_assoc before (patch_line id q) waits
-    ∙ ap (λ (text : List ℕ). before ++ text) (sym (ap (λ (o : Option ToldPatch). flat_map told_text (option_to_list o))
-    (told_is t id q p emitted patch) ∙ append-nil (patch_line id q ++ waits)))))
+    ∙ ap (λ (text : List ℕ). before ++ text)
+    (sym (ap (λ (o : Option ExplainedPatch). flat_map explained_text (option_to_list o))
+    (explained_is t id q p emitted patch) ∙ append-nil (patch_line id q ++ waits)))))
 
 -- ---- a dependency
 
 -- if there is no reason, nothing is written
-pub none_told : (t : TracedPatches) (q p : Emitted) (earlier n : ℕ) (before : List ℕ)
+pub none_listed : (t : TracedPatches) (q p : Emitted) (earlier n : ℕ) (before : List ℕ)
     → slice_get t.emitted earlier ≡ Some p → depends t.rules t.whole t.links q earlier p ≡ not (n == 0) → n ≡ 0
     → before ≡ before ++ flat_map dependency_text (option_to_list (dependency_at t q earlier))
-none_told t q p earlier n before at some none =
+none_listed t q p earlier n before at some none =
     sym (append-nil before) ∙ ap (λ (o : Option Dependency). before ++ flat_map dependency_text (option_to_list o))
     (sym (no_dependency t q p earlier n at some none))
 
 -- if there are some, they are written
-pub some_told : (t : TracedPatches) (q p : Emitted) (earlier n : ℕ) (texts : List (List ℕ))
+pub some_listed : (t : TracedPatches) (q p : Emitted) (earlier n : ℕ) (texts : List (List ℕ))
     (before one two after : List ℕ) → slice_get t.emitted earlier ≡ Some p
     → depends t.rules t.whole t.links q earlier p ≡ not (n == 0) → 0 < n
     → texts ≡ reasons t.rules t.whole t.links q earlier p
     → one ≡ before ++ (codes "after " ++ decimal earlier ++ codes ": ")
     → two ≡ one ++ list_text texts → after ≡ two ++ codes "\n"
     → after ≡ before ++ flat_map dependency_text (option_to_list (dependency_at t q earlier))
-some_told t q p earlier n texts before one two after at some any are first second third =
+some_listed t q p earlier n texts before one two after at some any are first second third =
     third ∙ (ap (λ (text : List ℕ). text ++ codes "\n") (second ∙ ap (λ (text : List ℕ). text ++ list_text texts) first)
     ∙ (regroup before (codes "after " ++ decimal earlier ++ codes ": ") (list_text texts) (codes "\n")
     ∙ ap (λ (o : Option Dependency). before ++ flat_map dependency_text (option_to_list o))
@@ -87,11 +88,11 @@ pub gap_none : (at : ℕ) → at ≤ 0 → gap_before at ≡ []
 gap_none zero none = refl
 gap_none (suc n) none = absurd (omega arith)
 
-pub reason_told : {X : Type 0} (f : X → List ℕ) (xs : List X) (i : ℕ) (d : X) (before all after : List ℕ)
+pub reason_listed : {X : Type 0} (f : X → List ℕ) (xs : List X) (i : ℕ) (d : X) (before all after : List ℕ)
     → i < length xs → all ≡ before ++ list_text (map f (take i xs)) → after ≡ all ++ gap_before i ++ f (get_or xs i d)
     → after ≡ before ++ list_text (map f (take (i + 1) xs))
-reason_told {X = X} f xs i d before all after within told more =
-    more ∙ (ap (λ (t : List ℕ). t ++ gap_before i ++ f (get_or xs i d)) told
+reason_listed {X = X} f xs i d before all after within listed more =
+    more ∙ (ap (λ (t : List ℕ). t ++ gap_before i ++ f (get_or xs i d)) listed
     ∙ (regroup before (list_text (map f (take i xs))) (gap_before i) (f (get_or xs i d))
     ∙ ap (λ (t : List ℕ). before ++ t) (sym (ap (λ (ys : List X). list_text (map f ys)) (take_more xs i d within)
     ∙ (ap list_text (map-append f (take i xs) (get_or xs i d ∷ []))

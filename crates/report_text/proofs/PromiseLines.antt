@@ -8,10 +8,10 @@ use Rattle.crash_model.specs.Checker.{promised}
 use Rattle.crash_model.specs.Disk.{Disk}
 use Rattle.crash_model.specs.Lists.{when}
 use Rattle.crash_model.specs.Promises.{Promise}
-use Rattle.crash_model.specs.Reasons.{told_patches}
+use Rattle.crash_model.specs.Reasons.{explained_patches}
 use Rattle.crash_model.specs.declared.names.Path.{Path}
 use Rattle.crash_model.specs.Waiting.{Wait}
-use Rattle.report_model.specs.Explain.{told_text}
+use Rattle.report_model.specs.Explain.{explained_text}
 use Rattle.report_model.specs.OptionTexts.{explanation_text, promises_text}
 use Rattle.report_model.specs.Report.{line}
 use Rattle.report_model.specs.Shows.{wait_text, promise_word, promise_text, after_text, shows_text, spare_text}
@@ -32,20 +32,20 @@ pub line_same : {m n : ℕ} {v w : List ℕ} {ps qs : List Path} → m ≡ n →
 line_same {n = n} {v = v} {w = w} {ps = ps} number word paths = ap (λ (k : ℕ). promise_line k v ps) number
     ∙ (ap (λ (t : List ℕ). promise_line n t ps) word ∙ ap (λ (xs : List Path). promise_line n w xs) paths)
 
-pub promise_told : (n : ℕ) (p : Promise) (before one two three after : List ℕ)
+pub promise_listed : (n : ℕ) (p : Promise) (before one two three after : List ℕ)
     → one ≡ before ++ promise_line p.line (promise_word p) p.paths → two ≡ one ++ after_text n p.after
     → three ≡ two ++ flat_map (λ allowance. shows_text allowance.shows.items) p.allowed
     → after ≡ three ++ flat_map (λ spare. line (codes "spare " ++ spare_text spare)) p.spares
     → after ≡ before ++ promise_text n p
-promise_told n p before one two three after first second third fourth =
+promise_listed n p before one two three after first second third fourth =
     four_pieces before one two three after _ _ _ _ first second third fourth
 
 -- ---- where it is explained, and where it is not
 
-pub promises_told : (n m : ℕ) (explain : Bool) (promises : Option (List Promise)) (before after : List ℕ) → n ≡ m
+pub promises_listed : (n m : ℕ) (explain : Bool) (promises : Option (List Promise)) (before after : List ℕ) → n ≡ m
     → explain ≡ true → after ≡ before ++ flat_map (promise_text n) (promised promises)
     → after ≡ before ++ promises_text m (if explain then promises else None)
-promises_told n m explain promises before after number is told = told
+promises_listed n m explain promises before after number is listed = listed
     ∙ (ap (λ (k : ℕ). before ++ flat_map (promise_text k) (promised promises)) number
     ∙ (ap (λ (t : List ℕ). before ++ t) (those promises)
     ∙ ap (λ (b : Bool). before ++ promises_text m (if b then promises else None)) (sym is)))
@@ -61,16 +61,17 @@ no_promises m explain promises before is = sym (append-nil before)
 
 pub explained : (base : Disk) (traced : TracedPatches) (explain : Bool) (n : ℕ) (waits : List Wait)
     (first second third : List ℕ) → explain ≡ true → n ≡ length traced.patches → waits ≡ traced.waits
-    → second ≡ first ++ flat_map told_text
-    (told_patches traced.rules traced.whole traced.links traced.emitted traced.patches)
+    → second ≡ first ++ flat_map explained_text
+    (explained_patches traced.rules traced.whole traced.links traced.emitted traced.patches)
     → third ≡ second ++ flat_map (wait_text n) waits
     → third ≡ first ++ explanation_text (length traced.patches) (when explain (explanation_by base traced))
 explained base traced explain n waits first second third is number are patches lines =
-    let told = flat_map told_text (told_patches traced.rules traced.whole traced.links traced.emitted traced.patches) in
+    let listed = flat_map explained_text
+    (explained_patches traced.rules traced.whole traced.links traced.emitted traced.patches) in
     lines ∙ (ap (λ (t : List ℕ). t ++ flat_map (wait_text n) waits) patches
-    ∙ (append_assoc first told (flat_map (wait_text n) waits)
-    ∙ (ap (λ (k : ℕ). first ++ (told ++ flat_map (wait_text k) waits)) number
-    ∙ (ap (λ (ws : List Wait). first ++ (told ++ flat_map (wait_text (length traced.patches)) ws)) are
+    ∙ (append_assoc first listed (flat_map (wait_text n) waits)
+    ∙ (ap (λ (k : ℕ). first ++ (listed ++ flat_map (wait_text k) waits)) number
+    ∙ (ap (λ (ws : List Wait). first ++ (listed ++ flat_map (wait_text (length traced.patches)) ws)) are
     ∙ ap (λ (e : Bool). first ++ explanation_text (length traced.patches) (when e (explanation_by base traced)))
     (sym is)))))
 

@@ -17,7 +17,7 @@ use Rattle.crash_model.specs.Checker.{faults_under}
 use Rattle.report_model.specs.OptionTexts.{explanation_text, promises_text}
 use Rattle.crash_model.specs.Lists.{when}
 use Rattle.report_model.specs.FaultLines.{faults_text, shows_if}
-use Rattle.report_model.specs.Summary.{ToldFault, told_fault_text}
+use Rattle.report_model.specs.Summary.{CountedFault, counted_fault_text}
 use Rattle.report_model.specs.Whole.{Body}
 use Rattle.report_model.specs.WholeText.{head_text, body_text, text_report}
 use Rattle.crash_model.specs.declared.fault.Fault.{Fault}
@@ -28,8 +28,8 @@ use Rattle.crash_model.specs.declared.showing.Shown.{Shown}
 use Rattle.report_sections.specs.Bodies.{explanation_by, whole_of}
 use Rattle.report_sections.specs.declared.report.Report.{Report}
 use Rattle.report_sections.specs.declared.section.Section as code
-use Rattle.report_sections.specs.declared.section.Outcome.{Outcome}
-use Rattle.report_sections.specs.Replay.{told_replay}
+use Rattle.report_sections.specs.declared.section.CrashOutcome.{CrashOutcome}
+use Rattle.report_sections.specs.Replay.{listed_replay}
 use Rattle.report_sections.specs.Sections.{section_of, shows_for, IsSection, IsOutcome}
 use Rattle.report_sections.specs.Showing.{shown_lists}
 use Rattle.report_sections.proofs.Joined.{rows_more, firsts_more}
@@ -69,23 +69,24 @@ made set writes replay found shows =
     record { set = set; writes = writes; replay = replay; found = found; shows = shows }
 
 -- the lines of one set, written part by part
-pub section_one : {A : Type 0} (detail : Detail) (base : Disk) (patches : List Patch) (set n : ℕ) (o : Outcome A)
+pub section_one : {A : Type 0} (detail : Detail) (base : Disk) (patches : List Patch) (set n : ℕ) (o : CrashOutcome A)
     (old first second third new : List ℕ) → n ≡ length patches → IsOutcome detail base patches set o
     → first ≡ old ++ line (codes "set" ++ numbers (ids_of n set)) → WritesRuns patches set first second
-    → third ≡ second ++ replay_text (told_replay o.replay)
+    → third ≡ second ++ replay_text (listed_replay o.replay)
     → new ≡ third ++ faults_text o.faults.items (shows_if (shown_lists o.shows))
     → WritesSections detail base patches (set ∷ []) old new
 section_one detail base patches set n o old first second third new number is heads runs replays ends = record {
   sections = section ∷ [];
   are = (runs.writes, [], runs.runs, refl, refl);
   whole = ends ∙ (ap (λ (t : List ℕ). t ++ faults_text o.faults.items (shows_if (shown_lists o.shows)))
-      (replays ∙ ap (λ (t : List ℕ). t ++ replay_text (told_replay o.replay))
+      (replays ∙ ap (λ (t : List ℕ). t ++ replay_text (listed_replay o.replay))
       (runs.whole ∙ ap (λ (t : List ℕ). t ++ flat_map (write_text (length patches)) runs.writes) heads))
       ∙ (ap (λ (k : ℕ). old ++ line (codes "set" ++ numbers (ids_of k set)) ++ flat_map (write_text (length patches))
-      runs.writes ++ replay_text (told_replay o.replay) ++ faults_text o.faults.items (shows_if (shown_lists o.shows)))
+      runs.writes ++ replay_text (listed_replay o.replay) ++ faults_text o.faults.items
+      (shows_if (shown_lists o.shows)))
       number
       ∙ (pieces old (line (codes "set" ++ numbers (ids_of (length patches) set)))
-      (flat_map (write_text (length patches)) runs.writes) (replay_text (told_replay o.replay))
+      (flat_map (write_text (length patches)) runs.writes) (replay_text (listed_replay o.replay))
       (faults_text o.faults.items (shows_if (shown_lists o.shows)))
       ∙ ap (λ (s : report.Section). old ++ flat_map (section_text (length patches)) (s ∷ [])) (sym same))));
 }
@@ -95,16 +96,16 @@ section_one detail base patches set n o old first second third new number is hea
         (faults_under detail.demands set (image_after_replay (image_of base patches set)))
         (shows_for detail base patches set)
 
-    told : report.Section
-    told = made set runs.writes (told_replay o.replay) o.faults.items (shown_lists o.shows)
+    listed : report.Section
+    listed = made set runs.writes (listed_replay o.replay) o.faults.items (shown_lists o.shows)
 
-    same : section ≡ told
+    same : section ≡ listed
     same = ap (λ (r : Option (List replayed.ReplayedBlock)). made set runs.writes r
         (faults_under detail.demands set (image_after_replay (image_of base patches set)))
         (shows_for detail base patches set)) (sym is.replay)
-        ∙ (ap (λ (f : List Fault). made set runs.writes (told_replay o.replay) f (shows_for detail base patches set))
+        ∙ (ap (λ (f : List Fault). made set runs.writes (listed_replay o.replay) f (shows_for detail base patches set))
         (sym is.faults)
-        ∙ ap (λ (w : Option (List (List Shown))). made set runs.writes (told_replay o.replay) o.faults.items w)
+        ∙ ap (λ (w : Option (List (List Shown))). made set runs.writes (listed_replay o.replay) o.faults.items w)
         (sym is.shows))
 
     pieces : (a b c d e : List ℕ) → a ++ b ++ c ++ d ++ e ≡ a ++ ((b ++ c ++ d ++ e) ++ [])
@@ -113,18 +114,18 @@ section_one detail base patches set n o old first second third new number is hea
 pub fault_more : {A : Type 0} (detail : Detail) (base : Disk) (patches : List Patch) (rows : List FaultRow) (i n : ℕ)
     (d : FaultRow) (head text after : List ℕ) (s : code.Section A) → i < length rows → n ≡ length patches
     → WritesFaults detail base patches (take i rows) head text → IsSection detail base patches (get_or rows i d).first s
-    → after ≡ text ++ told_fault_text n (record { row = get_or rows i d; first = section_of s })
+    → after ≡ text ++ counted_fault_text n (record { row = get_or rows i d; first = section_of s })
     → WritesFaults detail base patches (take (i + 1) rows) head after
 fault_more detail base patches rows i n d head text after s within number so_far is more = record {
-  told = so_far.told ++ one ∷ [];
-  of_rows = rows_more (λ (t : ToldFault). t.row) rows i d so_far.told one within refl so_far.of_rows;
-  firsts = firsts_more (λ (row : FaultRow). row.first) (λ (t : ToldFault). t.first) rows i d so_far.told one
+  listed = so_far.listed ++ one ∷ [];
+  of_rows = rows_more (λ (t : CountedFault). t.row) rows i d so_far.listed one within refl so_far.of_rows;
+  firsts = firsts_more (λ (row : FaultRow). row.first) (λ (t : CountedFault). t.first) rows i d so_far.listed one
       detail base patches s within refl so_far.firsts is;
-  whole = item_more (told_fault_text (length patches)) so_far.told one head text after so_far.whole
-      (more ∙ ap (λ (k : ℕ). text ++ told_fault_text k one) number);
+  whole = item_more (counted_fault_text (length patches)) so_far.listed one head text after so_far.whole
+      (more ∙ ap (λ (k : ℕ). text ++ counted_fault_text k one) number);
 }
   where
-    one : ToldFault
+    one : CountedFault
     one = record { row = get_or rows i d; first = section_of s }
 
 pub whole_text : {A : Type 0} (report : Report A) (n : ℕ) (body : Body) (empty first second third last : List ℕ)

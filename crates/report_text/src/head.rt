@@ -4,7 +4,7 @@ ghost use Rattle.std.specs.Prelude.{◌≡◌, ◌<◌, ◌++◌, [], ◌∷◌,
 ghost use Rattle.patch_sets.specs.Sets.{has};
 ghost use Rattle.report_model.specs.Report.{line, numbers};
 ghost use Rattle.report_model.specs.Shows.{counted_numbers};
-ghost use Rattle.report_model.specs.OptionTexts.{counted_text, rule_lines, told_with, told_without, blocks_text};
+ghost use Rattle.report_model.specs.OptionTexts.{counted_text, rule_lines, listed_with, listed_without, blocks_text};
 ghost use Rattle.crash_model.specs.Texts.{module_text};
 ghost use Rattle.report_model.specs.WholeText.{head_text};
 
@@ -54,8 +54,8 @@ pub fn write_ordering<A: Allocator>(
 ) -> Result<(), AllocError>
     ensures { OnOk result (string_bytes out.new ≡ string_bytes out.old
         ++ (line (codes "module " ++ module_text settings.now.module)
-        ++ rule_lines (codes "without") (told_without settings.now)
-        ++ rule_lines (codes "with") (told_with settings.now)
+        ++ rule_lines (codes "without") (listed_without settings.now)
+        ++ rule_lines (codes "with") (listed_with settings.now)
         ++ blocks_text settings.now.generations settings.now.whole_blocks
         ++ (if settings.now.strict then line (codes "strict") else [])
         ++ (if settings.now.atomic then line (codes "atomic") else [])
@@ -73,8 +73,8 @@ fn write_rules_and_disk<A: Allocator>(
 ) -> Result<(), AllocError>
     ensures { OnOk result (string_bytes out.new ≡ string_bytes out.old
         ++ (line (codes "module " ++ module_text settings.now.module)
-        ++ rule_lines (codes "without") (told_without settings.now)
-        ++ rule_lines (codes "with") (told_with settings.now)
+        ++ rule_lines (codes "without") (listed_without settings.now)
+        ++ rule_lines (codes "with") (listed_with settings.now)
         ++ blocks_text settings.now.generations settings.now.whole_blocks)) }
 {
     let name = settings.module.name();

@@ -3,15 +3,15 @@
 ghost use Rattle.std.specs.Prelude.{◌≡◌, ◌++◌, ◌<◌, length, string_bytes, OnOk, flat_map, map, slice_get};
 ghost use Rattle.std.specs.Prelude.{option_to_list, Some};
 ghost use Rattle.crash_model.specs.Disk.{Disk};
-ghost use Rattle.crash_model.specs.Reasons.{told_patches};
-ghost use Rattle.report_model.specs.Explain.{told_text, dependency_text, list_text};
+ghost use Rattle.crash_model.specs.Reasons.{explained_patches};
+ghost use Rattle.report_model.specs.Explain.{explained_text, dependency_text, list_text};
 ghost use Rattle.report_model.specs.OptionTexts.{explanation_text};
 ghost use Rattle.crash_model.specs.Lists.{when};
 ghost use Rattle.crash_model.specs.Patches.{place};
 ghost use Rattle.crash_model.specs.Trace.{Emitted};
 ghost use Rattle.traced_patches.specs.Labels.{emitted_at};
 ghost use Rattle.traced_patches.specs.Reasons.{reason_text};
-ghost use Rattle.traced_patches.specs.Traced.{told_at, dependency_at};
+ghost use Rattle.traced_patches.specs.Traced.{explained_at, dependency_at};
 ghost use Rattle.report_sections.specs.Bodies.{explanation_by};
 ghost use Rattle.report_text.specs.Patches.{patch_line, gap_before};
 
@@ -45,8 +45,8 @@ fn write_patches<A: Allocator, B: Allocator + Copy>(
     traced: &Traced<'_, B>,
 ) -> Result<(), AllocError>
     ensures { OnOk result (string_bytes out.new
-        ≡ string_bytes out.old ++ flat_map told_text
-        (told_patches traced.now.rules traced.now.whole traced.now.links traced.now.emitted
+        ≡ string_bytes out.old ++ flat_map explained_text
+        (explained_patches traced.now.rules traced.now.whole traced.now.links traced.now.emitted
         traced.now.patches)) }
 {
     for id in 0..traced.len() {
@@ -64,7 +64,7 @@ fn write_patch<A: Allocator, B: Allocator + Copy>(
     requires patch { id < length traced.now.patches }
     requires emitted { length traced.now.emitted ≡ length traced.now.patches }
     ensures { OnOk result (string_bytes out.new
-        ≡ string_bytes out.old ++ flat_map told_text (option_to_list (told_at traced.now id))) }
+        ≡ string_bytes out.old ++ flat_map explained_text (option_to_list (explained_at traced.now id))) }
 {
     write_label(out, id, traced.label(id), traced.graph().patch(id))?;
     for earlier in 0..id {

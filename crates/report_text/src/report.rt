@@ -4,10 +4,10 @@ ghost use Rattle.std.specs.Prelude.{◌≡◌, ◌++◌, [], ◌∷◌, length, 
 ghost use Rattle.patch_sets.specs.Closed.{IsClosed};
 ghost use Rattle.crash_model.specs.Patches.{deps_of};
 ghost use Rattle.report_model.specs.FaultLines.{faults_text, shows_if};
-ghost use Rattle.report_model.specs.Summary.{told_fault_text};
+ghost use Rattle.report_model.specs.Summary.{counted_fault_text};
 ghost use Rattle.report_model.specs.Whole.{Body as WholeBody};
 ghost use Rattle.report_model.specs.WholeText.{text_report};
-ghost use Rattle.report_sections.specs.Bodies.{detail_by, CanTell, TellsBody, AreOnBase, AreClosed, whole_of};
+ghost use Rattle.report_sections.specs.Bodies.{detail_by, CanReport, ListsBody, AreOnBase, AreClosed, whole_of};
 ghost use Rattle.report_sections.specs.Sections.{section_of, IsSection};
 ghost use Rattle.report_sections.specs.Showing.{shown_lists};
 ghost use Rattle.report_sections.specs.declared.section.Section.{Section};
@@ -18,9 +18,9 @@ use crate::parts::SectionLines;
 use crate::patches::write_explanation;
 use crate::promises::write_promises;
 use crate::rules::write_rules;
-use crate::summary::write_told_fault;
+use crate::summary::write_counted_fault;
 use crash_model::fault::FaultRow;
-use report_sections::{Body, Outcome, Report};
+use report_sections::{Body, CrashOutcome, Report};
 use section_lines::LineCache;
 use section_lines::lines::{write_faults as write_fault_lines, write_replay, write_set};
 use section_maker::{SectionMaker, write_together};
@@ -40,9 +40,9 @@ pub fn report_text<R, A>(
 where
     R: Threads + Sync,
     A: Allocator + Copy + Send + Sync,
-    requires { CanTell report.now }
+    requires { CanReport report.now }
     ensures { IfOk result (λ text. (body : WholeBody)
-        × TellsBody (detail_by report.now) report.now.base.now report.now.traced.now.patches report.now.body
+        × ListsBody (detail_by report.now) report.now.base.now report.now.traced.now.patches report.now.body
         body
         × (string_bytes text ≡ text_report report.now.settings.now (whole_of report.now body))) }
 {
@@ -62,9 +62,9 @@ where
     R: Threads + Sync,
     A: Allocator + Copy + Send + Sync,
     requires empty { string_bytes out.old ≡ [] }
-    requires told { CanTell report.now }
+    requires listed { CanReport report.now }
     ensures { OnOk result ((body : WholeBody)
-        × TellsBody (detail_by report.now) report.now.base.now report.now.traced.now.patches report.now.body
+        × ListsBody (detail_by report.now) report.now.base.now report.now.traced.now.patches report.now.body
         body
         × (string_bytes out.new ≡ text_report report.now.settings.now (whole_of report.now body))) }
 {
@@ -104,7 +104,7 @@ pub(crate) fn write_sections<A: Allocator + Copy>(
         report.demands,
     )?;
     let mut lines = LineCache::new(graph);
-    let mut outcome = Outcome::new(alloc);
+    let mut outcome = CrashOutcome::new(alloc);
     write_each(out, &mut lines, &mut maker, &mut outcome, sets)
 }
 
@@ -113,7 +113,7 @@ fn write_each<A: Allocator + Copy>(
     out: &mut String<A>,
     lines: &mut LineCache<'_, A>,
     maker: &mut SectionMaker<'_, A>,
-    outcome: &mut Outcome<A>,
+    outcome: &mut CrashOutcome<A>,
     sets: &[u128],
 ) -> Result<(), AllocError>
     requires same { maker.old.patches ≡ lines.old }
@@ -132,7 +132,7 @@ fn write_one<A: Allocator + Copy>(
     out: &mut String<A>,
     lines: &mut LineCache<'_, A>,
     maker: &mut SectionMaker<'_, A>,
-    outcome: &mut Outcome<A>,
+    outcome: &mut CrashOutcome<A>,
     set: u128,
 ) -> Result<(), AllocError>
     requires same { maker.old.patches ≡ lines.old }
@@ -142,7 +142,7 @@ fn write_one<A: Allocator + Copy>(
     ensures maker { maker.new ≡ maker.old }
     ensures lines { lines.new ≡ lines.old }
 {
-    maker.tell(set, outcome)?;
+    maker.fill(set, outcome)?;
     write_set(out, lines.patches(), set)?;
     lines.push_writes(out, set)?;
     write_replay(out, &outcome.replay)?;
@@ -154,7 +154,7 @@ fn write_one<A: Allocator + Copy>(
 fn write_found<A: Allocator + Copy>(
     out: &mut String<A>,
     lines: &mut LineCache<'_, A>,
-    outcome: &Outcome<A>,
+    outcome: &CrashOutcome<A>,
 ) -> Result<(), AllocError>
     ensures text { OnOk result (string_bytes out.new ≡ string_bytes out.old
         ++ faults_text outcome.now.faults.items (shows_if (shown_lists outcome.now.shows))) }
@@ -214,13 +214,13 @@ fn write_fault<A: Allocator + Copy>(
     row: &FaultRow,
 ) -> Result<(), AllocError>
     requires { IsClosed (deps_of maker.old.patches) row.now.first }
-    ensures told { OnOk result ((section : Section A)
+    ensures listed { OnOk result ((section : Section A)
         × IsSection maker.old.detail maker.old.base maker.old.patches row.now.first section
         × (string_bytes out.new ≡ string_bytes out.old
-        ++ told_fault_text patches (record { row = row.now; first = section_of section }))) }
+        ++ counted_fault_text patches (record { row = row.now; first = section_of section }))) }
     ensures maker { maker.new ≡ maker.old }
 {
     let section = maker.section(row.first)?;
-    write_told_fault(out, patches, row, &section)?;
+    write_counted_fault(out, patches, row, &section)?;
     Ok(())
 }

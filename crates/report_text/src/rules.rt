@@ -1,11 +1,11 @@
 //! The entries of the rules of an ordering.
 
 ghost use Rattle.std.specs.Prelude.{◌≡◌, ◌++◌, [], flat_map, option_map, string_bytes, OnOk};
-ghost use Rattle.report_model.specs.Needs.{first_text, usage_text, told_rule_text};
+ghost use Rattle.report_model.specs.Needs.{first_text, usage_text, listed_rule_text};
 ghost use Rattle.report_sections.specs.Sections.{section_of};
-ghost use Rattle.report_sections.specs.ToldRules.{usage_of, told_rule};
+ghost use Rattle.report_sections.specs.ListedRules.{usage_of, listed_rule};
 
-use report_sections::{RuleUsage, Section, ToldRule};
+use report_sections::{ListedRule, RuleUsage, Section};
 use section_lines::lines::write_section;
 use std::alloc::{AllocError, Allocator};
 
@@ -13,10 +13,10 @@ use std::alloc::{AllocError, Allocator};
 pub(crate) fn write_rules<A: Allocator + Copy>(
     out: &mut String<A>,
     patches: usize,
-    rules: &[ToldRule<A>],
+    rules: &[ListedRule<A>],
 ) -> Result<(), AllocError>
     ensures { OnOk result (string_bytes out.new
-        ≡ string_bytes out.old ++ flat_map (λ rule. told_rule_text patches (told_rule rule)) rules.now) }
+        ≡ string_bytes out.old ++ flat_map (λ rule. listed_rule_text patches (listed_rule rule)) rules.now) }
 {
     for rule in rules {
         write_rule(out, patches, rule)?;
@@ -28,14 +28,14 @@ pub(crate) fn write_rules<A: Allocator + Copy>(
 fn write_rule<A: Allocator + Copy>(
     out: &mut String<A>,
     patches: usize,
-    told: &ToldRule<A>,
+    listed: &ListedRule<A>,
 ) -> Result<(), AllocError>
     ensures { OnOk result (string_bytes out.new
-        ≡ string_bytes out.old ++ told_rule_text patches (told_rule told.now)) }
+        ≡ string_bytes out.old ++ listed_rule_text patches (listed_rule listed.now)) }
 {
-    let rule = told.rule;
+    let rule = listed.rule;
     write!(out, "rule {rule}")?;
-    write_usage(out, patches, &told.usage)?;
+    write_usage(out, patches, &listed.usage)?;
     Ok(())
 }
 

@@ -150,15 +150,17 @@ in_numbers (Some Previous) later earlier = refl
 in_numbers (Some Before) later earlier = refl
 
 rules_numbers : (kind : Module) (q p : Emitted) → list_any (λ rule. applies rule q p) (rules_of kind)
-    ≡ by_rules kind q.part p.part (q.turn == p.turn) (q.turn == p.turn + 1) (nat_lt p.turn q.turn)
+    ≡ by_rules kind q.part p.part (q.op_number == p.op_number) (q.op_number == p.op_number + 1)
+    (nat_lt p.op_number q.op_number)
 rules_numbers Async q p = refl
 rules_numbers Soft q p = refl
 rules_numbers Meta q p = refl
 rules_numbers Full q p = refl
 
 pub rules_are_rows : (kind : Module) (q p : Emitted) → list_any (λ rule. applies rule q p) (rules_of kind)
-    ≡ are_in (row kind q.part p.part) q.turn p.turn
+    ≡ are_in (row kind q.part p.part) q.op_number p.op_number
 rules_are_rows kind q p =
     rules_numbers kind q p
-    ∙ by_parts kind q.part p.part (q.turn == p.turn) (q.turn == p.turn + 1) (nat_lt p.turn q.turn)
-    ∙ in_numbers (row kind q.part p.part) q.turn p.turn
+    ∙ by_parts kind q.part p.part (q.op_number == p.op_number) (q.op_number == p.op_number + 1)
+    (nat_lt p.op_number q.op_number)
+    ∙ in_numbers (row kind q.part p.part) q.op_number p.op_number

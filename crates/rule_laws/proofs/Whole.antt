@@ -61,9 +61,10 @@ on_plan : (kind : Module) (whole : Bool) (line : ℕ) (op : Op) (s : Tracing) (p
 on_plan kind whole line op s (Err e) = refl
 on_plan kind whole line op s (Ok cs) =
     let after : Disk = with_changes s.disk cs in
-    let more : List Emitted = patches_by kind after s.turn s.journal (origin_at line op s.current s.forced) cs in
+    let more : List Emitted = patches_by kind after s.op_number s.journal (origin_at line op s.current s.forced) cs in
     let next : ℕ = s.journal + journal_blocks kind s.disk.blocks cs in
-    let last : Tracing = record s { disk = after; emitted = s.emitted ++ more; turn = s.turn + 1; journal = next } in
+    let last : Tracing =
+    record s { disk = after; emitted = s.emitted ++ more; op_number = s.op_number + 1; journal = next } in
     let full : Bool = nat_lt (4 + s.disk.journal) next in
     let many : Bool = nat_lt 124 (length s.emitted + length more) in
     ap (λ (r : Result Tracing TraceFault). unless full (no.JournalFull line) r)

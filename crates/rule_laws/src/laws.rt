@@ -22,7 +22,8 @@ ghost use Rattle.rule_laws.specs.Whole.{with_whole, written_whole};
 /// The rules of a module make a patch wait for an earlier one exactly if the module's table does.
 pub fn the_orderings_are_their_tables()
     ensures { (kind : Module) (q p : Emitted)
-        → list_any (λ rule. applies rule q p) (rules_of kind) ≡ are_in (row kind q.part p.part) q.turn p.turn }
+        → list_any (λ rule. applies rule q p) (rules_of kind) ≡ are_in
+        (row kind q.part p.part) q.op_number p.op_number }
 {}
 
 /// More rules never add a crash state: of the same patches, a set that is closed, or fails, under all of the rules also

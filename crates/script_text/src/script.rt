@@ -46,7 +46,7 @@ pub fn read_script<A: Allocator + Copy>(alloc: A, bytes: &[u8]) -> Result<Script
 /// `line` is the number of the start line, and `after` the bytes after it; if there is none, `line` is one
 /// more than the number of the last line.
 #[derive(Drop)]
-struct Part<'a, A: Allocator> {
+struct ReadSteps<'a, A: Allocator> {
     steps: Vec<Step, A>,
     line: usize,
     after: Option<&'a [u8]>,
@@ -57,7 +57,7 @@ fn read_steps<A: Allocator + Copy>(
     alloc: A,
     bytes: &[u8],
     first: usize,
-) -> Result<Part<'_, A>, ScriptFault>
+) -> Result<ReadSteps<'_, A>, ScriptFault>
     requires { first + length bytes.now < 2 ^ 64 }
     ensures ok { IfOk result (λ part. IsPart bytes.now first part.steps.items part.line part.after) }
     ensures room { IfOk result (λ part.
@@ -72,7 +72,7 @@ fn read_steps<A: Allocator + Copy>(
         match read_line(text) {
             Ok(Line::Skipped) => {}
             Ok(Line::Start) => {
-                return Ok(Part {
+                return Ok(ReadSteps {
                     steps,
                     line,
                     after: Some(after),
@@ -84,7 +84,7 @@ fn read_steps<A: Allocator + Copy>(
         line += 1;
         rest = after;
     }
-    Ok(Part {
+    Ok(ReadSteps {
         steps,
         line,
         after: None,

@@ -1,4 +1,4 @@
-pub mod Told
+pub mod Listed
 pub mod Runs
 pub mod WriteLines
 pub mod EmptyTables

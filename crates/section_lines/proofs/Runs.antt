@@ -15,12 +15,13 @@ one_number n = ap (λ (count : ℕ). numbers (range_with_len n count)) (let one 
 pub run_written : (from end : ℕ) (text after ids rest whole : List ℕ) → ids ≡ range_with_len from (end - from) ++ rest
     → text ++ numbers ids ≡ whole → after ≡ text ++ numbers_text from end
     → after ++ numbers rest ≡ whole
-run_written from end text after ids rest whole begins told more =
+run_written from end text after ids rest whole begins listed more =
     ap (λ (t : List ℕ). t ++ numbers rest) more
     ∙ (append_assoc text (numbers_text from end) (numbers rest)
     ∙ (ap (λ (t : List ℕ). text ++ t) (sym (ap numbers begins
-    ∙ flat_map-append (λ n. codes " " ++ decimal n) (range_with_len from (end - from)) rest)) ∙ told))
+    ∙ flat_map-append (λ n. codes " " ++ decimal n) (range_with_len from (end - from)) rest)) ∙ listed))
 
 -- no id is left
 pub run_last : (text ids whole : List ℕ) → text ++ numbers ids ≡ whole → ids ≡ [] → text ≡ whole
-run_last text ids whole told none = sym (append-nil text) ∙ (ap (λ (ns : List ℕ). text ++ numbers ns) (sym none) ∙ told)
+run_last text ids whole listed none =
+    sym (append-nil text) ∙ (ap (λ (ns : List ℕ). text ++ numbers ns) (sym none) ∙ listed)

@@ -32,8 +32,8 @@ push_at (x ∷ xs) y at place = push x xs y ∙ ap (λ (n : ℕ). together (x �
 pub shown_more : (xs : List Shown) (i : ℕ) (d : Shown) (before all after : List ℕ) → i < length xs
     → all ≡ before ++ together (take i xs) → after ≡ all ++ bar_before i ++ shown_text (get_or xs i d)
     → after ≡ before ++ together (take (i + 1) xs)
-shown_more xs i d before all after within told more =
-    more ∙ (ap (λ (t : List ℕ). t ++ bar_before i ++ shown_text (get_or xs i d)) told
+shown_more xs i d before all after within listed more =
+    more ∙ (ap (λ (t : List ℕ). t ++ bar_before i ++ shown_text (get_or xs i d)) listed
     ∙ (regroup before (together (take i xs)) (bar_before i) (shown_text (get_or xs i d))
     ∙ ap (λ (t : List ℕ). before ++ t) (sym (ap together (take_more xs i d within)
     ∙ push_at (take i xs) (get_or xs i d) i (omega (arith, length-take i xs))))))
@@ -91,16 +91,16 @@ module _ (faults : List Fault) (shows : List (List Shown)) (whole : List ℕ) wh
         ∙ left_next))
 
     -- behind a broken promise, and what is shown of it
-    pub left_shown : (line : ℕ) (first after : List ℕ) (told : List (List Shown))
+    pub left_shown : (line : ℕ) (first after : List ℕ) (listed : List (List Shown))
         → get_or faults i d ≡ BrokenPromise line
-        → first ≡ all ++ fault_line (get_or faults i d) → told ≡ option_to_list (slice_get shows place)
-        → after ≡ first ++ flat_map shows_text told → Left (i + 1) (place + 1) after
-    left_shown line first after told breaks one are two =
+        → first ≡ all ++ fault_line (get_or faults i d) → listed ≡ option_to_list (slice_get shows place)
+        → after ≡ first ++ flat_map shows_text listed → Left (i + 1) (place + 1) after
+    left_shown line first after listed breaks one are two =
         let x = get_or faults i d in
         let rest = drop (i + 1) faults in
         let here = option_to_list (slice_get (drop place shows) 0) in
         let written : after ≡ all ++ fault_line x ++ flat_map shows_text here =
-        two ∙ (ap (λ (t : List ℕ). t ++ flat_map shows_text told) one
+        two ∙ (ap (λ (t : List ℕ). t ++ flat_map shows_text listed) one
         ∙ ap (λ (ls : List (List Shown)). all ++ fault_line x ++ flat_map shows_text ls)
         (are ∙ ap option_to_list (sym (first_of_rest shows place)))) in
         ap (λ (ls : List (List Shown)). after ++ faults_text rest ls) (sym (rest_behind shows place))

@@ -5,7 +5,7 @@ ghost use Rattle.hex.specs.Hex.{encode_lower};
 ghost use Rattle.patch_sets.specs.Sets.{ids_of};
 ghost use Rattle.report_model.specs.Report.{line, numbers, write_text, replay_text, crash_text, section_text};
 ghost use Rattle.report_model.specs.Replayed.{replayed_text};
-ghost use Rattle.report_sections.specs.Replay.{told_block, told_replay};
+ghost use Rattle.report_sections.specs.Replay.{listed_block, listed_replay};
 ghost use Rattle.report_sections.specs.Sections.{section_of};
 ghost use Rattle.report_sections.specs.Showing.{shown_lists, shown_once};
 ghost use Rattle.crash_model.specs.ShownTexts.{shown_text};
@@ -72,7 +72,7 @@ pub fn write_replay<A: Allocator + Copy, B: Allocator>(
     replay: &Option<Vec<ReplayedBlock, B>>,
 ) -> Result<(), AllocError>
     ensures { OnOk result (string_bytes out.new
-        ≡ string_bytes out.old ++ replay_text (told_replay replay.now)) }
+        ≡ string_bytes out.old ++ replay_text (listed_replay replay.now)) }
 {
     if let Some(replay) = replay {
         write_replayed_blocks(out, replay)?;
@@ -86,7 +86,7 @@ fn write_replayed_blocks<A: Allocator + Copy>(
     replay: &[ReplayedBlock],
 ) -> Result<(), AllocError>
     ensures { OnOk result (string_bytes out.new
-        ≡ string_bytes out.old ++ flat_map replayed_text (map told_block replay.now)) }
+        ≡ string_bytes out.old ++ flat_map replayed_text (map listed_block replay.now)) }
 {
     for replayed in replay {
         write_replayed(out, replayed)?;
@@ -99,7 +99,7 @@ fn write_replayed<A: Allocator + Copy>(
     out: &mut String<A>,
     replayed: &ReplayedBlock,
 ) -> Result<(), AllocError>
-    ensures { OnOk result (string_bytes out.new ≡ string_bytes out.old ++ replayed_text (told_block replayed.now)) }
+    ensures { OnOk result (string_bytes out.new ≡ string_bytes out.old ++ replayed_text (listed_block replayed.now)) }
 {
     out.push_str("replay block")?;
     write_block(out, replayed.block)?;
@@ -173,7 +173,7 @@ fn write_block<A: Allocator>(out: &mut String<A>, block: u8) -> Result<(), Alloc
     Ok(())
 }
 
-/// A line for each fault, and one behind that of a broken promise for what its paths show, if that is told. It fails
+/// A line for each fault, and one behind that of a broken promise for what its paths show, if that is listed. It fails
 /// only when out of memory.
 pub fn write_faults<A: Allocator, B: Allocator>(
     out: &mut String<A>,
@@ -183,11 +183,11 @@ pub fn write_faults<A: Allocator, B: Allocator>(
     ensures { OnOk result (string_bytes out.new
         ≡ string_bytes out.old ++ faults_text faults.now (shows_if (shown_lists shows.now))) }
 {
-    write_shown_faults(out, faults, told_lists(shows))
+    write_shown_faults(out, faults, lists_shown(shows))
 }
 
 /// What the paths of each broken promise show, or nothing.
-fn told_lists<B: Allocator>(shows: &Option<Vec<Shows, B>>) -> &[Shows]
+fn lists_shown<B: Allocator>(shows: &Option<Vec<Shows, B>>) -> &[Shows]
     ensures { map (λ list. list.items) result.now ≡ shows_if (shown_lists shows.now) }
 {
     match shows {
@@ -196,7 +196,7 @@ fn told_lists<B: Allocator>(shows: &Option<Vec<Shows, B>>) -> &[Shows]
     }
 }
 
-/// A line for each fault, and one behind that of a broken promise for what its paths show, as far as that is told.
+/// A line for each fault, and one behind that of a broken promise for what its paths show, as far as that is listed.
 fn write_shown_faults<A: Allocator>(
     out: &mut String<A>,
     faults: &[Fault],
@@ -210,7 +210,7 @@ fn write_shown_faults<A: Allocator>(
         write_fault(out, *fault)?;
         match *fault {
             Fault::BrokenPromise { .. } => {
-                write_told_shows(out, shows.get(place))?;
+                write_if_shown(out, shows.get(place))?;
                 place += 1;
             }
             _ => {}
@@ -219,8 +219,8 @@ fn write_shown_faults<A: Allocator>(
     Ok(())
 }
 
-/// The line of what paths show, if that is told. It fails only when out of memory.
-pub fn write_told_shows<A: Allocator>(
+/// The line of what paths show, if that is listed. It fails only when out of memory.
+pub fn write_if_shown<A: Allocator>(
     out: &mut String<A>,
     shows: Option<&Shows>,
 ) -> Result<(), AllocError>

@@ -84,16 +84,17 @@ by_explain true f o = refl
 by_explain false f o = refl
 
 module _ (detail : Detail) (set : ℕ) (d : Disk) (found : List Fault) where
-  abbrev pub told_promises : Option (List Promise)
-  told_promises = if detail.explain then detail.demands.promises else None
+  abbrev pub listed_promises : Option (List Promise)
+  listed_promises = if detail.explain then detail.demands.promises else None
 
-  by_told : shows_of detail set d found ≡ option_map (λ (ps : List Promise). broken_shown ps set d found) told_promises
-  by_told = by_explain detail.explain (λ (ps : List Promise). broken_shown ps set d found) detail.demands.promises
+  by_listed : shows_of detail set d found ≡ option_map
+      (λ (ps : List Promise). broken_shown ps set d found) listed_promises
+  by_listed = by_explain detail.explain (λ (ps : List Promise). broken_shown ps set d found) detail.demands.promises
 
-  pub shows_none : told_promises ≡ None → None ≡ shows_of detail set d found
-  shows_none none = sym (by_told ∙ ap (option_map (λ (ps : List Promise). broken_shown ps set d found)) none)
+  pub shows_none : listed_promises ≡ None → None ≡ shows_of detail set d found
+  shows_none none = sym (by_listed ∙ ap (option_map (λ (ps : List Promise). broken_shown ps set d found)) none)
 
-  pub shows_some : (promises : List Promise) (lists : List (List Shown)) → told_promises ≡ Some promises
+  pub shows_some : (promises : List Promise) (lists : List (List Shown)) → listed_promises ≡ Some promises
       → lists ≡ broken_shown promises set d found → Some lists ≡ shows_of detail set d found
-  shows_some promises lists told are = ap Some are
-      ∙ sym (by_told ∙ ap (option_map (λ (ps : List Promise). broken_shown ps set d found)) told)
+  shows_some promises lists listed are = ap Some are
+      ∙ sym (by_listed ∙ ap (option_map (λ (ps : List Promise). broken_shown ps set d found)) listed)

@@ -11,7 +11,7 @@ use crash_image::Replayer;
 use disk_image::{Demands, Image, Promise};
 use fs_check::list_faults_under;
 use patch_graph::Graph;
-use report_sections::{Outcome, Section};
+use report_sections::{CrashOutcome, Section};
 use std::alloc::{AllocError, Allocator};
 use std::marker::Model;
 
@@ -82,13 +82,13 @@ impl<'a, A: Allocator + Copy> SectionMaker<'a, A> {
     /// The section of a set that a crash can leave. It fails only when out of memory.
     pub fn section(&mut self, set: u128) -> Result<Section<A>, AllocError>
         requires closed { IsClosed (deps_of self.old.patches) set }
-        ensures told { IfOk result (IsSection self.old.detail self.old.base self.old.patches set) }
+        ensures listed { IfOk result (IsSection self.old.detail self.old.base self.old.patches set) }
         ensures kept { self.new ≡ self.old }
     {
         let writes = self.graph.writes_to(set)?;
-        let mut outcome = Outcome::new(self.alloc);
-        self.tell(set, &mut outcome)?;
-        let Outcome {
+        let mut outcome = CrashOutcome::new(self.alloc);
+        self.fill(set, &mut outcome)?;
+        let CrashOutcome {
             replay,
             faults,
             shows,
@@ -104,15 +104,15 @@ impl<'a, A: Allocator + Copy> SectionMaker<'a, A> {
 
     /// Writes the section of a set to `outcome`, replacing what was there and using its memory if that is
     /// enough. It fails only when out of memory.
-    pub fn tell(&mut self, set: u128, outcome: &mut Outcome<A>) -> Result<(), AllocError>
+    pub fn fill(&mut self, set: u128, outcome: &mut CrashOutcome<A>) -> Result<(), AllocError>
         requires closed { IsClosed (deps_of self.old.patches) set }
-        ensures told { OnOk result (IsOutcome self.old.detail self.old.base self.old.patches set outcome.new) }
+        ensures listed { OnOk result (IsOutcome self.old.detail self.old.base self.old.patches set outcome.new) }
         ensures kept { self.new ≡ self.old }
     {
         self.images.move_to(set);
         outcome.replay = changed_by_replay(self.alloc, &self.images, self.explain)?;
         list_faults_under(&mut outcome.faults, self.images.image(), set, self.demands)?;
-        outcome.shows = match self.told_promises() {
+        outcome.shows = match self.listed_promises() {
             Some(promises) => Some(broken_shown(
                 self.alloc,
                 self.images.image(),
@@ -126,9 +126,9 @@ impl<'a, A: Allocator + Copy> SectionMaker<'a, A> {
     }
 
     /// The promises, if it is explained what their paths show where they are broken.
-    fn told_promises(&self) -> Option<&[Promise<A>]>
-        ensures { let told = if self.now.detail.explain then self.now.detail.demands.promises else None in
-            MatchOption result (told ≡ None) (λ promises. told ≡ Some promises.now) }
+    fn listed_promises(&self) -> Option<&[Promise<A>]>
+        ensures { let listed = if self.now.detail.explain then self.now.detail.demands.promises else None in
+            MatchOption result (listed ≡ None) (λ promises. listed ≡ Some promises.now) }
     {
         if self.explain && self.demands.has_promises() {
             Some(self.demands.promises())

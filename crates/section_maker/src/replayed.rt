@@ -5,7 +5,7 @@ ghost use Rattle.crash_model.specs.Disk.{block_of};
 ghost use Rattle.crash_model.specs.Patches.{image_of};
 ghost use Rattle.report_model.specs.Report.{replay_of};
 ghost use Rattle.report_model.specs.Replayed.{changed_blocks};
-ghost use Rattle.report_sections.specs.Replay.{told_block, told_replay};
+ghost use Rattle.report_sections.specs.Replay.{listed_block, listed_replay};
 
 use crash_image::Replayer;
 use disk_image::Image;
@@ -19,7 +19,7 @@ pub(crate) fn changed_by_replay<A: Allocator + Copy>(
     images: &Replayer<'_, A>,
     explain: bool,
 ) -> Result<Option<Vec<ReplayedBlock, A>>, AllocError>
-    ensures { IfOk result (λ replay. told_replay replay
+    ensures { IfOk result (λ replay. listed_replay replay
         ≡ replay_of explain (image_of images.now.base images.now.patches images.now.set)) }
 {
     if !explain {
@@ -37,7 +37,7 @@ fn changed_blocks<A: Allocator + Copy>(
     after: &Image<A>,
 ) -> Result<Vec<ReplayedBlock, A>, AllocError>
     requires { after.now.blocks ≡ before.now.blocks }
-    ensures { IfOk result (λ changed. map told_block changed.items ≡ changed_blocks before.now after.now) }
+    ensures { IfOk result (λ changed. map listed_block changed.items ≡ changed_blocks before.now after.now) }
 {
     let mut changed = Vec::new(alloc);
     for block in 0..before.blocks() as u8 {
@@ -51,7 +51,7 @@ fn changed_blocks<A: Allocator + Copy>(
 /// A block with its bytes.
 fn replayed_block<A: Allocator + Copy>(image: &Image<A>, block: u8) -> ReplayedBlock
     requires { block < image.now.blocks }
-    ensures { told_block result ≡ record { block = block; bytes = block_of image.now block } }
+    ensures { listed_block result ≡ record { block = block; bytes = block_of image.now block } }
 {
     let mut bytes = [0; 128];
     bytes.copy_from_slice(image.block(usize::from(block)));

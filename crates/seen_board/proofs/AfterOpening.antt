@@ -62,9 +62,9 @@ waits lives q unclaimed none = let n = get_or (row_of lives q) 0 0 in dite (dec_
     (λ ne. omega (arith, low, ne)))
 
 -- what a seat knows that has made no call
-pub opening_told : (b : TableId) (limit places start : ℕ) (e : Ended)
+pub opening_fixed : (b : TableId) (limit places start : ℕ) (e : Ended)
     → Accounts start (first_known b limit places start) e → IsOpening start e
-opening_told b limit places start e a = let q = start % 13 in record {
+opening_fixed b limit places start e a = let q = start % 13 in record {
   waiting = ap life_of (waits e.lives q (omega (
     arith,
     a.claimed q 0 (omega arith),

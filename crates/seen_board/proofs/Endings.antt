@@ -16,7 +16,7 @@ use Rattle.board_rule.specs.Lists.{row_of, Has, first_values, total}
 use Rattle.board_rule.specs.Changes.{with_given_up}
 use Rattle.board_rule.specs.Lives.{life_of, is_claimed, is_unsettled, is_settled, Passes}
 use Rattle.board_rule.specs.Readings.{entry_of, rows_of, lives_of}
-use Rattle.board_rule.specs.Views.{Told}
+use Rattle.board_rule.specs.Views.{Fixed}
 use Rattle.board_rule.specs.Rule.{times, times_among, claims_on, IsBare, IsWhole, IsKept, Overfills}
 use Rattle.board_rule.specs.Plays.{IsIdle}
 use Rattle.board_rule.specs.declared.life.Life.{Life}
@@ -116,7 +116,7 @@ life_cases (suc (suc (suc n))) h = inr (inr (
   ap life_of (let z : suc (suc (suc n)) ≡ 3 = omega (arith, h) in z),
 ))
 
-module _ (t : Told) (good : ℕ → Type 0) (S : Type 0) (id : ℕ) (v : View) (words : List ℕ) (xs : List S)
+module _ (t : Fixed) (good : ℕ → Type 0) (S : Type 0) (id : ℕ) (v : View) (words : List ℕ) (xs : List S)
     (e : Final (Seen (IsKept t good) id v) words xs) where
   abbrev s : State S View
   s = e.0

@@ -29,7 +29,7 @@ pub enum Put {
 
 /// What the index words of a word say under a right.
 #[derive(Clone, Copy, Debug, PartialEq, Eq, Drop)]
-pub(crate) enum Found {
+pub(crate) enum Indexed {
     At(u16),
     Absent,
     /// None of them is zero, and none names the word's place.

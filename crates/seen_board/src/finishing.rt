@@ -20,7 +20,7 @@ impl<S: Space, A: Allocator> Board<S, A> {
         self.table.shared.load::<End>(&mut seat.seat, PENDING) == 0
     }
 
-    /// Tells the other seats to stop, which is only a hint. The seat gives its claim up, and its entry stays claimed
+    /// Asks the other seats to stop, which is only a hint. The seat gives its claim up, and its entry stays claimed
     /// for good.
     pub fn stop(&self, seat: &mut BoardSeat)
         requires seat { IsOf self.now seat.old }

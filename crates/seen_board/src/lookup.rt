@@ -5,7 +5,7 @@ ghost use Rattle.seen_board.specs.Clauses.{IsOf, HasRight, Lacks, Names, Sees};
 ghost use Rattle.seen_board.specs.Founds.{FoundOk};
 ghost use Rattle.seen_board.specs.Seats.{SitsAt, IsSame, HasRightOf, IsProbe};
 
-use crate::answers::{Found, Place};
+use crate::answers::{Indexed, Place};
 use crate::board::Board;
 use crate::layout::Probe;
 use crate::seat::BoardSeat;
@@ -25,7 +25,7 @@ impl<S: Space, A: Allocator> Board<S, A> {
     }
 
     /// What the index says of a word, under a right of its shard and with nothing to file.
-    fn search(&self, seat: &mut Seat<(), View>, probe: Probe) -> Found
+    fn search(&self, seat: &mut Seat<(), View>, probe: Probe) -> Indexed
         requires seat { SitsAt self.now seat.old }
         requires probe { IsProbe self.now.places probe }
         requires right { HasRightOf seat.old.me.0 probe.shard }
@@ -41,14 +41,14 @@ impl<S: Space, A: Allocator> Board<S, A> {
                 .shared
                 .load::<Mark>(seat, self.layout.mark(probe.shard, slot));
             if mark == 0 {
-                return Found::Absent;
+                return Indexed::Absent;
             }
             let at = mark as usize - 1;
             if self.entry(seat, probe.shard, at) == probe.word {
-                return Found::At(at as u16);
+                return Indexed::At(at as u16);
             }
         }
-        Found::Full
+        Indexed::Full
     }
 
     /// The place of a word among those from `from` up to `to`.
@@ -80,9 +80,9 @@ impl<S: Space, A: Allocator> Board<S, A> {
             × (slice_index (row_of seat.old.seen probe.shard) k ≡ probe.word)) }
     {
         match self.search(&mut seat.seat, probe) {
-            Found::At(at) => Some(at),
-            Found::Absent => None,
-            Found::Full => {
+            Indexed::At(at) => Some(at),
+            Indexed::Absent => None,
+            Indexed::Full => {
                 let count = seat.counts[probe.shard as usize];
                 self.walk(seat, probe.shard, from, count, probe.word)
             }

@@ -14,7 +14,7 @@ use crate::board::Board;
 use crate::contents::Contents;
 use crate::layout::PENDING;
 use crate::seat::BoardSeat;
-use crate::steps::{Both, Fresh, Placed};
+use crate::steps::{BothSeats, Fresh, Placed};
 use board_rule::SHARDS;
 use state_space::Space;
 use std::alloc::Allocator;
@@ -68,7 +68,9 @@ impl<S: Space, A: Allocator> Board<S, A> {
             seat: given,
             counts: _,
         } = other;
-        self.table.shared.join_seat::<Both>(&mut seat.seat, given);
+        self.table
+            .shared
+            .join_seat::<BothSeats>(&mut seat.seat, given);
         self.table.shared.load::<Placed>(&mut seat.seat, PENDING);
         seat.counts = counts;
     }

@@ -196,9 +196,9 @@ impl Split<View> for Fresh {
     ghost right = { fresh_seat };
 }
 
-pub struct Both;
+pub struct BothSeats;
 
-impl Join<View> for Both {
+impl Join<View> for BothSeats {
     ghost both = { both_views };
 
     ghost spent = { spent_view };

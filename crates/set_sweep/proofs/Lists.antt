@@ -69,20 +69,20 @@ list_of P xs list = record {
 
 -- ---- the closed sets between two numbers
 
-module _ {T : Type 0} (tells : List ℕ → T → Type 0) (deps : List ℕ) (from : ℕ) where
-  pub none_swept : (tally : T) → tells [] tally → AreSwept tells deps from from 0 tally
-  none_swept tally told = record {
+module _ {T : Type 0} (tallies : List ℕ → T → Type 0) (deps : List ℕ) (from : ℕ) where
+  pub none_swept : (tally : T) → tallies [] tally → AreSwept tallies deps from from 0 tally
+  none_swept tally tallied = record {
     ascends = omega arith;
     sets = [];
     closed = list_none (IsClosedIn deps from from) (λ w is. omega (arith, is.above, is.below));
     counted = refl;
-    told = told;
+    tallied = tallied;
   }
 
-  module _ (to count : ℕ) (tally : T) (so_far : AreSwept tells deps from to count tally) where
+  module _ (to count : ℕ) (tally : T) (so_far : AreSwept tallies deps from to count tally) where
     -- where no closed set lies between, the bound may rise
     pub swept_rises : (next : ℕ) → to ≤ next → ((w : ℕ) → IsClosed deps w → to ≤ w → w < next → ⊥)
-        → AreSwept tells deps from next count tally
+        → AreSwept tallies deps from next count tally
     swept_rises next up none = record {
       ascends = omega (arith, so_far.ascends);
       sets = so_far.sets;
@@ -95,7 +95,7 @@ module _ {T : Type 0} (tells : List ℕ → T → Type 0) (deps : List ℕ) (fro
           })
           so_far.sets so_far.closed;
       counted = so_far.counted;
-      told = so_far.told;
+      tallied = so_far.tallied;
     }
 
     -- a closed set more
@@ -107,14 +107,14 @@ module _ {T : Type 0} (tells : List ℕ → T → Type 0) (deps : List ℕ) (fro
           (λ w is. record { closed = is.closed; above = is.above; below = omega (arith, is.below) })
           (λ w is ne. record { closed = is.closed; above = is.above; below = omega (arith, is.below, ne) })
 
-      pub swept_more : (after : T) → ((sets : List ℕ) → tells sets tally → tells (sets ++ to ∷ []) after)
-          → AreSwept tells deps from (to + 1) (count + 1) after
+      pub swept_more : (after : T) → ((sets : List ℕ) → tallies sets tally → tallies (sets ++ to ∷ []) after)
+          → AreSwept tallies deps from (to + 1) (count + 1) after
       swept_more after more = record {
         ascends = omega (arith, so_far.ascends);
         sets = so_far.sets ++ to ∷ [];
         closed = list_more;
         counted = omega (arith, so_far.counted, length-append so_far.sets (to ∷ []));
-        told = more so_far.sets so_far.told;
+        tallied = more so_far.sets so_far.tallied;
       }
 
       -- a closed set more than the limit
@@ -142,17 +142,18 @@ module _ {T : Type 0} (tells : List ℕ → T → Type 0) (deps : List ℕ) (fro
     )
 
     -- where the bounds hold all closed sets
-    pub all_swept : ((w : ℕ) → IsClosed deps w → (from ≤ w) × (w < to)) → IsSweep tells deps count tally
+    pub all_swept : ((w : ℕ) → IsClosed deps w → (from ≤ w) × (w < to)) → IsSweep tallies deps count tally
     all_swept all = record {
       sets = so_far.sets;
       closed = list_like (IsClosedIn deps from to) (IsClosed deps) (λ w is. is.closed)
           (λ w closed. record { closed = closed; above = (all w closed).0; below = (all w closed).1 }) so_far.sets
           so_far.closed;
       counted = so_far.counted;
-      told = so_far.told;
+      tallied = so_far.tallied;
     }
 
 -- a sweep gives the number of closed sets
-pub sweep_counts : {T : Type 0} (tells : List ℕ → T → Type 0) (deps : List ℕ) (total : ℕ) (tally : T)
-    → IsSweep tells deps total tally → HoldsOf (IsClosed deps) total
-sweep_counts tells deps total tally sweep = (sweep.sets, list_of (IsClosed deps) sweep.sets sweep.closed, sweep.counted)
+pub sweep_counts : {T : Type 0} (tallies : List ℕ → T → Type 0) (deps : List ℕ) (total : ℕ) (tally : T)
+    → IsSweep tallies deps total tally → HoldsOf (IsClosed deps) total
+sweep_counts tallies deps total tally sweep =
+    (sweep.sets, list_of (IsClosed deps) sweep.sets sweep.closed, sweep.counted)

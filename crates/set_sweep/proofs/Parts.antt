@@ -15,7 +15,7 @@ use Rattle.state_space.specs.Counts.{Outnumbers}
 use Rattle.patch_sets.specs.Closed.{IsClosed}
 use Rattle.patch_sets.proofs.Bits.{eq_or_not}
 use Rattle.set_sweep.specs.Sweeps.{IsClosedIn, IsRoot, AreParts, AreSwept, IsPartSwept, IsDone, ArePlaced, part_end}
-use Rattle.set_sweep.specs.declared.sweeping.Part.{Part}
+use Rattle.set_sweep.specs.declared.sweeping.SweptPart.{SweptPart}
 use Rattle.set_sweep.specs.declared.together.Done.{Done}
 use Rattle.set_sweep.proofs.Lists.{list_of, list_join, none_swept, swept_rises}
 use Rattle.set_sweep.proofs.Roots.{subset_le, closed_small}
@@ -117,7 +117,7 @@ module _ (deps : List ℕ) (low : ℕ) where
 
 -- ---- putting the tallies of the parts together
 
-module _ {T : Type 0} (tells : List ℕ → T → Type 0) (deps : List ℕ) (low end : ℕ) (roots : List ℕ)
+module _ {T : Type 0} (tallies : List ℕ → T → Type 0) (deps : List ℕ) (low end : ℕ) (roots : List ℕ)
     (parts : AreParts deps low end roots) where
   -- where the part at a place begins; past the last is the end
   abbrev pub start : ℕ → ℕ
@@ -162,8 +162,9 @@ module _ {T : Type 0} (tells : List ℕ → T → Type 0) (deps : List ℕ) (low
             ])
       ]
 
-  pub join_none : (tally : T) → tells [] tally → AreSwept tells deps 0 (start 0) 0 tally
-  join_none tally told = swept_rises tells deps 0 0 0 tally (none_swept tells deps 0 tally told) (start 0) (omega arith)
+  pub join_none : (tally : T) → tallies [] tally → AreSwept tallies deps 0 (start 0) 0 tally
+  join_none tally tallied =
+      swept_rises tallies deps 0 0 0 tally (none_swept tallies deps 0 tally tallied) (start 0) (omega arith)
       (λ w closed low lt. let at = place_before 0 w closed lt in omega (arith, at.1))
 
   module _ (i : ℕ) (inside : i < length roots) where
@@ -202,10 +203,10 @@ module _ {T : Type 0} (tells : List ℕ → T → Type 0) (deps : List ℕ) (low
           }
     ]
 
-    pub join_more : (count more : ℕ) (tally later after : T) → AreSwept tells deps 0 (start i) count tally
-        → IsPartSwept tells deps low (get_or roots i 0) more later
-        → ((xs ys : List ℕ) → tells xs tally → tells ys later → tells (xs ++ ys) after)
-        → AreSwept tells deps 0 (start (i + 1)) (count + more) after
+    pub join_more : (count more : ℕ) (tally later after : T) → AreSwept tallies deps 0 (start i) count tally
+        → IsPartSwept tallies deps low (get_or roots i 0) more later
+        → ((xs ys : List ℕ) → tallies xs tally → tallies ys later → tallies (xs ++ ys) after)
+        → AreSwept tallies deps 0 (start (i + 1)) (count + more) after
     join_more count more tally later after so_far part joined = record {
       ascends = omega arith;
       sets = so_far.sets ++ part.sets;
@@ -214,12 +215,12 @@ module _ {T : Type 0} (tells : List ℕ → T → Type 0) (deps : List ℕ) (low
           so_far.sets part.sets so_far.closed part.closed (λ v w p q. omega (arith, p.below, q.above, same_start))
           earlier_in part_in either_in;
       counted = omega (arith, length-append so_far.sets part.sets, so_far.counted, part.counted);
-      told = joined so_far.sets part.sets so_far.told part.told;
+      tallied = joined so_far.sets part.sets so_far.tallied part.tallied;
     }
 
     -- more than the limit with this part
-    pub join_over : (count more limit : ℕ) (tally later : T) → AreSwept tells deps 0 (start i) count tally
-        → IsPartSwept tells deps low (get_or roots i 0) more later → limit < count + more
+    pub join_over : (count more limit : ℕ) (tally later : T) → AreSwept tallies deps 0 (start i) count tally
+        → IsPartSwept tallies deps low (get_or roots i 0) more later → limit < count + more
         → Outnumbers (IsClosed deps) limit
     join_over count more limit tally later so_far part over =
         let list = list_of (IsClosedIn deps 0 (start (i + 1))) (so_far.sets ++ part.sets)
@@ -245,55 +246,57 @@ module _ {T : Type 0} (tells : List ℕ → T → Type 0) (deps : List ℕ) (low
 
 -- ---- parts at their places
 
-module _ {T : Type 0} (tells : List ℕ → T → Type 0) (deps : List ℕ) (low : ℕ) (roots : List ℕ) where
+module _ {T : Type 0} (tallies : List ℕ → T → Type 0) (deps : List ℕ) (low : ℕ) (roots : List ℕ) where
   -- at places that are all empty nothing is wrong
-  pub placed_none : (places : List (Option (Part T))) → All (λ place. place ≡ None) places
-      → ArePlaced tells deps low roots places
+  pub placed_none : (places : List (Option (SweptPart T))) → All (λ place. place ≡ None) places
+      → ArePlaced tallies deps low roots places
   placed_none places empty i d lt =
-      subst (λ o. IfSome o (λ p. IsPartSwept tells deps low (get_or roots i 0) p.total p.tally)) (sym (empty i d lt)) tt
+      subst (λ o. IfSome o (λ p. IsPartSwept tallies deps low (get_or roots i 0) p.total p.tally))
+      (sym (empty i d lt)) tt
 
-  placed_set : (places : List (Option (Part T))) (at : ℕ) (part : Part T) → ArePlaced tells deps low roots places
+  placed_set : (places : List (Option (SweptPart T))) (at : ℕ) (part : SweptPart T)
+      → ArePlaced tallies deps low roots places
       → at < length places
-      → IsPartSwept tells deps low (get_or roots at 0) part.total part.tally
-      → ArePlaced tells deps low roots (set places at (Some part))
+      → IsPartSwept tallies deps low (get_or roots at 0) part.total part.tally
+      → ArePlaced tallies deps low roots (set places at (Some part))
   placed_set places at part placed inside is i d lt = elim (eq_or_not i at) [
     | inl e ↦ subst (λ n. IfSome (get_or (set places at (Some part)) n d)
-        (λ p. IsPartSwept tells deps low (get_or roots n 0) p.total p.tally)) (sym e)
-        (subst (λ o. IfSome o (λ p. IsPartSwept tells deps low (get_or roots at 0) p.total p.tally))
+        (λ p. IsPartSwept tallies deps low (get_or roots n 0) p.total p.tally)) (sym e)
+        (subst (λ o. IfSome o (λ p. IsPartSwept tallies deps low (get_or roots at 0) p.total p.tally))
         (sym (get_or-set_same places at (Some part) d inside)) is)
-    | inr ne ↦ subst (λ o. IfSome o (λ p. IsPartSwept tells deps low (get_or roots i 0) p.total p.tally))
+    | inr ne ↦ subst (λ o. IfSome o (λ p. IsPartSwept tallies deps low (get_or roots i 0) p.total p.tally))
         (sym (get_or-set_other places at i (Some part) d ne))
         (placed i d (omega (arith, lt, length-set places at (Some part))))
   ]
 
   -- and where a place is made empty
-  pub placed_taken : (places : List (Option (Part T))) (at : ℕ) → ArePlaced tells deps low roots places
-      → ArePlaced tells deps low roots (set places at None)
+  pub placed_taken : (places : List (Option (SweptPart T))) (at : ℕ) → ArePlaced tallies deps low roots places
+      → ArePlaced tallies deps low roots (set places at None)
   placed_taken places at placed i d lt =
       let long = length-set places at None in elim (eq_or_not i at) [
-        | inl e ↦ subst (λ o. IfSome o (λ p. IsPartSwept tells deps low (get_or roots i 0) p.total p.tally))
+        | inl e ↦ subst (λ o. IfSome o (λ p. IsPartSwept tallies deps low (get_or roots i 0) p.total p.tally))
             (sym (subst (λ n. get_or (set places at None) n d ≡ None) (sym e)
             (get_or-set_same places at None d (omega (arith, lt, long, e)))))
             tt
-        | inr ne ↦ subst (λ o. IfSome o (λ p. IsPartSwept tells deps low (get_or roots i 0) p.total p.tally))
+        | inr ne ↦ subst (λ o. IfSome o (λ p. IsPartSwept tallies deps low (get_or roots i 0) p.total p.tally))
             (sym (get_or-set_other places at i None d ne))
             (placed i d (omega (arith, lt, long)))
       ]
 
   -- What was visited of some parts still has to be put to its place, and what is at a place was visited of the part
   -- there.
-  pub record IsPlacing (left : List (Done T)) (places : List (Option (Part T))) : Type 0 where
-    pub done : All (IsDone tells deps low roots) left
+  pub record IsPlacing (left : List (Done T)) (places : List (Option (SweptPart T))) : Type 0 where
+    pub done : All (IsDone tallies deps low roots) left
     pub long : length places ≡ length roots
-    pub placed : ArePlaced tells deps low roots places
+    pub placed : ArePlaced tallies deps low roots places
 
   -- the last of it is put to its place
-  pub placing_next : (left rest : List (Done T)) (places : List (Option (Part T))) (last : Done T)
+  pub placing_next : (left rest : List (Done T)) (places : List (Option (SweptPart T))) (last : Done T)
       → left ≡ rest ++ option_to_list (Some last)
       → IsPlacing left places → IsPlacing rest (set places last.at (Some last.part))
   placing_next left rest places last is so_far =
-      let popped = All-pop (IsDone tells deps low roots) left rest (Some last) is so_far.done in
-      let here : IsDone tells deps low roots last = popped.1 in
+      let popped = All-pop (IsDone tallies deps low roots) left rest (Some last) is so_far.done in
+      let here : IsDone tallies deps low roots last = popped.1 in
       record {
         done = popped.0;
         long = length-set places last.at (Some last.part) ∙ so_far.long;

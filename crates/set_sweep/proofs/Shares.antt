@@ -61,14 +61,14 @@ module _ (n : ℕ) (sets counts : List ℕ) (x m : ℕ) (is : x % n ≡ m) (near
 -- no count is above the number of the sets
 pub share_within : (n : ℕ) (deps : List ℕ) (to count : ℕ) (counts : List ℕ) (q : ℕ) → q < n
     → AreSwept (AreShares n) deps 0 to count counts → get_or counts q 0 ≤ count
-share_within n deps to count counts q lt swept = omega (arith, (swept.told.each q lt).within, swept.counted)
+share_within n deps to count counts q lt swept = omega (arith, (swept.tallied.each q lt).within, swept.counted)
 
 -- the counts of a sweep over all closed sets
 shares_all : (deps : List ℕ) (total n : ℕ) (counts : List ℕ) → IsSweep (AreShares n) deps total counts → (q : ℕ)
     → q < n
     → HoldsOf (λ set. IsClosed deps set × (set % n ≡ q)) (get_or counts q 0)
 shares_all deps total n counts sweep q lt =
-    let share = sweep.told.each q lt in
+    let share = sweep.tallied.each q lt in
     let pick = share.pick in (
       share.picked,
       record {

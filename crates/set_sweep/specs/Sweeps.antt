@@ -7,7 +7,7 @@ use Rattle.patch_sets.specs.Sets.{Has, IsSubset}
 use Rattle.patch_sets.specs.Closed.{IsClosed}
 use Rattle.patch_sets.specs.declared.explored.ExploreFault.{ExploreFault}
 use Rattle.patch_sets.specs.declared.explored.ExploreFault.TheVariants.{TooMany}
-use Rattle.set_sweep.specs.declared.sweeping.Part.{Part}
+use Rattle.set_sweep.specs.declared.sweeping.SweptPart.{SweptPart}
 use Rattle.set_sweep.specs.declared.together.Done.{Done}
 
 -- the list has the words of which P holds, and no others, in ascending order
@@ -17,11 +17,11 @@ pub record IsAscendingListOf (P : ℕ → Type 0) (words : List ℕ) : Type 0 wh
   pub every : (word : ℕ) → P word → Contains words word
 
 -- a tally is that of all closed sets of a graph, in ascending order, and of their number
-pub record IsSweep {T : Type 0} (tells : List ℕ → T → Type 0) (deps : List ℕ) (total : ℕ) (tally : T) : Type 0 where
+pub record IsSweep {T : Type 0} (tallies : List ℕ → T → Type 0) (deps : List ℕ) (total : ℕ) (tally : T) : Type 0 where
   pub sets : List ℕ
   pub closed : IsAscendingListOf (IsClosed deps) sets
   pub counted : length sets ≡ total
-  pub told : tells sets tally
+  pub tallied : tallies sets tally
 
 -- P holds of each closed set
 abbrev pub EachClosed : List ℕ → (ℕ → Type 0) → Type 0
@@ -58,13 +58,13 @@ pub record IsClosedIn (deps : List ℕ) (from to set : ℕ) : Type 0 where
   pub below : set < to
 
 -- a tally is that of those closed sets, in ascending order, and of their number
-pub record AreSwept {T : Type 0} (tells : List ℕ → T → Type 0) (deps : List ℕ) (from to count : ℕ)
+pub record AreSwept {T : Type 0} (tallies : List ℕ → T → Type 0) (deps : List ℕ) (from to count : ℕ)
     (tally : T) : Type 0 where
   pub ascends : from ≤ to
   pub sets : List ℕ
   pub closed : IsAscendingListOf (IsClosedIn deps from to) sets
   pub counted : length sets ≡ count
-  pub told : tells sets tally
+  pub tallied : tallies sets tally
 
 -- Sets that cut the closed sets below a number into parts: a part has those that agree with its root from id `low` on.
 pub record AreParts (deps : List ℕ) (low to : ℕ) (roots : List ℕ) : Type 0 where
@@ -80,20 +80,20 @@ AreAllParts deps low roots = AreParts deps low (2 ^ length deps) roots
 
 -- a tally is that of the closed sets of the part with a root, and of their number
 abbrev pub IsPartSwept : {T : Type 0} → (List ℕ → T → Type 0) → List ℕ → ℕ → ℕ → ℕ → T → Type 0
-IsPartSwept tells deps low root count tally = AreSwept tells deps root (part_end root low) count tally
+IsPartSwept tallies deps low root count tally = AreSwept tallies deps root (part_end root low) count tally
 
 -- the same of the part at a place
-pub record IsDone {T : Type 0} (tells : List ℕ → T → Type 0) (deps : List ℕ) (low : ℕ) (roots : List ℕ)
+pub record IsDone {T : Type 0} (tallies : List ℕ → T → Type 0) (deps : List ℕ) (low : ℕ) (roots : List ℕ)
     (done : Done T) : Type 0 where
   pub known : done.at < length roots
-  pub swept : IsPartSwept tells deps low (slice_index roots done.at) done.part.total done.part.tally
+  pub swept : IsPartSwept tallies deps low (slice_index roots done.at) done.part.total done.part.tally
 
 -- at each place is what was visited of the part there, or nothing
-abbrev pub ArePlaced : {T : Type 0} → (List ℕ → T → Type 0) → List ℕ → ℕ → List ℕ → List (Option (Part T)) → Type 0
-ArePlaced tells deps low roots places =
+abbrev pub ArePlaced : {T : Type 0} → (List ℕ → T → Type 0) → List ℕ → ℕ → List ℕ → List (Option (SweptPart T)) → Type 0
+ArePlaced tallies deps low roots places =
     (at : ℕ) (d : _) → at < length places
     → IfSome (slice_index_or places at d)
-    (λ part. IsPartSwept tells deps low (slice_index roots at) part.total part.tally)
+    (λ part. IsPartSwept tallies deps low (slice_index roots at) part.total part.tally)
 
 -- rows for 0 to 128 ids: each has those of the sets with as many ids, in the order of the sets
 pub record AreRows {Row : Type 0} (items : Row → List ℕ) (sets : List ℕ) (rows : List Row) : Type 0 where

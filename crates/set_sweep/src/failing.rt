@@ -73,7 +73,7 @@ impl<'a, S: Space, A: Allocator + Copy> Visitor for Failing<'a, S, A> {
 
     ghost is_own = { λ v. S.is_own v.space.now };
 
-    ghost tells = { λ v sets tally. IsPickOf (λ set. ¬ (S.is_good v.space.now set)) sets tally.items };
+    ghost tallies = { λ v sets tally. IsPickOf (λ set. ¬ (S.is_good v.space.now set)) sets tally.items };
 
     fn scratch(&self) -> Result<S::Scratch, AllocError> {
         self.space.scratch()

@@ -21,7 +21,7 @@ pub(crate) struct Sweeper<'a, V: Visitor> {
 
 /// What was visited of the closed sets from a root on.
 #[derive(Drop)]
-pub(crate) struct Part<T> {
+pub(crate) struct SweptPart<T> {
     pub root: u128,
     pub total: usize,
     pub tally: T,
@@ -34,7 +34,7 @@ impl<'a, V: Visitor> Sweeper<'a, V> {
         scratch: &mut V::Scratch,
         low: usize,
         root: u128,
-    ) -> Result<Part<V::Tally>, ExploreFault>
+    ) -> Result<SweptPart<V::Tally>, ExploreFault>
         requires known { low ≤ length self.now.deps.now }
         requires root { IsRoot self.now.deps.now low root }
         requires lawful { EachClosed self.now.deps.now (V.is_lawful self.now.visitor.now) }
@@ -43,10 +43,10 @@ impl<'a, V: Visitor> Sweeper<'a, V> {
         ensures own { OnOk result (V.is_own self.now.visitor.now scratch.new) }
         ensures within { IfOk result (λ part. part.total ≤ self.now.limit) }
         ensures swept { IfOk result (λ part.
-            IsPartSwept (V.tells self.now.visitor.now) self.now.deps.now low root part.total part.tally) }
+            IsPartSwept (V.tallies self.now.visitor.now) self.now.deps.now low root part.total part.tally) }
         ensures too_many { SaysTooMany self.now.deps.now self.now.limit result }
     {
-        let mut part = Part {
+        let mut part = SweptPart {
             root,
             total: 0,
             tally: self.visitor.none(),
@@ -61,20 +61,20 @@ impl<'a, V: Visitor> Sweeper<'a, V> {
         scratch: &mut V::Scratch,
         k: usize,
         set: u128,
-        part: &mut Part<V::Tally>,
+        part: &mut SweptPart<V::Tally>,
     ) -> Result<(), ExploreFault>
         requires known { k ≤ length self.now.deps.now }
         requires root { IsRoot self.now.deps.now k set }
         requires lawful { EachClosed self.now.deps.now (V.is_lawful self.now.visitor.now) }
         requires own { V.is_own self.now.visitor.now scratch.old }
         requires within { part.old.total ≤ self.now.limit }
-        requires swept { AreSwept (V.tells self.now.visitor.now) self.now.deps.now part.old.root set part.old.total
+        requires swept { AreSwept (V.tallies self.now.visitor.now) self.now.deps.now part.old.root set part.old.total
             part.old.tally }
 
         ensures own { OnOk result (V.is_own self.now.visitor.now scratch.new) }
         ensures within { OnOk result (part.new.total ≤ self.now.limit) }
         ensures root { part.new.root ≡ part.old.root }
-        ensures swept { OnOk result (AreSwept (V.tells self.now.visitor.now) self.now.deps.now part.new.root
+        ensures swept { OnOk result (AreSwept (V.tallies self.now.visitor.now) self.now.deps.now part.new.root
             (part_end set k) part.new.total part.new.tally) }
         ensures too_many { SaysTooMany self.now.deps.now self.now.limit result }
     {
@@ -92,19 +92,19 @@ impl<'a, V: Visitor> Sweeper<'a, V> {
         &self,
         scratch: &mut V::Scratch,
         set: u128,
-        part: &mut Part<V::Tally>,
+        part: &mut SweptPart<V::Tally>,
     ) -> Result<(), ExploreFault>
         requires closed { IsClosed self.now.deps.now set }
         requires lawful { EachClosed self.now.deps.now (V.is_lawful self.now.visitor.now) }
         requires own { V.is_own self.now.visitor.now scratch.old }
         requires within { part.old.total ≤ self.now.limit }
-        requires swept { AreSwept (V.tells self.now.visitor.now) self.now.deps.now part.old.root set part.old.total
+        requires swept { AreSwept (V.tallies self.now.visitor.now) self.now.deps.now part.old.root set part.old.total
             part.old.tally }
 
         ensures own { OnOk result (V.is_own self.now.visitor.now scratch.new) }
         ensures within { OnOk result (part.new.total ≤ self.now.limit) }
         ensures root { part.new.root ≡ part.old.root }
-        ensures swept { OnOk result (AreSwept (V.tells self.now.visitor.now) self.now.deps.now part.new.root (set + 1)
+        ensures swept { OnOk result (AreSwept (V.tallies self.now.visitor.now) self.now.deps.now part.new.root (set + 1)
             part.new.total part.new.tally) }
         ensures too_many { SaysTooMany self.now.deps.now self.now.limit result }
     {

@@ -6,7 +6,7 @@ ghost use Rattle.set_sweep.specs.Sweeps.{EachClosed, SaysTooMany, AreAllParts, I
 
 use crate::joining::join_parts;
 use crate::parting::{Parts, parts_of};
-use crate::sweeping::{Part, Sweeper};
+use crate::sweeping::{Sweeper, SweptPart};
 use crate::visitor::Visitor;
 use crate::watching::{Counting, Watch, Watched};
 use crate::workers::Workers;
@@ -56,7 +56,7 @@ where
         requires earlier { AreEarlier deps.now }
         requires lawful { EachClosed deps.now (V.is_lawful visitor.now) }
 
-        ensures swept { IfOk result (λ swept. IsSweep (V.tells visitor.now) deps.now swept.total swept.tally) }
+        ensures swept { IfOk result (λ swept. IsSweep (V.tallies visitor.now) deps.now swept.total swept.tally) }
         ensures within { IfOk result (λ swept. swept.total ≤ limit) }
         ensures too_many { SaysTooMany deps.now limit result }
     {
@@ -95,7 +95,7 @@ where
         requires parts { AreAllParts sweeper.now.deps.now parts.now.low parts.now.roots.items }
         requires lawful { EachClosed sweeper.now.deps.now (V.is_lawful sweeper.now.visitor.now) }
         ensures swept { IfOk result (λ swept.
-            IsSweep (V.tells sweeper.now.visitor.now) sweeper.now.deps.now swept.total swept.tally) }
+            IsSweep (V.tallies sweeper.now.visitor.now) sweeper.now.deps.now swept.total swept.tally) }
         ensures within { IfOk result (λ swept. swept.total ≤ sweeper.now.limit) }
         ensures too_many { SaysTooMany sweeper.now.deps.now sweeper.now.limit result }
     {
@@ -121,7 +121,7 @@ where
         requires lawful { EachClosed sweeper.now.deps.now (V.is_lawful sweeper.now.visitor.now) }
         requires own { All (V.is_own sweeper.now.visitor.now) scratches.items }
         ensures done { IfOk result (λ all.
-            All (IsDone (V.tells sweeper.now.visitor.now) sweeper.now.deps.now low roots.now) all.items) }
+            All (IsDone (V.tallies sweeper.now.visitor.now) sweeper.now.deps.now low roots.now) all.items) }
         ensures too_many { SaysTooMany sweeper.now.deps.now sweeper.now.limit result }
     {
         let next = AtomicUsize::new(0);
@@ -134,8 +134,8 @@ where
             seen: &seen,
             alloc: self.alloc,
         };
-        let lefts = run_on_threads(self.rt, &sweeping, scratches)?;
-        sweeping.join_lefts(lefts)
+        let outputs = run_on_threads(self.rt, &sweeping, scratches)?;
+        sweeping.join_outputs(outputs)
     }
 }
 
@@ -166,7 +166,7 @@ fn new_scratches<A: Allocator + Copy, V: Visitor>(
 #[derive(Drop)]
 pub(crate) struct Done<T> {
     pub at: usize,
-    pub part: Part<T>,
+    pub part: SweptPart<T>,
 }
 
 /// Sweeping over parts, of which each worker draws one after another.
@@ -183,7 +183,7 @@ struct Sweeping<'a, V: Visitor, A: Allocator + Copy> {
 impl<'a, V: Visitor, A: Allocator + Copy> Job for Sweeping<'a, V, A> {
     type Worker = V::Scratch;
 
-    type Left = Result<Vec<Done<V::Tally>, A>, ExploreFault>;
+    type Output = Result<Vec<Done<V::Tally>, A>, ExploreFault>;
 
     ghost use Rattle.std.specs.Prelude.{◌≤◌, length, IfOk};
     ghost use Rattle.std.specs.List.{All};
@@ -194,10 +194,10 @@ impl<'a, V: Visitor, A: Allocator + Copy> Job for Sweeping<'a, V, A> {
         × EachClosed j.sweeper.now.deps.now (V.is_lawful j.sweeper.now.visitor.now)
         × V.is_own j.sweeper.now.visitor.now scratch };
 
-    ghost is_left = { λ j began left.
-        IfOk left (λ all.
-        All (IsDone (V.tells j.sweeper.now.visitor.now) j.sweeper.now.deps.now j.low j.roots.now) all.items)
-        × SaysTooMany j.sweeper.now.deps.now j.sweeper.now.limit left };
+    ghost is_output = { λ j began output.
+        IfOk output (λ all.
+        All (IsDone (V.tallies j.sweeper.now.visitor.now) j.sweeper.now.deps.now j.low j.roots.now) all.items)
+        × SaysTooMany j.sweeper.now.deps.now j.sweeper.now.limit output };
 
     fn work(&self, scratch: V::Scratch) -> Result<Vec<Done<V::Tally>, A>, ExploreFault> {
         self.draw_parts(scratch)
@@ -211,7 +211,7 @@ impl<V: Visitor, A: Allocator + Copy> Sweeping<'_, V, A> {
         requires parts { AreAllParts self.now.sweeper.now.deps.now self.now.low self.now.roots.now }
         requires lawful { EachClosed self.now.sweeper.now.deps.now (V.is_lawful self.now.sweeper.now.visitor.now) }
         requires own { V.is_own self.now.sweeper.now.visitor.now scratch }
-        ensures done { IfOk result (λ all. All (IsDone (V.tells self.now.sweeper.now.visitor.now)
+        ensures done { IfOk result (λ all. All (IsDone (V.tallies self.now.sweeper.now.visitor.now)
             self.now.sweeper.now.deps.now self.now.low self.now.roots.now) all.items) }
         ensures too_many { SaysTooMany self.now.sweeper.now.deps.now self.now.sweeper.now.limit result }
     {
@@ -233,7 +233,7 @@ impl<V: Visitor, A: Allocator + Copy> Sweeping<'_, V, A> {
         requires lawful { EachClosed self.now.sweeper.now.deps.now (V.is_lawful self.now.sweeper.now.visitor.now) }
         requires own { V.is_own self.now.sweeper.now.visitor.now scratch.old }
         ensures own { OnOk result (V.is_own self.now.sweeper.now.visitor.now scratch.new) }
-        ensures done { IfOk result (λ drawn. IfSome drawn (IsDone (V.tells self.now.sweeper.now.visitor.now)
+        ensures done { IfOk result (λ drawn. IfSome drawn (IsDone (V.tallies self.now.sweeper.now.visitor.now)
             self.now.sweeper.now.deps.now self.now.low self.now.roots.now)) }
         ensures too_many { SaysTooMany self.now.sweeper.now.deps.now self.now.sweeper.now.limit result }
     {
@@ -250,21 +250,21 @@ impl<V: Visitor, A: Allocator + Copy> Sweeping<'_, V, A> {
     }
 
     /// What all workers left, together.
-    fn join_lefts(
+    fn join_outputs(
         &self,
-        mut lefts: Vec<Result<Vec<Done<V::Tally>, A>, ExploreFault>, A>,
+        mut outputs: Vec<Result<Vec<Done<V::Tally>, A>, ExploreFault>, A>,
     ) -> Result<Vec<Done<V::Tally>, A>, ExploreFault>
-        requires { All (λ left. IfOk left (λ all. All (IsDone (V.tells self.now.sweeper.now.visitor.now)
+        requires { All (λ output. IfOk output (λ all. All (IsDone (V.tallies self.now.sweeper.now.visitor.now)
             self.now.sweeper.now.deps.now self.now.low self.now.roots.now) all.items)
-            × SaysTooMany self.now.sweeper.now.deps.now self.now.sweeper.now.limit left) lefts.items }
-        ensures done { IfOk result (λ all. All (IsDone (V.tells self.now.sweeper.now.visitor.now)
+            × SaysTooMany self.now.sweeper.now.deps.now self.now.sweeper.now.limit output) outputs.items }
+        ensures done { IfOk result (λ all. All (IsDone (V.tallies self.now.sweeper.now.visitor.now)
             self.now.sweeper.now.deps.now self.now.low self.now.roots.now) all.items) }
         ensures too_many { SaysTooMany self.now.sweeper.now.deps.now self.now.sweeper.now.limit result }
     {
         let mut all = Vec::with_capacity(self.alloc, self.roots.len())?;
-        while let Some(left) = lefts.pop() {
-            let mut left = left?;
-            all.append(&mut left)?;
+        while let Some(output) = outputs.pop() {
+            let mut output = output?;
+            all.append(&mut output)?;
         }
         Ok(all)
     }

@@ -21,7 +21,7 @@ pub trait Visitor {
     ghost is_own: { Self → Self.Scratch → Type 0 };
 
     /// What a tally says of the sets that were visited, in their order.
-    ghost tells: { Self → List ℕ → Self.Tally → Type 0 };
+    ghost tallies: { Self → List ℕ → Self.Tally → Type 0 };
 
     /// Room for `visit`. It fails only when out of memory.
     fn scratch(&self) -> Result<Self::Scratch, AllocError>
@@ -29,7 +29,7 @@ pub trait Visitor {
 
     /// The tally of no set.
     fn none(&self) -> Self::Tally
-        ensures { tells self.now [] result };
+        ensures { tallies self.now [] result };
 
     /// Visits one more set. It fails only when out of memory; the tally is then unspecified.
     fn visit(
@@ -41,13 +41,13 @@ pub trait Visitor {
         requires lawful { is_lawful self.now set }
         requires own { is_own self.now scratch.old }
         ensures own { is_own self.now scratch.new }
-        ensures told { (sets : List ℕ) → tells self.now sets tally.old
-            → OnOk result (tells self.now (sets ++ set ∷ []) tally.new) };
+        ensures tallied { (sets : List ℕ) → tallies self.now sets tally.old
+            → OnOk result (tallies self.now (sets ++ set ∷ []) tally.new) };
 
     /// Appends the tally of later sets to a tally. It fails only when out of memory.
     fn join(&self, tally: &mut Self::Tally, later: Self::Tally) -> Result<(), AllocError>
-        ensures { (sets others : List ℕ) → tells self.now sets tally.old → tells self.now others later
-            → OnOk result (tells self.now (sets ++ others) tally.new) };
+        ensures { (sets others : List ℕ) → tallies self.now sets tally.old → tallies self.now others later
+            → OnOk result (tallies self.now (sets ++ others) tally.new) };
 
     /// How many of its sets a tally keeps. It is only for a watch, so nothing is promised about it.
     fn kept(&self, tally: &Self::Tally) -> usize;

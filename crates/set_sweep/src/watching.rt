@@ -11,7 +11,7 @@ pub trait Watch {
 }
 
 /// How many sets a worker visits between two progress reports.
-const TOLD_AT_ONCE: usize = 1024;
+const REPORTED_AT_ONCE: usize = 1024;
 
 /// How many sets a worker counts between two progress reports; counting is faster than visiting.
 const COUNTED_AT_ONCE: usize = 65_536;
@@ -25,7 +25,7 @@ pub(crate) struct Watched<'a, V: Visitor, W: Watch> {
 
 /// The state of a worker's visits, and the sets not yet reported.
 #[derive(Drop)]
-pub(crate) struct Untold<C> {
+pub(crate) struct Unreported<C> {
     scratch: C,
     sets: usize,
     kept: usize,
@@ -33,30 +33,30 @@ pub(crate) struct Untold<C> {
 
 impl<'a, V: Visitor, W: Watch> Watched<'a, V, W> {
     /// Reports the sets, if there are enough of them.
-    fn tell(&self, untold: &mut Untold<V::Scratch>)
-        ensures { untold.new.scratch ≡ untold.old.scratch }
+    fn report(&self, unreported: &mut Unreported<V::Scratch>)
+        ensures { unreported.new.scratch ≡ unreported.old.scratch }
     {
-        if untold.sets >= TOLD_AT_ONCE {
-            self.watch.visited(untold.sets, untold.kept);
-            untold.sets = 0;
-            untold.kept = 0;
+        if unreported.sets >= REPORTED_AT_ONCE {
+            self.watch.visited(unreported.sets, unreported.kept);
+            unreported.sets = 0;
+            unreported.kept = 0;
         }
     }
 }
 
 impl<'a, V: Visitor, W: Watch> Visitor for Watched<'a, V, W> {
-    type Scratch = Untold<V::Scratch>;
+    type Scratch = Unreported<V::Scratch>;
 
     type Tally = V::Tally;
 
     ghost is_lawful = { λ w. V.is_lawful w.visitor.now };
 
-    ghost is_own = { λ w untold. V.is_own w.visitor.now untold.scratch };
+    ghost is_own = { λ w unreported. V.is_own w.visitor.now unreported.scratch };
 
-    ghost tells = { λ w. V.tells w.visitor.now };
+    ghost tallies = { λ w. V.tallies w.visitor.now };
 
-    fn scratch(&self) -> Result<Untold<V::Scratch>, AllocError> {
-        Ok(Untold {
+    fn scratch(&self) -> Result<Unreported<V::Scratch>, AllocError> {
+        Ok(Unreported {
             scratch: self.visitor.scratch()?,
             sets: 0,
             kept: 0,
@@ -69,16 +69,16 @@ impl<'a, V: Visitor, W: Watch> Visitor for Watched<'a, V, W> {
 
     fn visit(
         &self,
-        untold: &mut Untold<V::Scratch>,
+        unreported: &mut Unreported<V::Scratch>,
         tally: &mut V::Tally,
         set: u128,
     ) -> Result<(), AllocError> {
         let before = self.visitor.kept(tally);
-        self.visitor.visit(&mut untold.scratch, tally, set)?;
+        self.visitor.visit(&mut unreported.scratch, tally, set)?;
         let kept = self.visitor.kept(tally).wrapping_sub(before);
-        untold.sets = untold.sets.wrapping_add(1);
-        untold.kept = untold.kept.wrapping_add(kept);
-        self.tell(untold);
+        unreported.sets = unreported.sets.wrapping_add(1);
+        unreported.kept = unreported.kept.wrapping_add(kept);
+        self.report(unreported);
         Ok(())
     }
 
@@ -106,7 +106,7 @@ impl<'a, W: Watch> Visitor for Counting<'a, W> {
 
     ghost is_own = { λ v scratch. Unit {0} };
 
-    ghost tells = { λ v sets tally. Unit {0} };
+    ghost tallies = { λ v sets tally. Unit {0} };
 
     fn scratch(&self) -> Result<usize, AllocError> {
         Ok(0)

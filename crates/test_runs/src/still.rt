@@ -10,7 +10,7 @@ use crash_model::names::{GroupName, Path};
 use crash_model::operations::Op;
 use crash_model::steps::Step;
 use disk_image::{Demands, Image};
-use failing_sets::{FaultScratch, FaultVisitor, Tally};
+use failing_sets::{FaultScratch, FaultTally, FaultVisitor};
 use fs_check::is_clean;
 use inode_fs::{apply, demands, plan};
 use journal_replay::replay;
@@ -142,7 +142,7 @@ fn walking_a_graph_takes_none(rt: HostRuntime) -> Result<(), Fail> {
 fn tally_closed<'s, 'm>(
     visitor: &FaultVisitor<'s, Memory<'m>>,
     scratch: &mut FaultScratch<'s, Memory<'m>>,
-    tally: &mut Tally<Memory<'m>>,
+    tally: &mut FaultTally<Memory<'m>>,
     graph: &Graph<Memory<'_>>,
 ) -> Result<(), AllocError>
     requires graph { visitor.now.patches ≡ graph.now }

@@ -19,7 +19,7 @@ use test_board::{Diamond, FIRST, Fan, START, Small, put_after_start, put_each};
 /// A board of the diamond.
 pub type DiamondBoard = Board<Small<Diamond>, Global>;
 
-/// Waits for a flag, for a bounded number of turns. `false` if it stays down.
+/// Waits for a flag, for a bounded number of rounds. `false` if it stays down.
 pub fn waits_for(flag: &AtomicBool) -> bool {
     for _ in 0..10_000_000u32 {
         if flag.load(SeqCst) {

@@ -1,14 +1,14 @@
-//! Gates that hold workers at their claims. Each of them lets go after a bounded number of turns.
+//! Gates that hold workers at their claims. Each of them lets go after a bounded number of rounds.
 
 use explorers::Gate;
 use std::sync::atomic::AtomicU64;
 use std::sync::atomic::Ordering::SeqCst;
 use std::thread::yield_now;
 
-/// The most turns that a `Meeting` holds a worker.
+/// The most rounds that a `Meeting` holds a worker.
 const TURNS: u64 = 10_000_000;
 
-/// Holds each claim for up to seven turns, as a mix of the seed, the worker and the set says.
+/// Holds each claim for up to seven rounds, as a mix of the seed, the worker and the set says.
 #[derive(Drop)]
 pub struct Shuffled {
     pub seed: u64,
@@ -28,7 +28,7 @@ impl Gate for Shuffled {
     }
 }
 
-/// Holds the claimer of one set for 10,000 turns.
+/// Holds the claimer of one set for 10,000 rounds.
 #[derive(Drop)]
 pub struct HeldAt {
     pub set: u128,
@@ -44,7 +44,7 @@ impl Gate for HeldAt {
     }
 }
 
-/// Holds one worker for 100 turns at each of its claims.
+/// Holds one worker for 100 rounds at each of its claims.
 #[derive(Drop)]
 pub struct Slow {
     pub worker: usize,
@@ -60,7 +60,7 @@ impl Gate for Slow {
     }
 }
 
-/// Holds each claimer until another worker has claimed since, for at most 1,000 turns.
+/// Holds each claimer until another worker has claimed since, for at most 1,000 rounds.
 #[derive(Drop)]
 pub struct UntilAnother {
     /// The worker of the last claim.
@@ -90,7 +90,7 @@ impl Gate for UntilAnother {
 }
 
 /// Holds each claimer of a set of one patch until as many such sets as are expected are claimed, for at most
-/// 10,000,000 turns.
+/// 10,000,000 rounds.
 #[derive(Drop)]
 pub struct Meeting {
     expected: u64,

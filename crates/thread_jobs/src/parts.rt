@@ -59,8 +59,8 @@ where
         alloc,
     };
     let lists = drawing.new_lists(workers)?;
-    let lefts = run_on_threads(rt, &drawing, lists)?;
-    let places = drawing.in_places(lefts)?;
+    let outputs = run_on_threads(rt, &drawing, lists)?;
+    let places = drawing.in_places(outputs)?;
     drawing.all_parts(places)
 }
 
@@ -83,7 +83,7 @@ struct Drawing<'a, J: PartJob, A: Allocator + Copy> {
 impl<'a, J: PartJob, A: Allocator + Copy> Job for Drawing<'a, J, A> {
     type Worker = Vec<Drawn<J::Part>, A>;
 
-    type Left = Result<Vec<Drawn<J::Part>, A>, AllocError>;
+    type Output = Result<Vec<Drawn<J::Part>, A>, AllocError>;
 
     ghost use Rattle.std.specs.Prelude.{◌<◌, ℕ, IfOk};
     ghost use Rattle.std.specs.List.{All};
@@ -92,7 +92,8 @@ impl<'a, J: PartJob, A: Allocator + Copy> Job for Drawing<'a, J, A> {
     ghost is_ready = { λ j list. ((n : ℕ) → n < j.parts → J.may_do j.job.now n)
         × All (IsDrawn (J.is_part j.job.now) j.parts) list.items };
 
-    ghost is_left = { λ j began left. IfOk left (λ list. All (IsDrawn (J.is_part j.job.now) j.parts) list.items) };
+    ghost is_output = { λ j began output.
+        IfOk output (λ list. All (IsDrawn (J.is_part j.job.now) j.parts) list.items) };
 
     fn work(&self, list: Vec<Drawn<J::Part>, A>) -> Result<Vec<Drawn<J::Part>, A>, AllocError> {
         self.draw_parts(list)
@@ -159,16 +160,16 @@ impl<J: PartJob, A: Allocator + Copy> Drawing<'_, J, A> {
     /// What all workers left, each part at its place.
     fn in_places(
         &self,
-        mut lefts: Vec<Result<Vec<Drawn<J::Part>, A>, AllocError>, A>,
+        mut outputs: Vec<Result<Vec<Drawn<J::Part>, A>, AllocError>, A>,
     ) -> Result<Vec<Option<J::Part>, A>, AllocError>
-        requires { All (λ left.
-            IfOk left (λ list. All (IsDrawn (J.is_part self.now.job.now) self.now.parts) list.items)) lefts.items }
+        requires { All (λ output.
+            IfOk output (λ list. All (IsDrawn (J.is_part self.now.job.now) self.now.parts) list.items)) outputs.items }
         ensures count { IfOk result (λ places. length places.items ≡ self.now.parts) }
         ensures placed { IfOk result (λ places. ArePlaced (J.is_part self.now.job.now) places.items) }
     {
         let mut places = self.empty_places()?;
-        while let Some(left) = lefts.pop() {
-            self.put_parts(&mut places, left?);
+        while let Some(output) = outputs.pop() {
+            self.put_parts(&mut places, output?);
         }
         Ok(places)
     }

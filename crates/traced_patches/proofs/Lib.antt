@@ -1,5 +1,5 @@
 pub mod Labelled
 pub mod ReasonTexts
 pub mod RulePairs
-pub mod Told
+pub mod Explained
 pub mod ForcedBefore

@@ -18,7 +18,8 @@ origin_by origin = origin_at origin.line origin.op.now (group_by origin.group) o
 
 -- a patch at a place, with its label
 abbrev pub emitted_at : Place → Label → Emitted
-emitted_at at label = record { place = at; part = label.part; turn = label.turn; origin = origin_by label.origin }
+emitted_at at label =
+    record { place = at; part = label.part; op_number = label.op_number; origin = origin_by label.origin }
 
 -- the same, of which only the label matters
 abbrev pub emitted_of : Label → Emitted

@@ -1,6 +1,6 @@
 -- The patches of a trace, with what each of them is.
 use Rattle.std.specs.Prelude.{◌≡◌, ℕ, List, Bool, Option}
-use Rattle.crash_model.specs.Reasons.{Dependency, ToldPatch, dependency, told_patch, rules_between}
+use Rattle.crash_model.specs.Reasons.{Dependency, ExplainedPatch, dependency, explained_patch, rules_between}
 use Rattle.crash_model.specs.Patches.{overlap}
 use Rattle.crash_model.specs.Trace.{Emitted, groups_depend, waits_for}
 use Rattle.crash_model.specs.WholeBlocks.{shares_block}
@@ -30,8 +30,8 @@ pub record AreReasons (t : TracedPatches) (q : Emitted) (id : ℕ) (p : Emitted)
   pub rules : reasons.rules.items ≡ rules_between t.rules q p
 
 -- the explanation of the patch of an id, and of an earlier one that patch q depends on
-abbrev pub told_at : TracedPatches → ℕ → Option ToldPatch
-told_at t id = told_patch t.rules t.whole t.links t.emitted t.patches id
+abbrev pub explained_at : TracedPatches → ℕ → Option ExplainedPatch
+explained_at t id = explained_patch t.rules t.whole t.links t.emitted t.patches id
 
 abbrev pub dependency_at : TracedPatches → Emitted → ℕ → Option Dependency
 dependency_at t q earlier = dependency t.rules t.whole t.links t.emitted q earlier

@@ -26,7 +26,7 @@ pub struct Origin<'a> {
 #[derive(Clone, Copy)]
 pub struct Label<'a> {
     pub part: Part,
-    pub turn: usize,
+    pub op_number: usize,
     pub origin: Origin<'a>,
 }
 
@@ -87,7 +87,7 @@ pub fn applies(rule: &Rule, later: &Label<'_>, earlier: &Label<'_>) -> bool
 {
     rule.later.has(later.part)
         && rule.earlier.has(earlier.part)
-        && rule.scope.has(later.turn, earlier.turn)
+        && rule.scope.has(later.op_number, earlier.op_number)
 }
 
 /// Whether a link makes a patch of the later label's group wait for one of the earlier label's.

@@ -7,7 +7,7 @@ use Rattle.patch_sets.specs.Sets.{Has}
 use Rattle.patch_sets.proofs.Bits.{same_set}
 use Rattle.crash_model.specs.Disk.{Disk}
 use Rattle.crash_model.specs.Strict.{IsKept}
-use Rattle.crash_model.specs.Checker.{IsToldKept, Demands, Asked, AreDemands}
+use Rattle.crash_model.specs.Checker.{IsKeptIfStrict, Demands, Asked, AreDemands}
 use Rattle.crash_model.specs.declared.steps.Step.{Step}
 use Rattle.crash_model.specs.Promises.{Promise}
 
@@ -20,7 +20,7 @@ module _ (base : Disk) (steps : List Step) where
           (is_b id ∙ (sym (is_a id) ∙ eq-eqb (bit_at a id) 1 there))
 
 pub one_kept : (strict : Bool) (base : Disk) (steps : List Step) (kept other : Option ℕ)
-    → IsToldKept strict base steps kept → IsToldKept strict base steps other → kept ≡ other
+    → IsKeptIfStrict strict base steps kept → IsKeptIfStrict strict base steps other → kept ≡ other
 one_kept strict base steps None None is also = refl
 one_kept strict base steps None (Some other) is also = absurd (false≢true (sym is ∙ also.0))
 one_kept strict base steps (Some kept) None is also = absurd (false≢true (sym also ∙ is.0))

@@ -429,9 +429,9 @@ form_at line like words cut fits =
 
 pub reads_form : (line : List ℕ) (what : Line) → Reads line what → ¬ (IsSkipped line) → line ≢ codes "start"
     → (like : Act) × (words : List (List ℕ)) × HasForm line like words × HasSlots (said like).1 words
-reads_form line Skipped is told other = absurd (told is)
-reads_form line Start is told other = absurd (other is)
-reads_form line (Says act) is told other =
+reads_form line Skipped is unskipped other = absurd (unskipped is)
+reads_form line Start is unskipped other = absurd (other is)
+reads_form line (Says act) is unskipped other =
     let words = texts (said act).1 in
     let it = act_words act is.0 in
     (act, words, form_at line act words (ap (pieces 32) is.1 ∙ act_pieces act is.0) it.fits, it.slots)
@@ -439,14 +439,14 @@ reads_form line (Says act) is told other =
 pub reads_paths : (line : List ℕ) (what : Line) (like : Act) (words : List (List ℕ)) → Reads line what
     → ¬ (IsSkipped line)
     → HasForm line like words → HasPaths (said like).1 words
-reads_paths line Skipped like words is told form = absurd (told is)
-reads_paths line Start like words is told form =
+reads_paths line Skipped like words is unskipped form = absurd (unskipped is)
+reads_paths line Start like words is unskipped form =
     let same : codes "start" ∷ [] ≡ (said like).0 ∷ words = sym (ap (pieces 32) is)
     ∙ form_pieces line like words form in
     let heads : codes "start" ≡ (said like).0 = cc in
     let none : None ≡ Some (sampled like).0 = ap like_of heads ∙ (sampled like).1 in
     absurd (cc)
-reads_paths line (Says act) like words is told form =
+reads_paths line (Says act) like words is unskipped form =
     let same : words_of act ≡ (said like).0 ∷ words =
     sym (ap (pieces 32) is.1 ∙ act_pieces act is.0) ∙ form_pieces line like words form in
     let heads : (said act).0 ≡ (said like).0 = cc in

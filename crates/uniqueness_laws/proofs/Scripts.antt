@@ -15,7 +15,8 @@ use Rattle.uniqueness_laws.proofs.Readings.{reads_form, reads_paths, reads_one, 
 -- ---- a line that says something is not refused
 
 not_bad_path : (line : List ℕ) (what : Line) → Reads line what → ¬ (IsBadPath line)
-not_bad_path line what is (text, told, (like, words, form, none)) = none (reads_paths line what like words is told form)
+not_bad_path line what is (text, unskipped, (like, words, form, none)) =
+    none (reads_paths line what like words is unskipped form)
 
 -- ---- which of two refused lines comes first
 

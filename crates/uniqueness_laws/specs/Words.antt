@@ -1,4 +1,4 @@
--- Words of a line, told by a test.
+-- Words of a line, found by a test.
 use Rattle.std.specs.Prelude.{ℕ, List, length, Bool, ◌&&◌, nat_lt, nat_le}
 use Rattle.std.specs.List.{list_all}
 

@@ -29,7 +29,7 @@ use Rattle.worked_example_laws.specs.Computed.{trace_of, is_accepted}
 use Rattle.worked_example_laws.specs.Computed.{section_of, have_runs}
 use Rattle.worked_example_laws.specs.Examples.{numbered_steps}
 use Rattle.worked_example_laws.specs.Spelled.{are_acts, script, base_or, base_of, has_base, trace_steps, graph}
-use Rattle.worked_example_laws.specs.Spelled.{is_geometry, is_told, demands_by, IsListed}
+use Rattle.worked_example_laws.specs.Spelled.{is_geometry, is_reported, demands_by, IsListed}
 use Rattle.worked_example_laws.proofs.FailingSets.{accepted_is, counts_closed, all_under, failing_quickly_under}
 use Rattle.worked_example_laws.proofs.FailingSets.{failing_under_are}
 use Rattle.worked_example_laws.proofs.Graphs.{earlier, graph_is}
@@ -103,13 +103,13 @@ refused_trace settings limit before after fault read read_too geometry whole is 
     (start settings before after read read_too geometry whole) is)
 
 -- how much is reported of a set
-abbrev pub told_detail : Settings → List Act → List Act → Detail
-told_detail settings before after = detail_of settings
+abbrev pub reported_detail : Settings → List Act → List Act → Detail
+reported_detail settings before after = detail_of settings
     (demands_by settings (base_of settings before) (trace_steps before after))
 
--- the same test as `is_told`, in fewer steps
-abbrev pub is_told_quickly : Settings → ℕ → List Act → List Act → ℕ → List ℕ → Bool
-is_told_quickly settings limit before after closed failing =
+-- the same test as `is_reported`, in fewer steps
+abbrev pub is_reported_quickly : Settings → ℕ → List Act → List Act → ℕ → List ℕ → Bool
+is_reported_quickly settings limit before after closed failing =
     let base = base_of settings before in
     let patches = graph settings before after in
     are_acts before && (are_acts after && (is_geometry settings
@@ -121,7 +121,8 @@ is_told_quickly settings limit before after closed failing =
     && (nat_le closed limit && have_runs patches failing)))))))
 
 quickly_is : (settings : Settings) (limit : ℕ) (before after : List Act) (closed : ℕ) (failing : List ℕ)
-    → is_told_quickly settings limit before after closed failing ≡ is_told settings limit before after closed failing
+    → is_reported_quickly settings limit before after closed failing
+    ≡ is_reported settings limit before after closed failing
 quickly_is settings limit before after closed failing =
     let base = base_of settings before in
     rw (failing_under_are (demands_by settings base (trace_steps before after)) base
@@ -129,7 +130,7 @@ quickly_is settings limit before after closed failing =
 
 -- the report, of each failing set
 pub reported : (settings : Settings) (limit : ℕ) (before after : List Act) (closed : ℕ) (failing : List ℕ) (text : List ℕ)
-    → is_told_quickly settings limit before after closed failing ≡ true
+    → is_reported_quickly settings limit before after closed failing ≡ true
     → text ≡ report settings (record {
       patches = length (graph settings before after);
       closed = closed;
@@ -140,21 +141,21 @@ pub reported : (settings : Settings) (limit : ℕ) (before after : List Act) (cl
       promises = if settings.explain
           then (demands_by settings (base_of settings before) (trace_steps before after)).promises
           else None;
-      body = Sets (map (section_of (told_detail settings before after) (base_of settings before)
+      body = Sets (map (section_of (reported_detail settings before after) (base_of settings before)
           (graph settings before after)) failing);
     })
     → IsListed (script before after) settings limit (Reported text (length failing))
 unfolding has_graph
-reported settings limit before after closed failing text told_quickly is =
-    let told : is_told settings limit before after closed failing ≡ true =
-    sym (quickly_is settings limit before after closed failing) ∙ told_quickly in
+reported settings limit before after closed failing text reported_quickly is =
+    let listed : is_reported settings limit before after closed failing ≡ true =
+    sym (quickly_is settings limit before after closed failing) ∙ reported_quickly in
     let base = base_of settings before in
     let steps = trace_steps before after in
     let last = trace_of settings.module settings.whole_blocks base steps in
     let demands = demands_by settings base steps in
     let detail = detail_of settings demands in
     let patches = graph settings before after in
-    let one = and_parts (are_acts before) _ told in
+    let one = and_parts (are_acts before) _ listed in
     let two = and_parts (are_acts after) _ one.1 in
     let three = and_parts (is_geometry settings) _ two.1 in
     let four = and_parts (has_base (base_from (new_disk settings.blocks settings.journal settings.generations) (numbered_steps 1 before)))
@@ -185,7 +186,7 @@ reported settings limit before after closed failing text told_quickly is =
         left = closed_are_left base patches first failing are_closed;
         number = refl;
         body = Sets (map (section_of detail base patches) failing);
-        told = (
+        listed = (
           refl,
           sections,
           sections_lead base patches first detail failing

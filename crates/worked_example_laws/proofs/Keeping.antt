@@ -8,7 +8,7 @@ use Rattle.crash_model.specs.Disk.{Disk}
 use Rattle.crash_model.specs.Layout.{kind_of, is_live}
 use Rattle.crash_model.specs.Strict.{stays_live, IsKept}
 use Rattle.crash_model.specs.StepDisks.{disk_after}
-use Rattle.crash_model.specs.Checker.{IsToldKept, Asked, AreDemands}
+use Rattle.crash_model.specs.Checker.{IsKeptIfStrict, Asked, AreDemands}
 use Rattle.crash_model.specs.declared.steps.Step.{Step}
 use Rattle.crash_model.specs.Atomic.{disks_of}
 use Rattle.crash_model.specs.Lists.{when}
@@ -39,10 +39,10 @@ module _ (base : Disk) (steps : List Step) where
         | inr gone ↦ gone
       ]
 
-pub is_told_kept : (strict : Bool) (base : Disk) (steps : List Step)
-    → IsToldKept strict base steps (kept_of strict base steps)
-is_told_kept false base steps = refl
-is_told_kept true base steps = (refl, kept_is base steps)
+pub is_kept_if_strict : (strict : Bool) (base : Disk) (steps : List Step)
+    → IsKeptIfStrict strict base steps (kept_of strict base steps)
+is_kept_if_strict false base steps = refl
+is_kept_if_strict true base steps = (refl, kept_is base steps)
 
 are_shown : (atomic : Bool) (base : Disk) (steps : List Step)
     → shown_of atomic base steps ≡ when atomic (disks_of base steps)
@@ -52,7 +52,7 @@ are_shown true base steps = refl
 pub are_demands : (asked : Asked) (base : Disk) (steps : List Step)
     → AreDemands asked base steps (demands_of asked base steps)
 are_demands asked base steps = record {
-  kept = is_told_kept asked.strict base steps;
+  kept = is_kept_if_strict asked.strict base steps;
   disks = are_shown asked.atomic base steps;
   promises = refl;
   counted = refl;

@@ -39,7 +39,7 @@ module _ (settings : Settings) (by : ReportBy) (limit : ℕ) (base : Disk) (last
       also.exactly in
       let numbers : failing ≡ more = is.number ∙ (ap (λ (some : List ℕ). length some) same ∙ sym also.number) in
       let bodies : is.body ≡ also.body = body_one settings by limit demands base last patches also.sets is.body also.body
-      (subst (λ some. IsBody settings by limit demands base last patches some is.body) same is.told) also.told in
+      (subst (λ some. IsBody settings by limit demands base last patches some is.body) same is.listed) also.listed in
       let texts : text ≡ other = is.whole ∙ ((λ i. report settings (record {
         patches = length patches;
         closed = total i;

@@ -19,15 +19,15 @@ use Rattle.report_model.specs.ScriptGraph.{ordering_rules}
 use Rattle.crash_model.specs.Disk.{Disk}
 use Rattle.crash_model.specs.Patches.{ExceedsLimit, deps_of, homes_of}
 use Rattle.crash_model.specs.Checker.{Demands, IsFailingUnder}
-use Rattle.report_model.specs.Needs.{Without, RuleUsage, Unused, TooMany, Used, ToldRule, IsFirstNew, IsWithout}
-use Rattle.report_model.specs.Needs.{IsRuleUsage, AreToldRules}
+use Rattle.report_model.specs.Needs.{Without, RuleUsage, Unused, TooMany, Used, ListedRule, IsFirstNew, IsWithout}
+use Rattle.report_model.specs.Needs.{IsRuleUsage, AreListedRules}
 use Rattle.report_model.specs.Report.{Detail, Section, AreSections}
 use Rattle.crash_model.specs.ChosenRules.{rules_in_first}
 use Rattle.crash_model.specs.FaultRows.{IsRow, AreRows}
 use Rattle.crash_model.specs.FaultOrder.{numbers_of, IsFaultBefore}
 use Rattle.crash_model.specs.FirstSets.{HasFault, IsFirst}
-use Rattle.report_model.specs.Summary.{ToldFault}
-use Rattle.report_model.specs.Summary.{AreToldFaults}
+use Rattle.report_model.specs.Summary.{CountedFault}
+use Rattle.report_model.specs.Summary.{AreCountedFaults}
 use Rattle.crash_model.specs.Tracing.{Tracing}
 use Rattle.report_model.specs.Whole.{Body, Sets, Faults, Rules}
 use Rattle.crash_model.specs.declared.fault.Fault.{Fault}
@@ -39,7 +39,7 @@ use Rattle.crash_model.specs.declared.visit.ReportBy.{ReportBy}
 use Rattle.crash_model.specs.declared.visit.ReportBy.TheVariants.{BySet, ByFault, ByRule}
 use Rattle.uniqueness_laws.proofs.OneGraph.{graph_one, heads, tails}
 use Rattle.worked_example_laws.specs.Computed.{section_with}
-use Rattle.worked_example_laws.proofs.Orders.{one_keyed, same_parts, same_told}
+use Rattle.worked_example_laws.proofs.Orders.{one_keyed, same_parts, same_listed}
 use Rattle.worked_example_laws.proofs.Sets.{order}
 
 -- ---- sections
@@ -89,18 +89,19 @@ module _ (has : Fault → ℕ → Type 0) where
       (λ row here. is.every row.fault row.first here.first.among)
       (λ row here. also.every row.fault row.first here.first.among)
 
-told_one : (t o : ToldFault) → t.row ≡ o.row → t.first ≡ o.first → t ≡ o
-told_one t o row first = λ i. record { row = row i; first = first i }
+listed_one : (t o : CountedFault) → t.row ≡ o.row → t.first ≡ o.first → t ≡ o
+listed_one t o row first = λ i. record { row = row i; first = first i }
 
-told_faults_one : (detail : Detail) (base : Disk) (patches : List Patch) (told others : List ToldFault)
-    → AreToldFaults detail base patches told → AreToldFaults detail base patches others → told ≡ others
-told_faults_one detail base patches told others is also =
-    let rows = rows_one (HasFault detail.demands base patches) (map (λ t. t.row) told) (map (λ t. t.row) others) is.rows
+counted_faults_one : (detail : Detail) (base : Disk) (patches : List Patch) (listed others : List CountedFault)
+    → AreCountedFaults detail base patches listed → AreCountedFaults detail base patches others → listed ≡ others
+counted_faults_one detail base patches listed others is also =
+    let rows =
+    rows_one (HasFault detail.demands base patches) (map (λ t. t.row) listed) (map (λ t. t.row) others) is.rows
     also.rows in
-    let firsts = subst (λ some. AreSections detail base patches some (map (λ t. t.first) told))
-    (same_parts (λ (t : ToldFault). t.row) (λ (row : FaultRow). row.first) told others rows) is.firsts in
-    same_told (λ (t : ToldFault). t.row) (λ (t : ToldFault). t.first) told_one told others rows
-    (sections_one detail base patches (map (λ t. t.row.first) others) (map (λ t. t.first) told)
+    let firsts = subst (λ some. AreSections detail base patches some (map (λ t. t.first) listed))
+    (same_parts (λ (t : CountedFault). t.row) (λ (row : FaultRow). row.first) listed others rows) is.firsts in
+    same_listed (λ (t : CountedFault). t.row) (λ (t : CountedFault). t.first) listed_one listed others rows
+    (sections_one detail base patches (map (λ t. t.row.first) others) (map (λ t. t.first) listed)
     (map (λ t. t.first) others) firsts also.firsts)
 
 -- ---- what there is without each rule
@@ -178,13 +179,13 @@ module _ (detail : Detail) (limit : ℕ) (rules : List Rule) (base : Disk) (s : 
       (subst (λ ps. IsWithout detail limit base patches ps w) same is.2.2) also.2.2 in
       cc (number, there)
 
-  told_rules_one : (some : List Rule) (told others : List ToldRule)
-      → AreToldRules detail limit rules base s patches some told
-      → AreToldRules detail limit rules base s patches some others → told ≡ others
-  told_rules_one [] told others is also = is ∙ sym also
-  told_rules_one (rule ∷ some) told others is also =
+  listed_rules_one : (some : List Rule) (listed others : List ListedRule)
+      → AreListedRules detail limit rules base s patches some listed
+      → AreListedRules detail limit rules base s patches some others → listed ≡ others
+  listed_rules_one [] listed others is also = is ∙ sym also
+  listed_rules_one (rule ∷ some) listed others is also =
       let usage : is.0 ≡ also.0 = usage_one rule is.0 also.0 is.2 also.2 in
-      let rest : is.1 ≡ also.1 = told_rules_one some is.1 also.1 is.3 also.3 in
+      let rest : is.1 ≡ also.1 = listed_rules_one some is.1 also.1 is.3 also.3 in
       is.4 ∙ ((λ i. record { rule = rule; usage = usage i } ∷ rest i) ∙ sym also.4)
 
 -- ---- the body
@@ -207,11 +208,12 @@ module _ (settings : Settings) (by : ReportBy) (limit : ℕ) (demands : Demands)
   body_one (Sets xs) (Faults ys) is also = absurd (set_or_fault by is.0 also.0)
   body_one (Sets xs) (Rules ys) is also = absurd (set_or_rule by is.0 also.0)
   body_one (Faults xs) (Sets ys) is also = absurd (set_or_fault by also.0 is.0)
-  body_one (Faults xs) (Faults ys) is also = ap Faults (told_faults_one (detail_of settings demands) base patches xs ys
+  body_one (Faults xs) (Faults ys) is also =
+      ap Faults (counted_faults_one (detail_of settings demands) base patches xs ys
       is.1 also.1)
   body_one (Faults xs) (Rules ys) is also = absurd (fault_or_rule by is.0 also.0)
   body_one (Rules xs) (Sets ys) is also = absurd (set_or_rule by also.0 is.0)
   body_one (Rules xs) (Faults ys) is also = absurd (fault_or_rule by also.0 is.0)
   body_one (Rules xs) (Rules ys) is also =
-      ap Rules (told_rules_one (detail_of settings demands) limit (ordering_rules settings) base last patches
+      ap Rules (listed_rules_one (detail_of settings demands) limit (ordering_rules settings) base last patches
       (ordering_rules settings) xs ys is.1 also.1)

@@ -117,13 +117,13 @@ same_parts key part (x ∷ xs) (y ∷ ys) same =
     cc (front, rest)
 
 -- two lists are one if two things of each element determine it, and are the same
-pub same_told : {X A B : Type 0} (key : X → A) (told : X → B)
-    (one : (a b : X) → key a ≡ key b → told a ≡ told b → a ≡ b) (xs ys : List X) → map key xs ≡ map key ys
-    → map told xs ≡ map told ys → xs ≡ ys
-same_told key told one [] [] keys same = refl
-same_told key told one [] (y ∷ ys) keys same = cc
-same_told key told one (x ∷ xs) [] keys same = cc
-same_told key told one (x ∷ xs) (y ∷ ys) keys same =
+pub same_listed : {X A B : Type 0} (key : X → A) (listed : X → B)
+    (one : (a b : X) → key a ≡ key b → listed a ≡ listed b → a ≡ b) (xs ys : List X) → map key xs ≡ map key ys
+    → map listed xs ≡ map listed ys → xs ≡ ys
+same_listed key listed one [] [] keys same = refl
+same_listed key listed one [] (y ∷ ys) keys same = cc
+same_listed key listed one (x ∷ xs) [] keys same = cc
+same_listed key listed one (x ∷ xs) (y ∷ ys) keys same =
     let front : x ≡ y = one x y (heads keys) (heads same) in
-    let rest : xs ≡ ys = same_told key told one xs ys (tails keys) (tails same) in
+    let rest : xs ≡ ys = same_listed key listed one xs ys (tails keys) (tails same) in
     cc (front, rest)

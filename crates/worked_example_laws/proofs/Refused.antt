@@ -73,28 +73,28 @@ none_if None e = refl
 none_if (Some a) e = cc
 
 -- text that no line is read as
-abbrev pub is_telling : List ℕ → Bool
-is_telling line = is_utf8 line && not (is_some (says line))
+abbrev pub is_unread : List ℕ → Bool
+is_unread line = is_utf8 line && not (is_some (says line))
 
-record IsTelling (line : List ℕ) : Type 0 where
+record IsUnread (line : List ℕ) : Type 0 where
   utf8 : IsUtf8 line
   other : (what : Line) → ¬ (Reads line what)
 
-telling : (line : List ℕ) → is_telling line ≡ true → IsTelling line
-telling line e =
+unread : (line : List ℕ) → is_unread line ≡ true → IsUnread line
+unread line e =
     let parts = and_parts (is_utf8 line) (not (is_some (says line))) e in
     let none = none_if (says line) parts.1 in
     record { utf8 = IsUtf8-from_is_utf8 line parts.0; other = (λ what is. let one = reads_says line what is in cc) }
 
 -- text of no form
-pub bad_line_if : (before : List (List ℕ)) (line : List ℕ) → is_telling line ≡ true
+pub bad_line_if : (before : List (List ℕ)) (line : List ℕ) → is_unread line ≡ true
     → are_formed (pieces 32 line) ≡ false
     → IsBadLine before line
-bad_line_if before line e none = let told = telling line e in
+bad_line_if before line e none = let unread_line = unread line e in
     inl (
-      told.utf8,
-      told.other Skipped,
-      told.other Start,
+      unread_line.utf8,
+      unread_line.other Skipped,
+      unread_line.other Start,
       (λ like words form. absurd (no_form line none like words form)),
     )
 
@@ -132,15 +132,15 @@ fits_if (GroupOperand a ∷ operands) (word ∷ words) e =
     (word_if is_group_byte word parts.0, fits_if operands words parts.1)
 
 -- text that says nothing, though it has a form
-pub bad_path_if : (line : List ℕ) (like : Act) (words : List (List ℕ)) → is_telling line ≡ true
+pub bad_path_if : (line : List ℕ) (like : Act) (words : List (List ℕ)) → is_unread line ≡ true
     → pieces 32 line ≡ (said like).0 ∷ words → fit (said like).1 words ≡ true → HasSlots (said like).1 words
     → IsBadPath line
 bad_path_if line like words e cut fits slots =
-    let told = telling line e in
+    let unread_line = unread line e in
     let form = form_at line like words cut (fits_if (said like).1 words fits) in
     let no_paths : ¬ (HasPaths (said like).1 words) =
-    (λ paths. let read = read_as line like words form paths slots in told.other read.0 read.1) in
-    (told.utf8, told.other Skipped, (like, words, form, no_paths))
+    (λ paths. let read = read_as line like words form paths slots in unread_line.other read.0 read.1) in
+    (unread_line.utf8, unread_line.other Skipped, (like, words, form, no_paths))
 
 -- ---- the first refused line
 
@@ -180,7 +180,7 @@ last_utf8_refused before line accepted plain some e = record {
 
 pub line_refused : (before : List (List ℕ)) (line : List ℕ) (after : List (List ℕ)) → AreAccepted before
     → list_all is_plain (before ++ line ∷ after) ≡ true
-    → is_telling line ≡ true → are_formed (pieces 32 line) ≡ false
+    → is_unread line ≡ true → are_formed (pieces 32 line) ≡ false
     → IsScriptRefusal (text_of_lines (before ++ line ∷ after)) (BadLine (length before + 1))
 line_refused before line after accepted plain e none = first_refused IsBadLine before line after accepted plain
     (bad_line_if before line e none)

@@ -62,7 +62,7 @@ module _ (settings : Settings) (by : ReportBy) (limit : ℕ) (bytes : List ℕ) 
           let failing = some_failing demands base patches before in
           let closed = failing_closed demands base patches failing.0 failing.1 in
           let body = some_body settings by limit demands base last patches before failing.0 failing.1 failing.2 in
-          let told : Report = record {
+          let listed : Report = record {
             patches = length patches;
             closed = length (closed_sets (deps_of patches));
             failing = length failing.0;
@@ -70,8 +70,8 @@ module _ (settings : Settings) (by : ReportBy) (limit : ℕ) (bytes : List ℕ) 
             promises = if settings.explain then demands.promises else None;
             body = body.0;
           } in (
-            Reported (report settings told) (length failing.0),
-            reported (report settings told) (length failing.0) (record {
+            Reported (report settings listed) (length failing.0),
+            reported (report settings listed) (length failing.0) (record {
               demands = demands;
               base = base;
               last = last;
@@ -87,7 +87,7 @@ module _ (settings : Settings) (by : ReportBy) (limit : ℕ) (bytes : List ℕ) 
                 left = closed_are_left base patches before failing.0 closed;
                 number = refl;
                 body = body.0;
-                told = body.1;
+                listed = body.1;
                 whole = refl;
               };
             }),

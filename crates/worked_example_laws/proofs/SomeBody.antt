@@ -18,14 +18,14 @@ use Rattle.crash_model.specs.Disk.{Disk}
 use Rattle.crash_model.specs.Patches.{ExceedsLimit, deps_of, image_of}
 use Rattle.crash_model.specs.Checker.{Demands, faults_under, IsFailingUnder}
 use Rattle.crash_model.specs.RuleUse.{pairs_of}
-use Rattle.report_model.specs.Needs.{Without, RuleUsage, Unused, TooMany, Used, ToldRule, IsFirstNew}
-use Rattle.report_model.specs.Needs.{IsWithout, IsRuleUsage, AreToldRules}
+use Rattle.report_model.specs.Needs.{Without, RuleUsage, Unused, TooMany, Used, ListedRule, IsFirstNew}
+use Rattle.report_model.specs.Needs.{IsWithout, IsRuleUsage, AreListedRules}
 use Rattle.crash_model.specs.Replay.{image_after_replay}
 use Rattle.report_model.specs.Report.{Detail, Section, AreSections, IsLed}
 use Rattle.crash_model.specs.ChosenRules.{rules_in_first}
 use Rattle.crash_model.specs.FaultRows.{IsRow}
 use Rattle.crash_model.specs.FirstSets.{HasFault, IsFirst}
-use Rattle.report_model.specs.Summary.{ToldFault, AreToldFaults}
+use Rattle.report_model.specs.Summary.{CountedFault, AreCountedFaults}
 use Rattle.crash_model.specs.Tracing.{Tracing}
 use Rattle.report_model.specs.Whole.{Body, Sets, Faults, Rules}
 use Rattle.crash_model.specs.declared.fault.Fault.{Fault}
@@ -102,14 +102,14 @@ module _ (detail : Detail) (base : Disk) (patches : List Patch) (before : AreEar
       not_before other (inr more) after = before_self x (before_trans x other x (up_here.0 other more) after)
 
   -- what is reported of a fault
-  record Tells (f : Fault) (t : ToldFault) : Type 0 where
+  record ShowsFault (f : Fault) (t : CountedFault) : Type 0 where
     fault : t.row.fault ≡ f
     row : IsRow (HasFault detail.demands base patches) t.row
     closed : IsClosed (deps_of patches) t.row.first
     first : AreSections detail base patches (t.row.first ∷ []) (t.first ∷ [])
 
-  tell : (f : Fault) → Contains (all_of found sets) f → (t : ToldFault) × Tells f t
-  tell f is =
+  show_fault : (f : Fault) → Contains (all_of found sets) f → (t : CountedFault) × ShowsFault f t
+  show_fault f is =
       let there = from_all found sets f is in
       let head = head_of (with_fault f) there.0 (to_filter (λ s. has_fault f (found s)) sets there.0 there.1
       (any_to f (found there.0) there.2)) in
@@ -133,15 +133,15 @@ module _ (detail : Detail) (base : Disk) (patches : List Patch) (before : AreEar
       )
 
   -- what is reported of faults, one after another
-  record TellsAll (fs : List Fault) (told : List ToldFault) : Type 0 where
-    faults : faults_of (map (λ t. t.row) told) ≡ fs
-    each : All (IsRow (HasFault detail.demands base patches)) (map (λ t. t.row) told)
-    firsts : AreSections detail base patches (map (λ t. t.row.first) told) (map (λ t. t.first) told)
-    led : All (λ t. IsLed patches t.first) told
+  record ShowsFaults (fs : List Fault) (listed : List CountedFault) : Type 0 where
+    faults : faults_of (map (λ t. t.row) listed) ≡ fs
+    each : All (IsRow (HasFault detail.demands base patches)) (map (λ t. t.row) listed)
+    firsts : AreSections detail base patches (map (λ t. t.row.first) listed) (map (λ t. t.first) listed)
+    led : All (λ t. IsLed patches t.first) listed
 
-  tell_all : (fs : List Fault) → ((z : Fault) → Contains fs z → Contains (all_of found sets) z)
-      → (told : List ToldFault) × TellsAll fs told
-  tell_all [] from = (
+  show_faults : (fs : List Fault) → ((z : Fault) → Contains fs z → Contains (all_of found sets) z)
+      → (listed : List CountedFault) × ShowsFaults fs listed
+  show_faults [] from = (
     [],
     record {
       faults = refl;
@@ -150,9 +150,9 @@ module _ (detail : Detail) (base : Disk) (patches : List Patch) (before : AreEar
       led = All-nil (λ t. IsLed patches t.first);
     },
   )
-  tell_all (f ∷ fs) from =
-      let one = tell f (from f (in_front f fs)) in
-      let rest = tell_all fs (λ z is. from z (in_rest f fs z is)) in
+  show_faults (f ∷ fs) from =
+      let one = show_fault f (from f (in_front f fs)) in
+      let rest = show_faults fs (λ z is. from z (in_rest f fs z is)) in
       let led = sections_lead base patches before detail (one.0.row.first ∷ []) (one.0.first ∷ [])
       (All-cons (IsClosed (deps_of patches)) one.0.row.first [] one.1.closed (All-nil (IsClosed (deps_of patches))))
       one.1.first in (
@@ -185,10 +185,11 @@ module _ (detail : Detail) (base : Disk) (patches : List Patch) (before : AreEar
           → section ∷ others ≡ section_with detail base patches set one.0 ∷ others
       head_is section others one = ap (λ (s : Section). s ∷ others) (heads one.4)
 
-  told_faults : (told : List ToldFault) × AreToldFaults detail base patches told × All (λ t. IsLed patches t.first) told
-  told_faults =
+  counted_faults : (listed : List CountedFault) × AreCountedFaults detail base patches listed
+      × All (λ t. IsLed patches t.first) listed
+  counted_faults =
       let all = gather (all_of found sets) in
-      let it = tell_all all.0 all.1.from in (
+      let it = show_faults all.0 all.1.from in (
         it.0,
         record {
           rows = record {
@@ -233,14 +234,14 @@ module _ (detail : Detail) (base : Disk) (patches : List Patch) (before : AreEar
         further : IsClosed (deps_of patches) set → (x : Option Section) → IsFirstNew detail base patches changed sets x
             → IsFirstNew detail base patches changed (set ∷ sets) x
         further is None all = All-cons (IsClosed (deps_of patches)) set sets is all
-        further is (Some section) (front, new, rest, split, all, none, told, led) = (
+        further is (Some section) (front, new, rest, split, all, none, listed, led) = (
           set ∷ front,
           new,
           rest,
           ap (λ (some : List ℕ). set ∷ some) split,
           All-cons (IsClosed (deps_of patches)) set front is all,
           none,
-          told,
+          listed,
           led,
         )
 
@@ -322,11 +323,12 @@ module _ (detail : Detail) (base : Disk) (patches : List Patch) (before : AreEar
         by_pairs (suc n) e = by_limit (nat_lt limit (length (closed_sets (deps_of (graph_of others base s))))) refl
             (omega (arith, e))
 
-    told_rules : (some : List Rule) → (told : List ToldRule) × AreToldRules detail limit rules base s patches some told
-    told_rules [] = ([], refl)
-    told_rules (rule ∷ some) =
+    listed_rules : (some : List Rule) → (listed : List ListedRule)
+        × AreListedRules detail limit rules base s patches some listed
+    listed_rules [] = ([], refl)
+    listed_rules (rule ∷ some) =
         let usage = some_usage rule in
-        let rest = told_rules some in
+        let rest = listed_rules some in
         (record { rule = rule; usage = usage.0 } ∷ rest.0, (usage.0, rest.0, usage.1, rest.1, refl))
 
 -- ---- the body
@@ -351,9 +353,9 @@ module _ (settings : Settings) (by : ReportBy) (limit : ℕ) (demands : Demands)
             ),
           )
       by_kind ByFault e =
-          let told = told_faults (detail_of settings demands) base patches before sets exactly up in
-          (Faults told.0, (e, told.1, told.2))
+          let listed = counted_faults (detail_of settings demands) base patches before sets exactly up in
+          (Faults listed.0, (e, listed.1, listed.2))
       by_kind ByRule e =
-          let told = told_rules (detail_of settings demands) base patches before limit (ordering_rules settings)
+          let listed = listed_rules (detail_of settings demands) base patches before limit (ordering_rules settings)
           last (ordering_rules settings) in
-          (Rules told.0, (e, told.1))
+          (Rules listed.0, (e, listed.1))

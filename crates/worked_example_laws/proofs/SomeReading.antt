@@ -307,12 +307,12 @@ module _ (line : List ℕ) where
   abbrev Judged : Type 0
   Judged = Read line ⊎ ((before : List (List ℕ)) → IsRefusedLine before line)
 
-  module _ (text : IsUtf8 line) (told : ¬ (IsSkipped line)) (other : line ≢ codes "start") (first : List ℕ)
+  module _ (text : IsUtf8 line) (listed : ¬ (IsSkipped line)) (other : line ≢ codes "start") (first : List ℕ)
       (words : List (List ℕ)) (is : pieces 32 line ≡ first ∷ words) where
     no_form_here : are_formed (first ∷ words) ≡ false → Judged
     no_form_here none = inr (λ before. inr (inl (inl (
       text,
-      told,
+      listed,
       other,
       (λ like ws form. absurd (no_form line (ap are_formed is ∙ none) like ws form)),
     ))))
@@ -325,8 +325,8 @@ module _ (line : List ℕ) where
         by_slots : HasSlots (said like).1 words ⊎ (¬ (HasSlots (said like).1 words)) → Judged
         by_slots (inl slots) = inl (read_as line like words form paths slots)
         by_slots (inr none) =
-            inr (λ before. inr (inl (inl (text, told, other, bad_slot line like words form (paths, none)))))
-    by_paths like form (inr none) = inr (λ before. inr (inr (text, told, (like, words, form, none))))
+            inr (λ before. inr (inl (inl (text, listed, other, bad_slot line like words form (paths, none)))))
+    by_paths like form (inr none) = inr (λ before. inr (inr (text, listed, (like, words, form, none))))
 
     by_fit : (like : Act) → like_of first ≡ Some like → (b : Bool) → fit (said like).1 words ≡ b → Judged
     by_fit like found true e =
@@ -339,10 +339,10 @@ module _ (line : List ℕ) where
     by_like None none = no_form_here (ap (λ (o : Option Act). fits_some o words) none)
     by_like (Some like) found = by_fit like found (fit (said like).1 words) refl
 
-  by_told : IsUtf8 line → (¬ (IsSkipped line)) → (line ≡ codes "start") ⊎ (line ≢ codes "start") → Judged
-  by_told text told (inl start) = inl (Start, start)
-  by_told text told (inr other) =
-      let ps = some_pieces 32 line in by_like text told other ps.0 ps.1 ps.2 (like_of ps.0) refl
+  by_listed : IsUtf8 line → (¬ (IsSkipped line)) → (line ≡ codes "start") ⊎ (line ≢ codes "start") → Judged
+  by_listed text listed (inl start) = inl (Start, start)
+  by_listed text listed (inr other) =
+      let ps = some_pieces 32 line in by_like text listed other ps.0 ps.1 ps.2 (like_of ps.0) refl
 
 judged : (line : List ℕ) → Judged line
 judged line = by_text line (is_utf8 line) refl
@@ -351,7 +351,7 @@ judged line = by_text line (is_utf8 line) refl
     by_line [] text = inl (Skipped, inl refl)
     by_line (c ∷ cs) text = elim (eq_or_not c 35) [
       | inl same ↦ inl (Skipped, inr (text, (cs, ap (λ b. b ∷ cs) same)))
-      | inr other ↦ by_told (c ∷ cs) text (not_skipped (c ∷ cs) (false_from_ne c 35 other))
+      | inr other ↦ by_listed (c ∷ cs) text (not_skipped (c ∷ cs) (false_from_ne c 35 other))
           (same_bytes (c ∷ cs) (codes "start"))
     ]
 

@@ -115,7 +115,7 @@ abbrev pub demands_of : Asked → Disk → List Step → Demands
 demands_of asked base steps = record {
   kept = kept_of asked.strict base steps;
   disks = shown_of asked.atomic base steps;
-  promises = when asked.tells (promises_of asked.kind asked.durable base steps);
+  promises = when asked.promising (promises_of asked.kind asked.durable base steps);
   counted = asked.counted;
 }
 

@@ -103,8 +103,8 @@ abbrev pub demands_by : Settings → Disk → List Step → Demands
 demands_by settings base steps = demands_of (asked_by settings steps) base steps
 
 -- the script is read, its acts are accepted, these sets fail, and this many sets are closed
-abbrev pub is_told : Settings → ℕ → List Act → List Act → ℕ → List ℕ → Bool
-is_told settings limit before after closed failing =
+abbrev pub is_reported : Settings → ℕ → List Act → List Act → ℕ → List ℕ → Bool
+is_reported settings limit before after closed failing =
     let base = base_of settings before in
     let patches = graph settings before after in
     are_acts before && (are_acts after && (is_geometry settings

@@ -83,7 +83,7 @@ pub fn writes_are_cut_where_the_block_changes()
 {}
 
 /// A refused operation is reported with its line, in the base and in the trace.
-pub fn a_refused_operation_is_told_by_its_line()
+pub fn a_refused_operation_is_reported_by_its_line()
     ensures not_found { IsListed (codes "start\ncreate /x/y\n") (settings_of Async 16 0 false) 4096
         (Refused (run.NotFound 2)) }
     ensures no_directory { IsListed (codes "start\ncreate /a\ncreate /a/b\n") (settings_of Async 16 0 false) 4096

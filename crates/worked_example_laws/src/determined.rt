@@ -8,7 +8,7 @@ ghost use Rattle.crash_model.specs.Failing.{IsFailing};
 ghost use Rattle.crash_model.specs.Patches.{CountsClosed};
 ghost use Rattle.crash_model.specs.Script.{IsScript};
 ghost use Rattle.crash_model.specs.ScriptRefusals.{IsScriptRefusal};
-ghost use Rattle.crash_model.specs.Checker.{Demands, Asked, AreDemands, IsFailingUnder, IsToldKept};
+ghost use Rattle.crash_model.specs.Checker.{Demands, Asked, AreDemands, IsFailingUnder, IsKeptIfStrict};
 ghost use Rattle.crash_model.specs.Trace.{IsGraphOf};
 ghost use Rattle.crash_model.specs.Tracing.{Tracing};
 ghost use Rattle.crash_model.specs.declared.patches.Patch.{Patch};
@@ -50,9 +50,9 @@ pub fn a_trace_has_one_graph()
 /// The kept inodes that a checker gets are determined.
 pub fn what_is_kept_is_determined()
     ensures some { (strict : Bool) (base : Disk) (steps : List Step) → (kept : Option ℕ)
-        × IsToldKept strict base steps kept }
+        × IsKeptIfStrict strict base steps kept }
     ensures one { (strict : Bool) (base : Disk) (steps : List Step) (kept other : Option ℕ)
-        → IsToldKept strict base steps kept → IsToldKept strict base steps other → kept ≡ other }
+        → IsKeptIfStrict strict base steps kept → IsKeptIfStrict strict base steps other → kept ≡ other }
 {}
 
 /// What a script demands is determined.

@@ -11,19 +11,19 @@ pub fn a_script_without_start_is_refused_behind_its_last_line()
 {}
 
 /// A bad line comes before an operation that is refused, since the script is read first.
-pub fn a_bad_line_is_told_before_a_refused_operation()
+pub fn a_bad_line_is_reported_before_a_refused_operation()
     ensures { IsScriptRefusal (codes "start\ncreate /x/y\ncrate /a\n") (BadLine 3) }
 {}
 
 /// The root directory is no path, nor are five names, and two spaces are an empty word between them.
-pub fn bad_paths_and_bad_lines_are_told_apart()
+pub fn bad_paths_and_bad_lines_differ()
     ensures root { IsScriptRefusal (codes "start\nmkdir /\n") (BadPath 2) }
     ensures deep { IsScriptRefusal (codes "start\nmkdir /a/b/c/d/e\n") (BadPath 2) }
     ensures spaces { IsScriptRefusal (codes "start\nmkdir  /a\n") (BadLine 2) }
 {}
 
 /// Bytes that are no text, in a last line without a line feed and in a comment.
-pub fn bytes_that_are_no_text_are_told_first()
+pub fn bytes_that_are_no_text_are_reported_first()
     ensures last { IsScriptRefusal (codes "start\n" ++ 0xFF ∷ []) (BadUtf8 2) }
     ensures comment { IsScriptRefusal (35 ∷ 0xFF ∷ 10 ∷ []) (BadUtf8 1) }
 {}

@@ -8,7 +8,7 @@ use Rattle.question_model.specs.declared.verdict.Verdict.{Verdict}
 use Rattle.question_model.specs.declared.verdict.Verdict.TheVariants as verdict
 use Rattle.workload_search.specs.Tallies.{Tried, tried_as, reason_place, IsTally, AreKindsAdded, AreKindsJoined}
 use Rattle.workload_search.specs.declared.kinds.KindTally.{KindTally}
-use Rattle.workload_search.specs.declared.tally.Tally.{Tally}
+use Rattle.workload_search.specs.declared.tally.SearchTally.{SearchTally}
 use Rattle.workload_search.proofs.Tallied.{plus_none, tally_added}
 use Rattle.workload_search.proofs.Verdicts.{reason_low}
 
@@ -42,7 +42,7 @@ kinds_joined later behind old from new to more start end joined =
 
 -- ---- one sequence more
 
-module _ {A : Type 0} (tried : List Tried) (places : List ℕ) (v : Verdict) (old new : Tally A)
+module _ {A : Type 0} (tried : List Tried) (places : List ℕ) (v : Verdict) (old new : SearchTally A)
     (is : IsTally tried old) where
   pub added_refused : (reason : Refusal) (p : ℕ) → v ≡ verdict.Refused reason → p ≡ reason_place reason
       → new.workloads ≡ old.workloads → new.failing ≡ old.failing

@@ -57,7 +57,7 @@ module _ (s : Search) (sequences : List (List ℕ)) where
           enough places ((are.exactly places).0 (Contains-get_or sequences k d low), fails),
     )
 
-    -- the sets that the groups tell are those of the search
+    -- the sets that the groups say are those of the search
     pub found_in_search : {A : Type 0} (groups : List ℕ) (found : EnoughSets A)
         → AreBlockingGroups (all_of s.rules) (IsEnoughForEach s sequences) groups
         → AreEnoughSets (all_of s.rules) (Hits groups) found

@@ -7,23 +7,23 @@ use Rattle.std.proofs.lemmas.List.Elements.{All-weaker, All-contains}
 use Rattle.crash_model.specs.Checker.{Demands}
 use Rattle.crash_model.specs.FirstSets.{IsFirst}
 use Rattle.crash_model.specs.declared.patches.Patch.{Patch}
-use Rattle.question_model.specs.Found.{AreFound, IsCounted, IsShown}
+use Rattle.question_model.specs.SearchCounts.{AreSearchCounts, IsCounted, IsShown}
 use Rattle.question_model.specs.Sequences.{IsSequenceBefore, CountsSequences}
 use Rattle.question_model.specs.Workloads.{Search, IsWorkload, IsFailingWorkload, IsRefusedFor, ShowsKind, HasPatches}
 use Rattle.question_model.specs.Workloads.{HasKind}
 use Rattle.question_model.specs.declared.fault_kind.FaultKind.{FaultKind}
-use Rattle.question_model.specs.declared.found.Found.{Found}
+use Rattle.question_model.specs.declared.found.SearchCounts.{SearchCounts}
 use Rattle.question_model.specs.declared.found.RefusedCount.{RefusedCount}
 use Rattle.question_model.specs.declared.found.ShownKind.{ShownKind}
 use Rattle.question_model.specs.declared.refusal.Refusal.{Refusal}
 use Rattle.question_model.specs.Verdict.{IsVerdict, IsFirstOfKind}
 use Rattle.workload_search.specs.Tallies.{Tried, IsTally, is_accepted, is_failing, is_refused_at, shows_at, first_at}
-use Rattle.workload_search.specs.Tallies.{reason_place, kind_place, told_first}
-use Rattle.workload_search.specs.Told.{IsToldTally, IsToldReason, IsToldKindTally}
+use Rattle.workload_search.specs.Tallies.{reason_place, kind_place, listed_first}
+use Rattle.workload_search.specs.Listed.{IsListedTally, IsListedReason, IsListedKindTally}
 use Rattle.question_model.specs.declared.verdict.Verdict.{Verdict}
 use Rattle.question_model.specs.declared.verdict.Verdict.TheVariants as verdict
 use Rattle.workload_search.specs.declared.kinds.KindTally.{KindTally}
-use Rattle.workload_search.specs.declared.tally.Tally.{Tally}
+use Rattle.workload_search.specs.declared.tally.SearchTally.{SearchTally}
 use Rattle.workload_search.proofs.Counted.{AreAllTried, IsRight, IsFirstOf, places_of, counts_with, some_with}
 use Rattle.workload_search.proofs.Counted.{workloads, failing, refused, shown, first_of, some_first}
 use Rattle.workload_search.proofs.Lists.{in_map, from_map}
@@ -42,15 +42,15 @@ first_set s places verdict.Passes kind set right e demands patches traced = absu
 first_set s places (verdict.Fails firsts) kind set right e demands patches traced =
     subst (IsFirstOfKind kind demands s.base patches) e (right.2 demands patches traced kind)
 
-module _ {A : Type 0} (s : Search) (tried : List Tried) (all : AreAllTried s s.most tried) (tally : Tally A)
+module _ {A : Type 0} (s : Search) (tried : List Tried) (all : AreAllTried s s.most tried) (tally : SearchTally A)
     (is : IsTally tried tally) where
-  counted : (r : RefusedCount) → IsToldReason tally.refused r → IsCounted s r
-  counted r told = record {
+  counted : (r : RefusedCount) → IsListedReason tally.refused r → IsCounted s r
+  counted r listed = record {
     counted = subst (CountsSequences (IsRefusedFor s r.reason))
-        (sym (told.count ∙ is.refused (reason_place r.reason) (reason_low r.reason)))
+        (sym (listed.count ∙ is.refused (reason_place r.reason) (reason_low r.reason)))
         (counts_with s s.most tried all (IsRefusedFor s r.reason) (is_refused_at (reason_place r.reason))
         (refused s tried all r.reason));
-    some = told.some;
+    some = listed.some;
   }
 
   every_reason : (reason : Refusal) (places : List ℕ) → IsRefusedFor s reason places
@@ -61,21 +61,21 @@ module _ {A : Type 0} (s : Search) (tried : List Tried) (all : AreAllTried s s.m
       omega (arith, some, is.refused (reason_place reason) (reason_low reason))
 
   -- the first workload of a kind in the tally is the first that shows it
-  first_told : (k : ShownKind) → told_first (slice_index_or tally.kinds.items (kind_place k.kind) blank).first
+  first_listed : (k : ShownKind) → listed_first (slice_index_or tally.kinds.items (kind_place k.kind) blank).first
       ≡ Some (k.places.items, k.first) → IsFirstOf (kind_place k.kind) tried k.places.items k.first
-  first_told k told = first_of (kind_place k.kind) tried k.places.items k.first
-      (sym (is.kinds (kind_place k.kind) blank (kind_low k.kind)).first ∙ told)
+  first_listed k listed = first_of (kind_place k.kind) tried k.places.items k.first
+      (sym (is.kinds (kind_place k.kind) blank (kind_low k.kind)).first ∙ listed)
 
-  is_shown : (k : ShownKind) → IsToldKindTally tally.kinds.items k → IsShown s k
-  is_shown k told =
+  is_shown : (k : ShownKind) → IsListedKindTally tally.kinds.items k → IsShown s k
+  is_shown k listed =
       let i = kind_place k.kind in
       let test = shown s tried all k.kind in
-      let first = first_told k (told.first blank) in
+      let first = first_listed k (listed.first blank) in
       let right = All-contains (IsRight s) tried first.t all.right first.there in
       let inside = (all.exactly first.t.places).0 (in_map places_of tried first.t first.there) in
       record {
         counted = subst (CountsSequences (ShowsKind s k.kind))
-            (sym (told.workloads blank ∙ (is.kinds i blank (kind_low k.kind)).workloads))
+            (sym (listed.workloads blank ∙ (is.kinds i blank (kind_low k.kind)).workloads))
             (counts_with s s.most tried all (ShowsKind s k.kind) (shows_at i) test);
         earliest = record {
           among = subst (ShowsKind s k.kind) first.same
@@ -93,7 +93,7 @@ module _ {A : Type 0} (s : Search) (tried : List Tried) (all : AreAllTried s s.m
       }
 
   every_kind : (kind : FaultKind) (places : List ℕ) → ShowsKind s kind places
-      → is_some (told_first (slice_index_or tally.kinds.items (kind_place kind) blank).first) ≡ true
+      → is_some (listed_first (slice_index_or tally.kinds.items (kind_place kind) blank).first) ≡ true
   every_kind kind places shows =
       let test = shown s tried all kind in
       let at = from_map places_of tried places ((all.exactly places).1 (test.only places shows)) in
@@ -101,28 +101,28 @@ module _ {A : Type 0} (s : Search) (tried : List Tried) (all : AreAllTried s s.m
       ∙ some_first (kind_place kind) tried at.0 at.1 (test.back at.0
       (All-contains (IsRight s) tried at.0 all.right at.1) (subst (ShowsKind s kind) (sym at.2) shows))
 
-  pub all_found : (found : Found) → IsToldTally tally found → AreFound s found
-  all_found found told = record {
-    workloads = subst (CountsSequences (IsWorkload s)) (sym (told.workloads ∙ is.workloads))
+  pub all_found : (found : SearchCounts) → IsListedTally tally found → AreSearchCounts s found
+  all_found found listed = record {
+    workloads = subst (CountsSequences (IsWorkload s)) (sym (listed.workloads ∙ is.workloads))
         (counts_with s s.most tried all (IsWorkload s) is_accepted (workloads s tried all));
-    failing = subst (CountsSequences (IsFailingWorkload s)) (sym (told.failing ∙ is.failing))
+    failing = subst (CountsSequences (IsFailingWorkload s)) (sym (listed.failing ∙ is.failing))
         (counts_with s s.most tried all (IsFailingWorkload s) is_failing (failing s tried all));
     refused = record {
-      ordered = told.refused.ordered;
-      each = All-weaker (IsToldReason tally.refused) (IsCounted s) counted found.refused.items told.refused.each;
-      every = λ reason places it. told.refused.every reason (every_reason reason places it);
+      ordered = listed.refused.ordered;
+      each = All-weaker (IsListedReason tally.refused) (IsCounted s) counted found.refused.items listed.refused.each;
+      every = λ reason places it. listed.refused.every reason (every_reason reason places it);
     };
     kinds = record {
-      ordered = told.kinds.ordered;
-      each = All-weaker (IsToldKindTally tally.kinds.items) (IsShown s) is_shown found.kinds.items told.kinds.each;
+      ordered = listed.kinds.ordered;
+      each = All-weaker (IsListedKindTally tally.kinds.items) (IsShown s) is_shown found.kinds.items listed.kinds.each;
       every = λ kind places shows. by kind
-          (told_first (slice_index_or tally.kinds.items (kind_place kind) blank).first) refl
+          (listed_first (slice_index_or tally.kinds.items (kind_place kind) blank).first) refl
           (every_kind kind places shows);
     };
   }
     where
       by : (kind : FaultKind) (o : Option (List ℕ × ℕ))
-          → told_first (slice_index_or tally.kinds.items (kind_place kind) blank).first ≡ o → is_some o ≡ true
+          → listed_first (slice_index_or tally.kinds.items (kind_place kind) blank).first ≡ o → is_some o ≡ true
           → Contains (map (λ k. k.kind) found.kinds.items) kind
       by kind None e some = absurd cc
-      by kind (Some first) e some = told.kinds.every kind blank first e
+      by kind (Some first) e some = listed.kinds.every kind blank first e

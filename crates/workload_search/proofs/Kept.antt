@@ -9,7 +9,7 @@ use Rattle.workload_search.specs.Passing.{AreAllPassing}
 use Rattle.workload_search.specs.Tallies.{Tried, IsTally, is_passing}
 use Rattle.workload_search.specs.Tries.{IsBatch, extensions, items_of, passing_of}
 use Rattle.workload_search.specs.declared.batch.Batch.{Batch}
-use Rattle.workload_search.specs.declared.tally.Tally.{Tally}
+use Rattle.workload_search.specs.declared.tally.SearchTally.{SearchTally}
 use Rattle.workload_search.proofs.Batches.{passing_join}
 use Rattle.workload_search.proofs.Counted.{AreAllTried, IsTest, all_with}
 use Rattle.workload_search.proofs.Searched.{IsSearchedTo, searched_none, searched_more}
@@ -18,13 +18,13 @@ use Rattle.workload_search.proofs.Verdicts as says
 
 -- all sequences of up to so many operations are tried, and the empty one and those that pass are kept or to be made
 -- longer
-pub record IsKeptTo {A : Type 0} (s : Search) (pool made : ℕ) (tally : Tally A)
+pub record IsKeptTo {A : Type 0} (s : Search) (pool made : ℕ) (tally : SearchTally A)
     (passing beginnings : List (ArrayVec ℕ)) : Type 0 where
   pub searched : IsSearchedTo s pool made tally beginnings
   pub kept : map items_of (passing ++ beginnings) ≡ [] ∷ passing_of searched.tried
 
 -- at first the empty sequence is to be made longer
-pub kept_none : {A : Type 0} (s : Search) (pool : ℕ) (tally : Tally A) (passing beginnings : List (ArrayVec ℕ))
+pub kept_none : {A : Type 0} (s : Search) (pool : ℕ) (tally : SearchTally A) (passing beginnings : List (ArrayVec ℕ))
     → IsTally [] tally → passing ≡ [] → map items_of beginnings ≡ [] ∷ [] → IsKeptTo s pool 0 tally passing beginnings
 unfolding searched_none
 kept_none s pool tally passing beginnings is none one = record {
@@ -41,7 +41,7 @@ kept_more passing beginnings later tried others so_far more =
     ∙ ap (λ (a : List (List ℕ)). [] ∷ a) (sym (passing_join tried others)))
 
 -- one level more
-pub kept_level : {A : Type 0} (s : Search) (pool made : ℕ) (tally next : Tally A)
+pub kept_level : {A : Type 0} (s : Search) (pool made : ℕ) (tally next : SearchTally A)
     (passing beginnings appended : List (ArrayVec ℕ)) (batch : Batch A) → pool ≡ length s.pool
     → length beginnings ≤ 2 ^ 63 → made < s.most → (so_far : IsKeptTo s pool made tally passing beginnings)
     (b : IsBatch s true (extensions pool (map items_of beginnings)) batch)

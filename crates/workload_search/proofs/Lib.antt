@@ -9,7 +9,7 @@ pub mod Tallied
 pub mod Added
 pub mod Batches
 pub mod Finding
-pub mod Telling
+pub mod Reporting
 pub mod Searched
 pub mod Parts
 pub mod Kept

@@ -29,7 +29,7 @@ fails_by_fewer s few many places among (demands, patches, is, (set, failing)) =
     let by = graph_by_others many few s.base is.last patches is.graph in (
       demands,
       by.0,
-      record { last = is.last; traced = is.traced; graph = by.1; told = is.told },
+      record { last = is.last; traced = is.traced; graph = by.1; demanded = is.demanded },
       (
         set,
         failing_under_more few many s.base is.last by.0 patches set among by.1 is.graph demands failing,
@@ -37,13 +37,13 @@ fails_by_fewer s few many places among (demands, patches, is, (set, failing)) =
     )
 
 module _ (s : Search) (places : List ℕ) (last : Tracing) (demands : Demands) (traced : trace_at s places ≡ Ok last)
-    (told : AreDemands s.asked s.base (workload_at s places) demands) where
+    (demanded : AreDemands s.asked s.base (workload_at s places) demands) where
   -- a sequence has one graph, and demands of its images that are determined
   pub enough_at : (rules : List Rule) → AreEnough demands s.base last rules → ¬ (Fails (search_with s rules) places)
   enough_at rules enough (other, others, is, (set, failing)) =
       let same : is.last ≡ last = one_ok (trace_at s places) is.last last is.traced traced in
       let alike : other ≡ demands =
-      one_demands s.asked s.base (workload_at s places) other demands is.told told in
+      one_demands s.asked s.base (workload_at s places) other demands is.demanded demanded in
       let one : others ≡ enough.0 =
       graph_one rules s.base last others enough.0
       (subst (λ (t : Tracing). IsGraphOf rules s.base t others) same is.graph) enough.1 in
@@ -60,7 +60,7 @@ module _ (s : Search) (places : List ℕ) (last : Tracing) (demands : Demands) (
           λ set failing. safe (
             demands,
             by.0,
-            record { last = last; traced = traced; graph = by.1; told = told },
+            record { last = last; traced = traced; graph = by.1; demanded = demanded },
             (set, failing),
           ),
         )

@@ -10,7 +10,7 @@ use Rattle.question_model.specs.Verdict.{IsAccepted}
 use Rattle.workload_search.specs.Tallies.{Tried, IsTally, HaveRoom}
 use Rattle.workload_search.specs.Tries.{IsBatch, IsExtendable, extensions, items_of, passing_of}
 use Rattle.workload_search.specs.declared.batch.Batch.{Batch}
-use Rattle.workload_search.specs.declared.tally.Tally.{Tally}
+use Rattle.workload_search.specs.declared.tally.SearchTally.{SearchTally}
 use Rattle.workload_search.proofs.Counted.{AreAllTried, places_of}
 use Rattle.workload_search.proofs.Extended.{AreBeginnings, AreLevel, next_level, next_beginnings, first_beginnings}
 use Rattle.workload_search.proofs.Extended.{no_levels, one_level_more, length_extensions}
@@ -18,7 +18,8 @@ use Rattle.workload_search.proofs.Lists.{in_map, all_from}
 use Rattle.workload_search.proofs.Sequences.{beginning_among, beginning_accepted}
 
 -- all sequences of up to this number of operations are tried and counted, and the beginnings for longer ones are there
-pub record IsSearchedTo {A : Type 0} (s : Search) (pool made : ℕ) (tally : Tally A) (beginnings : List (ArrayVec ℕ))
+pub record IsSearchedTo {A : Type 0} (s : Search) (pool made : ℕ) (tally : SearchTally A)
+    (beginnings : List (ArrayVec ℕ))
     : Type 0 where
   pub tried : List Tried
   pub all : AreAllTried s made tried
@@ -61,7 +62,7 @@ pub level_room : (pool : ℕ) (beginnings : List (ArrayVec ℕ)) → length begi
 level_room pool beginnings few small = omega (arith, level_most pool beginnings few)
 
 module _ {A : Type 0} (s : Search) (pool : ℕ) where
-  unfoldable pub searched_none : (tally : Tally A) (beginnings : List (ArrayVec ℕ)) → IsTally [] tally
+  unfoldable pub searched_none : (tally : SearchTally A) (beginnings : List (ArrayVec ℕ)) → IsTally [] tally
       → map items_of beginnings ≡ [] ∷ [] → IsSearchedTo s pool 0 tally beginnings
   searched_none tally beginnings is one = record {
     tried = [];
@@ -78,7 +79,7 @@ module _ {A : Type 0} (s : Search) (pool : ℕ) where
       sym (length-map b.tried places_of)
       ∙ (ap length b.are ∙ level_long pool beginnings)
 
-  pub next_room : (made : ℕ) (beginnings : List (ArrayVec ℕ)) (tally : Tally A) (keeps : Bool) (batch : Batch A)
+  pub next_room : (made : ℕ) (beginnings : List (ArrayVec ℕ)) (tally : SearchTally A) (keeps : Bool) (batch : Batch A)
       → length beginnings ≤ 2 ^ 63 → (so_far : IsSearchedTo s pool made tally beginnings)
       (b : IsBatch s keeps (extensions pool (map items_of beginnings)) batch)
       → length so_far.tried + length b.tried ≤ (made + 1) * (2 ^ 63 * pool)
@@ -89,7 +90,7 @@ module _ {A : Type 0} (s : Search) (pool : ℕ) where
       omega (arith, room, step, tried_long keeps beginnings batch b, level_most pool beginnings few)
 
   -- what a level counts can be counted with what was counted before
-  pub join_room : (made : ℕ) (beginnings : List (ArrayVec ℕ)) (tally : Tally A) (keeps : Bool) (batch : Batch A)
+  pub join_room : (made : ℕ) (beginnings : List (ArrayVec ℕ)) (tally : SearchTally A) (keeps : Bool) (batch : Batch A)
       → length beginnings ≤ 2 ^ 63 → made < 8 → pool < 2 ^ 62 → IsSearchedTo s pool made tally beginnings
       → IsBatch s keeps (extensions pool (map items_of beginnings)) batch → HaveRoom tally batch.tally
   join_room made beginnings tally keeps batch few low small so_far b = record {
@@ -104,7 +105,7 @@ module _ {A : Type 0} (s : Search) (pool : ℕ) where
   }
 
   -- one level more
-  unfoldable pub searched_more : (made : ℕ) (beginnings : List (ArrayVec ℕ)) (tally next : Tally A) (keeps : Bool)
+  unfoldable pub searched_more : (made : ℕ) (beginnings : List (ArrayVec ℕ)) (tally next : SearchTally A) (keeps : Bool)
       (batch : Batch A) → pool ≡ length s.pool → length beginnings ≤ 2 ^ 63 → made < s.most
       → (made + 1 < s.most → keeps ≡ true) → (so_far : IsSearchedTo s pool made tally beginnings)
       (b : IsBatch s keeps (extensions pool (map items_of beginnings)) batch)
@@ -129,6 +130,6 @@ module _ {A : Type 0} (s : Search) (pool : ℕ) where
           (next_level s made (map items_of beginnings) (so_far.fronts low)))
 
   -- after the last level all are tried
-  pub all_searched : (made : ℕ) (tally : Tally A) (beginnings : List (ArrayVec ℕ)) → made ≡ s.most
+  pub all_searched : (made : ℕ) (tally : SearchTally A) (beginnings : List (ArrayVec ℕ)) → made ≡ s.most
       → (so_far : IsSearchedTo s pool made tally beginnings) → AreAllTried s s.most so_far.tried
   all_searched made tally beginnings whole so_far = subst (λ n. AreAllTried s n so_far.tried) whole so_far.all

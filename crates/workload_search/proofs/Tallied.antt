@@ -8,12 +8,12 @@ use Rattle.std.proofs.lemmas.List.Elements.{All-push}
 use Rattle.std.proofs.lemmas.List.Sums.{sum_by-append, sum_by_push, count_by-le-length}
 use Rattle.patch_sets.proofs.Bits.{eq_or_not}
 use Rattle.workload_search.specs.Tallies.{Tried, tried_as, is_accepted, is_failing, is_refused_at, first_at, shows_at}
-use Rattle.workload_search.specs.Tallies.{number_of, or_else, with_places, first_shown, told_first, IsKindTally}
+use Rattle.workload_search.specs.Tallies.{number_of, or_else, with_places, first_shown, listed_first, IsKindTally}
 use Rattle.workload_search.specs.Tallies.{IsTally, HasRoom, HaveRoom, IsKindAdded, IsKindJoined}
 use Rattle.workload_search.specs.Tallies.{AreKindsJoined, AreCountsJoined, AreNoKinds, KindsHaveRoomFor}
 use Rattle.question_model.specs.declared.verdict.Verdict.{Verdict}
 use Rattle.workload_search.specs.declared.kinds.KindTally.{KindTally}
-use Rattle.workload_search.specs.declared.tally.Tally.{Tally}
+use Rattle.workload_search.specs.declared.tally.SearchTally.{SearchTally}
 
 -- ---- numbers
 
@@ -69,7 +69,7 @@ kind_added i tried places v old new is added = by (first_at i v) refl added
           ∙ (is.workloads ∙ sym (number_push (shows_at i) tried (tried_as places v)
           ∙ (ap (λ (o : Option ℕ). number_of (shows_at i) tried + cond (is_some o) 1 0) e
           ∙ plus_none (number_of (shows_at i) tried))));
-      first = ap (λ (k : KindTally). told_first k.first) same
+      first = ap (λ (k : KindTally). listed_first k.first) same
           ∙ (is.first ∙ sym (first_push i tried (tried_as places v)
           ∙ (ap (λ (o : Option ℕ). or_else (first_shown i tried) (with_places places o)) e
           ∙ or_else_none (first_shown i tried))));
@@ -96,7 +96,7 @@ kind_joined i tried others later old new is after joined = record {
 -- ---- tallies
 
 module _ {A : Type 0} where
-  pub no_tally : (tally : Tally A) → tally.workloads ≡ 0 → tally.failing ≡ 0 → length tally.refused ≡ 12
+  pub no_tally : (tally : SearchTally A) → tally.workloads ≡ 0 → tally.failing ≡ 0 → length tally.refused ≡ 12
       → ((i : ℕ) → i < 12 → slice_index tally.refused i ≡ 0) → AreNoKinds tally.kinds.items → IsTally [] tally
   no_tally tally workloads failing long refused kinds = record {
     workloads = workloads;
@@ -108,7 +108,7 @@ module _ {A : Type 0} where
   }
 
   -- how each count grows with one sequence
-  pub record IsAdded (places : List ℕ) (v : Verdict) (old new : Tally A) : Type 0 where
+  pub record IsAdded (places : List ℕ) (v : Verdict) (old new : SearchTally A) : Type 0 where
     pub workloads : new.workloads ≡ old.workloads + cond (is_accepted v) 1 0
     pub failing : new.failing ≡ old.failing + cond (is_failing v) 1 0
     pub refused_long : length new.refused ≡ length old.refused
@@ -118,7 +118,7 @@ module _ {A : Type 0} where
     pub kinds : (i : ℕ) (d : KindTally) → i < 10
         → IsKindAdded places (first_at i v) (slice_index_or old.kinds.items i d) (slice_index_or new.kinds.items i d)
 
-  pub tally_added : (tried : List Tried) (places : List ℕ) (v : Verdict) (old new : Tally A) → IsTally tried old
+  pub tally_added : (tried : List Tried) (places : List ℕ) (v : Verdict) (old new : SearchTally A) → IsTally tried old
       → IsAdded places v old new → IsTally (tried ++ tried_as places v ∷ []) new
   tally_added tried places v old new is added = record {
     workloads = added.workloads
@@ -136,13 +136,14 @@ module _ {A : Type 0} where
   }
 
   -- how each count grows with those of later sequences
-  pub record IsJoined (later old new : Tally A) : Type 0 where
+  pub record IsJoined (later old new : SearchTally A) : Type 0 where
     pub workloads : new.workloads ≡ old.workloads + later.workloads
     pub failing : new.failing ≡ old.failing + later.failing
     pub refused : AreCountsJoined old.refused later.refused new.refused
     pub kinds : AreKindsJoined later.kinds.items old.kinds.items new.kinds.items
 
-  pub tally_joined : (tried others : List Tried) (later old new : Tally A) → IsTally tried old → IsTally others later
+  pub tally_joined : (tried others : List Tried) (later old new : SearchTally A) → IsTally tried old
+      → IsTally others later
       → IsJoined later old new → IsTally (tried ++ others) new
   tally_joined tried others later old new is after joined = record {
     workloads = joined.workloads
@@ -161,7 +162,7 @@ module _ {A : Type 0} where
 
   -- ---- room
 
-  pub record IsRoom (more : ℕ) (tally : Tally A) : Type 0 where
+  pub record IsRoom (more : ℕ) (tally : SearchTally A) : Type 0 where
     pub workloads : tally.workloads + more < 2 ^ 128
     pub failing : tally.failing + more < 2 ^ 128
     pub refused_long : length tally.refused ≡ 12
@@ -169,7 +170,7 @@ module _ {A : Type 0} where
     pub kinds_long : length tally.kinds.items ≡ 10
     pub kinds : (i : ℕ) (d : KindTally) → i < 10 → (slice_index_or tally.kinds.items i d).workloads + more < 2 ^ 128
 
-  pub room_of : (more : ℕ) (tally : Tally A) → HasRoom more tally → IsRoom more tally
+  pub room_of : (more : ℕ) (tally : SearchTally A) → HasRoom more tally → IsRoom more tally
   room_of more tally has =
       let is = has.is in record {
         workloads = omega (arith, is.workloads, number_most is_accepted has.tried, has.room);
@@ -181,14 +182,14 @@ module _ {A : Type 0} where
             omega (arith, kind.workloads, number_most (shows_at i) has.tried, has.room);
       }
 
-  pub record IsRoomFor (tally later : Tally A) : Type 0 where
+  pub record IsRoomFor (tally later : SearchTally A) : Type 0 where
     pub workloads : tally.workloads + later.workloads < 2 ^ 128
     pub failing : tally.failing + later.failing < 2 ^ 128
     pub refused : (i : ℕ) → i < 12 → slice_index tally.refused i + slice_index later.refused i < 2 ^ 128
     pub long : (length tally.kinds.items ≡ 10) × (length later.kinds.items ≡ 10)
     pub kinds : KindsHaveRoomFor tally.kinds.items later.kinds.items
 
-  pub room_for : (tally later : Tally A) → HaveRoom tally later → IsRoomFor tally later
+  pub room_for : (tally later : SearchTally A) → HaveRoom tally later → IsRoomFor tally later
   room_for tally later has =
       let a = has.is in
       let b = has.after in record {
@@ -231,7 +232,7 @@ module _ {A : Type 0} where
 
 pub record IsEmpty (kind : KindTally) : Type 0 where
   pub workloads : kind.workloads ≡ 0
-  pub first : told_first kind.first ≡ None
+  pub first : listed_first kind.first ≡ None
 
 pub no_kinds_yet : (kinds : List KindTally) (i : ℕ) → length kinds ≡ i → All IsEmpty kinds → 10 ≤ i → i ≤ 10
     → AreNoKinds kinds

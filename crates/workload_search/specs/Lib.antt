@@ -1,5 +1,5 @@
 pub mod Tallies
 pub mod Tries
-pub mod Told
+pub mod Listed
 pub mod Passing
 pub mod Asked

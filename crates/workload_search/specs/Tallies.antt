@@ -10,7 +10,7 @@ use Rattle.question_model.specs.declared.verdict.Verdict.{Verdict}
 use Rattle.question_model.specs.declared.verdict.Verdict.TheVariants as verdict
 use Rattle.workload_search.specs.declared.kinds.First.{First}
 use Rattle.workload_search.specs.declared.kinds.KindTally.{KindTally}
-use Rattle.workload_search.specs.declared.tally.Tally.{Tally}
+use Rattle.workload_search.specs.declared.tally.SearchTally.{SearchTally}
 
 -- a sequence that was tried, and what was said of it
 pub record Tried : Type 0 where
@@ -80,15 +80,15 @@ first_shown i (t ∷ ts) = or_else (with_places t.places (first_at i t.verdict))
 
 -- ---- tallies
 
-abbrev pub told_first : Option First → Option (List ℕ × ℕ)
-told_first None = None
-told_first (Some first) = Some (first.places.items, first.set)
+abbrev pub listed_first : Option First → Option (List ℕ × ℕ)
+listed_first None = None
+listed_first (Some first) = Some (first.places.items, first.set)
 
 pub record IsKindTally (i : ℕ) (tried : List Tried) (kind : KindTally) : Type 0 where
   pub workloads : kind.workloads ≡ number_of (shows_at i) tried
-  pub first : told_first kind.first ≡ first_shown i tried
+  pub first : listed_first kind.first ≡ first_shown i tried
 
-pub record IsTally {A : Type 0} (tried : List Tried) (tally : Tally A) : Type 0 where
+pub record IsTally {A : Type 0} (tried : List Tried) (tally : SearchTally A) : Type 0 where
   pub workloads : tally.workloads ≡ number_of is_accepted tried
   pub failing : tally.failing ≡ number_of is_failing tried
   pub refused_long : length tally.refused ≡ 12
@@ -97,13 +97,13 @@ pub record IsTally {A : Type 0} (tried : List Tried) (tally : Tally A) : Type 0 
   pub kinds : (i : ℕ) (d : KindTally) → i < 10 → IsKindTally i tried (slice_index_or tally.kinds.items i d)
 
 -- this many more sequences can be counted
-pub record HasRoom {A : Type 0} (more : ℕ) (tally : Tally A) : Type 0 where
+pub record HasRoom {A : Type 0} (more : ℕ) (tally : SearchTally A) : Type 0 where
   pub tried : List Tried
   pub is : IsTally tried tally
   pub room : length tried + more < 2 ^ 128
 
 -- the sequences of both can be counted together
-pub record HaveRoom {A : Type 0} (tally later : Tally A) : Type 0 where
+pub record HaveRoom {A : Type 0} (tally later : SearchTally A) : Type 0 where
   pub tried : List Tried
   pub others : List Tried
   pub is : IsTally tried tally
@@ -129,7 +129,8 @@ KindsHaveRoomFor kinds later =
 abbrev pub IsKindAdded : List ℕ → Option ℕ → KindTally → KindTally → Type 0
 IsKindAdded places None old new = new ≡ old
 IsKindAdded places (Some set) old new =
-    (new.workloads ≡ old.workloads + 1) × (told_first new.first ≡ or_else (told_first old.first) (Some (places, set)))
+    (new.workloads ≡ old.workloads + 1)
+    × (listed_first new.first ≡ or_else (listed_first old.first) (Some (places, set)))
 
 pub record AreKindsAdded (places : List ℕ) (firsts : List (Option ℕ)) (old new : List KindTally) : Type 0 where
   pub long : length new ≡ length old
@@ -138,7 +139,7 @@ pub record AreKindsAdded (places : List ℕ) (firsts : List (Option ℕ)) (old n
 
 pub record IsKindJoined (later old new : KindTally) : Type 0 where
   pub workloads : new.workloads ≡ old.workloads + later.workloads
-  pub first : told_first new.first ≡ or_else (told_first old.first) (told_first later.first)
+  pub first : listed_first new.first ≡ or_else (listed_first old.first) (listed_first later.first)
 
 pub record AreKindsJoined (later old new : List KindTally) : Type 0 where
   pub long : length new ≡ length old

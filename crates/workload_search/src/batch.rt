@@ -3,14 +3,14 @@ ghost use Rattle.std.specs.Prelude.{◌++◌, List, ℕ, Bool, [], IfOk, OnOk};
 ghost use Rattle.question_model.specs.Workloads.{Search};
 ghost use Rattle.workload_search.specs.Tries.{IsBatch, HaveRoomFor};
 
-use crate::tally::Tally;
+use crate::tally::SearchTally;
 use question_model::Places;
 use std::alloc::{AllocError, Allocator};
 
 /// What is counted of the sequences, and those of them that pass, in order, if they will be made longer.
 #[derive(Drop)]
 pub(crate) struct Batch<A: Allocator> {
-    pub tally: Tally<A>,
+    pub tally: SearchTally<A>,
     pub passing: Vec<Places, A>,
 }
 
@@ -20,7 +20,7 @@ impl<A: Allocator + Copy> Batch<A> {
         ensures { IfOk result (λ batch. (s : Search) (keeps : Bool) → IsBatch s keeps [] batch) }
     {
         Ok(Batch {
-            tally: Tally::new(alloc)?,
+            tally: SearchTally::new(alloc)?,
             passing: Vec::new(alloc),
         })
     }

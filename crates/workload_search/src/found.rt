@@ -1,22 +1,22 @@
 //! From what is counted to what is found.
 ghost use Rattle.std.specs.Prelude.{◌≡◌, ◌<◌, length};
 ghost use Rattle.workload_search.specs.Tallies.{reason_place, kind_place};
-ghost use Rattle.workload_search.specs.Told.{AreToldReasons, AreToldKinds, IsToldTally};
+ghost use Rattle.workload_search.specs.Listed.{AreListedReasons, AreListedKinds, IsListedTally};
 
 use crate::kinds::KindTally;
 use crate::places::copied;
-use crate::tally::Tally;
+use crate::tally::SearchTally;
 use arrayvec::ArrayVec;
-use question_model::{FaultKind, Found, KINDS, REFUSALS, Refusal, RefusedCount, ShownKind};
+use question_model::{FaultKind, KINDS, REFUSALS, Refusal, RefusedCount, SearchCounts, ShownKind};
 use std::alloc::Allocator;
 
-impl<A: Allocator> Tally<A> {
+impl<A: Allocator> SearchTally<A> {
     /// What is found of the sequences that were counted.
-    pub(crate) fn found(&self) -> Found
+    pub(crate) fn found(&self) -> SearchCounts
         requires { length self.now.kinds.items ≡ 10 }
-        ensures { IsToldTally self.now result }
+        ensures { IsListedTally self.now result }
     {
-        Found {
+        SearchCounts {
             workloads: self.workloads,
             failing: self.failing,
             refused: refused(&self.refused),
@@ -27,7 +27,7 @@ impl<A: Allocator> Tally<A> {
 
 /// Each reason that comes, in the order of their numbers.
 fn refused(counts: &[u128; REFUSALS]) -> ArrayVec<RefusedCount, REFUSALS>
-    ensures { AreToldReasons counts.now result.items }
+    ensures { AreListedReasons counts.now result.items }
 {
     let mut refused = ArrayVec::new();
     for i in 0..REFUSALS {
@@ -44,7 +44,7 @@ fn refused(counts: &[u128; REFUSALS]) -> ArrayVec<RefusedCount, REFUSALS>
 /// Each kind that is shown, in the order of their numbers.
 fn shown(kinds: &[KindTally]) -> ArrayVec<ShownKind, KINDS>
     requires { length kinds.now ≡ 10 }
-    ensures { AreToldKinds kinds.now result.items }
+    ensures { AreListedKinds kinds.now result.items }
 {
     let mut shown = ArrayVec::new();
     for i in 0..KINDS {

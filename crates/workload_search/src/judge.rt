@@ -13,34 +13,34 @@ use std::alloc::AllocError;
 /// operations that follow it.
 pub trait Judge {
     /// What is made of a beginning before an operation follows it.
-    type Begun: Drop;
+    type Prefix: Drop;
 
     /// The search.
     ghost search: { Self → Search };
 
     /// What is made of the beginning with these operations.
-    ghost is_begun: { Self → List ℕ → Self.Begun → Type 0 };
+    ghost is_prefix: { Self → List ℕ → Self.Prefix → Type 0 };
 
     /// Begins with the operations at these places of the pool, one after another, of which none is refused.
     ///
     /// # Errors
     ///
     /// There is not enough memory.
-    fn begin(&self, places: &Places) -> Result<Self::Begun, AllocError>
+    fn begin(&self, places: &Places) -> Result<Self::Prefix, AllocError>
         requires short { length places.now.items < 8 }
         requires among { All (λ place. place < length (search self.now).pool) places.now.items }
         requires accepted { IsAccepted (search self.now) places.now.items }
-        ensures { IfOk result (is_begun self.now places.now.items) };
+        ensures { IfOk result (is_prefix self.now places.now.items) };
 
     /// The verdict on the operations of a beginning, followed by the one at this place of the pool.
     ///
     /// # Errors
     ///
     /// There is not enough memory to find out.
-    fn judge_longer(&self, begun: &Self::Begun, place: usize) -> Result<Verdict, AllocError>
-        requires begun { (front : List ℕ) × is_begun self.now front begun.now }
+    fn judge_longer(&self, prefix: &Self::Prefix, place: usize) -> Result<Verdict, AllocError>
+        requires prefix { (front : List ℕ) × is_prefix self.now front prefix.now }
         requires among { place < length (search self.now).pool }
-        ensures { (front : List ℕ) → is_begun self.now front begun.now
+        ensures { (front : List ℕ) → is_prefix self.now front prefix.now
             → IfOk result (IsVerdict (search self.now) (front ++ place ∷ [])) };
 
     /// Nothing is refused of a workload before its first operation.

@@ -1,6 +1,6 @@
 //! What is counted of one kind of fault.
 ghost use Rattle.std.specs.Prelude.{◌≡◌, ◌+◌, ◌<◌, ◌^◌, Some};
-ghost use Rattle.workload_search.specs.Tallies.{told_first, or_else};
+ghost use Rattle.workload_search.specs.Tallies.{listed_first, or_else};
 
 use crate::places::copied;
 use question_model::Places;
@@ -24,7 +24,8 @@ impl KindTally {
     pub(crate) fn add(&mut self, places: &Places, set: u128)
         requires { self.old.workloads + 1 < 2 ^ 128 }
         ensures workloads { self.new.workloads ≡ self.old.workloads + 1 }
-        ensures first { told_first self.new.first ≡ or_else (told_first self.old.first) (Some (places.now.items, set)) }
+        ensures first { listed_first self.new.first ≡ or_else (listed_first self.old.first)
+            (Some (places.now.items, set)) }
     {
         self.workloads += 1;
         if self.first.is_none() {
@@ -39,7 +40,8 @@ impl KindTally {
     pub(crate) fn join(&mut self, later: &KindTally)
         requires { self.old.workloads + later.now.workloads < 2 ^ 128 }
         ensures workloads { self.new.workloads ≡ self.old.workloads + later.now.workloads }
-        ensures first { told_first self.new.first ≡ or_else (told_first self.old.first) (told_first later.now.first) }
+        ensures first { listed_first self.new.first ≡ or_else (listed_first self.old.first)
+            (listed_first later.now.first) }
     {
         self.workloads += later.workloads;
         if self.first.is_none() {
@@ -50,7 +52,7 @@ impl KindTally {
 
 /// The first workload of a tally.
 fn first_of(kind: &KindTally) -> Option<First>
-    ensures { told_first result ≡ told_first kind.now.first }
+    ensures { listed_first result ≡ listed_first kind.now.first }
 {
     match &kind.first {
         None => None,

@@ -5,7 +5,7 @@ ghost use Rattle.workload_search.specs.Tries.{IsBatch, IsExtendable, ArePartsOf,
 
 use crate::batch::Batch;
 use crate::judge::Judge;
-use crate::trying::Trying;
+use crate::trials::Trials;
 use question_model::Places;
 use set_sweep::Watch;
 use std::alloc::{AllocError, Allocator};
@@ -15,10 +15,10 @@ use thread_jobs::{PartJob, do_parts};
 /// About how many parts of a level there are for each worker: enough that all are busy to the end.
 const PARTS: usize = 64;
 
-impl<J, A, W> Trying<'_, J, A, W>
+impl<J, A, W> Trials<'_, J, A, W>
 where
     J: Judge + Sync,
-    J::Begun: Send,
+    J::Prefix: Send,
     A: Allocator + Copy + Send + Sync,
     W: Watch + Sync,
 {
@@ -62,7 +62,7 @@ where
     {
         let parts = beginnings.len().div_ceil(size);
         let level = Level {
-            trying: self,
+            trials: self,
             beginnings,
             size,
         };
@@ -70,7 +70,7 @@ where
     }
 }
 
-impl<J: Judge, A: Allocator + Copy, W: Watch> Trying<'_, J, A, W> {
+impl<J: Judge, A: Allocator + Copy, W: Watch> Trials<'_, J, A, W> {
     /// What was found of all parts, joined in order.
     fn join_parts(
         &self,
@@ -98,7 +98,7 @@ impl<J: Judge, A: Allocator + Copy, W: Watch> Trying<'_, J, A, W> {
 /// The beginnings of a level, in parts of this number of them. The last part may have fewer.
 #[derive(Drop)]
 struct Level<'a, J: Judge, A: Allocator + Copy, W: Watch> {
-    trying: &'a Trying<'a, J, A, W>,
+    trials: &'a Trials<'a, J, A, W>,
     beginnings: &'a [Places],
     size: usize,
 }
@@ -112,15 +112,15 @@ impl<'a, J: Judge, A: Allocator + Copy, W: Watch> PartJob for Level<'a, J, A, W>
     ghost use Rattle.workload_search.specs.Tries.{IsBatch, IsExtendable, extensions, items_of};
 
     ghost may_do = { λ j n. (n * j.size < length j.beginnings.now)
-        × (length j.beginnings.now * j.trying.now.pool < 2 ^ 128)
-        × All (IsExtendable (J.search j.trying.now.judge.now) j.trying.now.pool) j.beginnings.now };
+        × (length j.beginnings.now * j.trials.now.pool < 2 ^ 128)
+        × All (IsExtendable (J.search j.trials.now.judge.now) j.trials.now.pool) j.beginnings.now };
 
-    ghost is_part = { λ j n part. IfOk part (IsBatch (J.search j.trying.now.judge.now) j.trying.now.keeps
-        (extensions j.trying.now.pool (map items_of (slice_chunk j.beginnings.now j.size n)))) };
+    ghost is_part = { λ j n part. IfOk part (IsBatch (J.search j.trials.now.judge.now) j.trials.now.keeps
+        (extensions j.trials.now.pool (map items_of (slice_chunk j.beginnings.now j.size n)))) };
 
     fn do_part(&self, at: usize) -> Result<Batch<A>, AllocError> {
         let rest = &self.beginnings[at * self.size..];
         let part = &rest[..self.size.min(rest.len())];
-        self.trying.try_beginnings(part)
+        self.trials.try_beginnings(part)
     }
 }

@@ -17,7 +17,7 @@ pub mod places;
 mod rules;
 mod searching;
 mod tally;
-mod trying;
+mod trials;
 
 pub use judge::Judge;
 pub use passing::{FoundWorkloads, search_passing};

@@ -1,14 +1,14 @@
 //! The search that keeps the workloads that do not fail.
 ghost use Rattle.std.specs.Prelude.{◌≡◌, ◌<◌, ◌≤◌, ◌^◌, length, map, IfOk};
-ghost use Rattle.question_model.specs.Found.{AreFound};
+ghost use Rattle.question_model.specs.SearchCounts.{AreSearchCounts};
 ghost use Rattle.workload_search.specs.Passing.{AreAllPassing};
 ghost use Rattle.workload_search.specs.Tries.{items_of};
 
 use crate::judge::Judge;
 use crate::searching::empty_beginning;
-use crate::tally::Tally;
-use crate::trying::Trying;
-use question_model::{Found, Places};
+use crate::tally::SearchTally;
+use crate::trials::Trials;
+use question_model::{Places, SearchCounts};
 use set_sweep::{Watch, Workers};
 use std::alloc::{AllocError, Allocator};
 use std::thread::Threads;
@@ -16,7 +16,7 @@ use std::thread::Threads;
 /// What a search finds, and its workloads that do not fail, in order.
 #[derive(Drop)]
 pub struct FoundWorkloads<A: Allocator> {
-    pub found: Found,
+    pub found: SearchCounts,
     pub passing: Vec<Places, A>,
 }
 
@@ -33,7 +33,7 @@ pub fn search_passing<J, R, A, W>(
 ) -> Result<FoundWorkloads<A>, AllocError>
 where
     J: Judge + Sync,
-    J::Begun: Send,
+    J::Prefix: Send,
     R: Threads + Sync,
     A: Allocator + Copy + Send + Sync,
     W: Watch + Sync,
@@ -41,22 +41,22 @@ where
     requires small { pool < 2 ^ 62 }
     requires most { most ≡ (J.search judge.now).most }
     requires range { (1 ≤ most) × (most ≤ 8) }
-    ensures found { IfOk result (λ searched. AreFound (J.search judge.now) searched.found) }
+    ensures found { IfOk result (λ searched. AreSearchCounts (J.search judge.now) searched.found) }
     ensures passing { IfOk result (λ searched.
         AreAllPassing (J.search judge.now) (map items_of searched.passing.items)) }
 {
-    let mut tally = Tally::new(workers.alloc)?;
+    let mut tally = SearchTally::new(workers.alloc)?;
     let mut passing = Vec::new(workers.alloc);
     let mut beginnings = empty_beginning(workers.alloc)?;
     for made in 0..most {
-        let trying = Trying {
+        let trials = Trials {
             judge,
             alloc: workers.alloc,
             watch: workers.watch,
             pool,
             keeps: true,
         };
-        let batch = trying.try_level(workers.rt, &beginnings, workers.number)?;
+        let batch = trials.try_level(workers.rt, &beginnings, workers.number)?;
         tally.join(&batch.tally);
         passing.append(&mut beginnings)?;
         beginnings = batch.passing;

@@ -1,13 +1,13 @@
 //! The search.
 ghost use Rattle.std.specs.Prelude.{◌≡◌, ◌<◌, ◌≤◌, ◌^◌, [], ◌∷◌, length, map, IfOk};
-ghost use Rattle.question_model.specs.Found.{AreFound};
+ghost use Rattle.question_model.specs.SearchCounts.{AreSearchCounts};
 ghost use Rattle.workload_search.specs.Tries.{items_of};
 
 use crate::batch::Batch;
 use crate::judge::Judge;
-use crate::tally::Tally;
-use crate::trying::Trying;
-use question_model::{Found, Places};
+use crate::tally::SearchTally;
+use crate::trials::Trials;
+use question_model::{Places, SearchCounts};
 use set_sweep::{Watch, Workers};
 use std::alloc::{AllocError, Allocator};
 use std::thread::Threads;
@@ -27,10 +27,10 @@ pub fn search<J, R, A, W>(
     judge: &J,
     pool: usize,
     most: usize,
-) -> Result<Found, AllocError>
+) -> Result<SearchCounts, AllocError>
 where
     J: Judge + Sync,
-    J::Begun: Send,
+    J::Prefix: Send,
     R: Threads + Sync,
     A: Allocator + Copy + Send + Sync,
     W: Watch + Sync,
@@ -38,19 +38,19 @@ where
     requires small { pool < 2 ^ 62 }
     requires most { most ≡ (J.search judge.now).most }
     requires range { (1 ≤ most) × (most ≤ 8) }
-    ensures { IfOk result (AreFound (J.search judge.now)) }
+    ensures { IfOk result (AreSearchCounts (J.search judge.now)) }
 {
-    let mut tally = Tally::new(workers.alloc)?;
+    let mut tally = SearchTally::new(workers.alloc)?;
     let mut beginnings = empty_beginning(workers.alloc)?;
     for made in 0..most {
-        let trying = Trying {
+        let trials = Trials {
             judge,
             alloc: workers.alloc,
             watch: workers.watch,
             pool,
             keeps: made + 1 < most,
         };
-        let batch = trying.try_level(workers.rt, &beginnings, workers.number)?;
+        let batch = trials.try_level(workers.rt, &beginnings, workers.number)?;
         tally.join(&batch.tally);
         beginnings = batch.passing;
     }

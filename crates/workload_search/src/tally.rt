@@ -10,19 +10,19 @@ use std::alloc::{AllocError, Allocator};
 /// How many sequences are workloads, how many fail, and how many are refused for each reason, in the order of their
 /// numbers; and what is counted of each kind of fault, in the order of their numbers.
 #[derive(Drop)]
-pub(crate) struct Tally<A: Allocator> {
+pub(crate) struct SearchTally<A: Allocator> {
     pub workloads: u128,
     pub failing: u128,
     pub refused: [u128; REFUSALS],
     pub kinds: Vec<KindTally, A>,
 }
 
-impl<A: Allocator> Tally<A> {
+impl<A: Allocator> SearchTally<A> {
     /// The tally of no sequence. It fails only when out of memory.
     pub(crate) fn new(alloc: A) -> Result<Self, AllocError>
         ensures { IfOk result (IsTally []) }
     {
-        Ok(Tally {
+        Ok(SearchTally {
             workloads: 0,
             failing: 0,
             refused: [0; REFUSALS],
@@ -48,7 +48,7 @@ impl<A: Allocator> Tally<A> {
     }
 
     /// Counts the sequences of a later tally.
-    pub(crate) fn join(&mut self, later: &Tally<A>)
+    pub(crate) fn join(&mut self, later: &SearchTally<A>)
         requires { HaveRoom self.old later.now }
         ensures { (tried others : List Tried) → IsTally tried self.old → IsTally others later.now
             → IsTally (tried ++ others) self.new }

@@ -4,7 +4,7 @@ ghost use Rattle.std.specs.Prelude.{◌≡◌, ◌++◌, [], map, string_bytes, 
 ghost use Rattle.patch_sets.specs.Closed.{IsClosed};
 ghost use Rattle.crash_model.specs.Patches.{deps_of};
 ghost use Rattle.question_model.specs.Decision.{json_decision};
-ghost use Rattle.question_model.specs.ToldDecided.{decided_json};
+ghost use Rattle.question_model.specs.ListedFault.{decided_json};
 ghost use Rattle.report_sections.specs.Bodies.{AreClosed};
 ghost use Rattle.report_sections.specs.Sections.{section_of, IsSection};
 ghost use Rattle.report_sections.specs.declared.section.Section.{Section};
@@ -122,7 +122,7 @@ fn write_fault<A: Allocator + Copy>(
     decided: DecidedFault,
 ) -> Result<(), AllocError>
     requires { IsClosed (deps_of maker.old.patches) decided.first }
-    ensures told { OnOk result ((section : Section A)
+    ensures listed { OnOk result ((section : Section A)
         × IsSection maker.old.detail maker.old.base maker.old.patches decided.first section
         × (string_bytes out.new ≡ string_bytes out.old ++ comma_before at
         ++ decided_json known.old (record { decided = decided; first = section_of section }))) }

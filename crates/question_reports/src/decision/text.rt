@@ -5,11 +5,11 @@ ghost use Rattle.patch_sets.specs.Closed.{IsClosed};
 ghost use Rattle.crash_model.specs.Disk.{Disk};
 ghost use Rattle.crash_model.specs.Patches.{deps_of};
 ghost use Rattle.question_model.specs.Decision.{text_decision};
-ghost use Rattle.question_model.specs.ToldDecided.{decided_text};
+ghost use Rattle.question_model.specs.ListedFault.{decided_text};
 ghost use Rattle.report_sections.specs.Bodies.{AreClosed};
 ghost use Rattle.report_sections.specs.Sections.{section_of, IsSection};
 ghost use Rattle.report_sections.specs.declared.section.Section.{Section};
-ghost use Rattle.report_json.specs.JsonReport.{told_promises};
+ghost use Rattle.report_json.specs.JsonReport.{listed_promises};
 ghost use Rattle.question_reports.specs.DecisionParts.{detail_by, CanReport, WritesDecision, WritesFaults, head_lines};
 
 use crate::decision::findings::Decision;
@@ -18,7 +18,7 @@ use disk_image::Demands;
 use question_model::DecidedFault;
 use report_sections::Section;
 use report_text::{write_explanation, write_ordering, write_promises};
-use section_lines::lines::{write_crash, write_told_shows};
+use section_lines::lines::{write_crash, write_if_shown};
 use section_maker::SectionMaker;
 use std::alloc::{AllocError, Allocator};
 use traced_patches::Traced;
@@ -60,7 +60,7 @@ pub fn write_head<A: Allocator + Copy>(
 ) -> Result<(), AllocError>
     ensures { OnOk result ((base : Disk) → string_bytes out.new
         ≡ string_bytes out.old ++ head_lines settings.now base traced.now
-        (told_promises settings.now demands.now) closed) }
+        (listed_promises settings.now demands.now) closed) }
 {
     write_ordering(out, settings)?;
     let patches = traced.graph().len();
@@ -117,7 +117,7 @@ fn write_fault<A: Allocator + Copy>(
     decided: DecidedFault,
 ) -> Result<(), AllocError>
     requires { IsClosed (deps_of maker.old.patches) decided.first }
-    ensures told { OnOk result ((section : Section A)
+    ensures listed { OnOk result ((section : Section A)
         × IsSection maker.old.detail maker.old.base maker.old.patches decided.first section
         × (string_bytes out.new ≡ string_bytes out.old
         ++ decided_text patches (record { decided = decided; first = section_of section }))) }
@@ -140,7 +140,7 @@ pub fn write_decided<A: Allocator + Copy>(
 {
     let fault = decided.fault;
     write!(out, "fault {fault}\n")?;
-    write_told_shows(out, section.shows_of(fault))?;
+    write_if_shown(out, section.shows_of(fault))?;
     write_crash(out, patches, section)?;
     Ok(())
 }

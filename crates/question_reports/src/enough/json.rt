@@ -5,8 +5,8 @@ ghost use Rattle.std.specs.Prelude.{string_bytes, IfOk, OnOk};
 ghost use Rattle.report_model.specs.WholeJson.{form_of};
 ghost use Rattle.question_model.specs.EnoughReport.{first_fault_json, group_json, json_enough};
 ghost use Rattle.question_reports.specs.Chosen.{choices_of, AreFewChoices};
-ghost use Rattle.question_reports.specs.EnoughFindings.{group_head, group_items, report_of, set_items, told_first};
-ghost use Rattle.question_reports.specs.EnoughFindings.{told_group};
+ghost use Rattle.question_reports.specs.EnoughFindings.{group_head, group_items, report_of, set_items, listed_first};
+ghost use Rattle.question_reports.specs.EnoughFindings.{listed_group};
 
 use crate::decision::push_decided;
 use crate::enough::choices::Choices;
@@ -93,7 +93,7 @@ fn write_first<A: Allocator, B: Allocator + Copy>(
     first: &Option<FirstFault<A>>,
 ) -> Result<(), AllocError>
     ensures text { OnOk result (string_bytes out.new
-        ≡ string_bytes out.old ++ first_fault_json known.old (option_map told_first first.now)) }
+        ≡ string_bytes out.old ++ first_fault_json known.old (option_map listed_first first.now)) }
     ensures known { known.new ≡ known.old }
 {
     if let Some(fault) = first {
@@ -130,7 +130,7 @@ fn write_group<A: Allocator, B: Allocator + Copy>(
 ) -> Result<(), AllocError>
     requires few { AreFewChoices choices }
     ensures text { OnOk result (string_bytes out.new
-        ≡ string_bytes out.old ++ group_json (choices_of choices.entry) known.old (told_group needed.now)) }
+        ≡ string_bytes out.old ++ group_json (choices_of choices.entry) known.old (listed_group needed.now)) }
     ensures known { known.new ≡ known.old }
 {
     let section = &needed.fault.section;
@@ -159,7 +159,8 @@ pub fn write_group_head<A: Allocator, B: Allocator + Copy>(
 ) -> Result<(), AllocError>
     requires few { AreFewChoices choices }
     ensures text { OnOk result (string_bytes out.new
-        ≡ string_bytes out.old ++ group_head known.old.numbers (choices_of choices.entry) group (told_first fault.now)) }
+        ≡ string_bytes out.old ++ group_head known.old.numbers (choices_of choices.entry) group
+        (listed_first fault.now)) }
     ensures known { known.new ≡ known.old }
 {
     known.push_fault_head(out, fault.decided.fault)?;

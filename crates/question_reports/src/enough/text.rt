@@ -3,10 +3,10 @@
 ghost use Rattle.std.specs.Prelude.{◌≡◌, ◌++◌, codes, decimal, flat_map, length, option_map, option_to_list};
 ghost use Rattle.std.specs.Prelude.{string_bytes, IfOk, OnOk};
 ghost use Rattle.report_model.specs.Report.{line};
-ghost use Rattle.question_model.specs.ToldDecided.{decided_text};
+ghost use Rattle.question_model.specs.ListedFault.{decided_text};
 ghost use Rattle.question_model.specs.EnoughReport.{group_text, text_enough};
 ghost use Rattle.question_reports.specs.Chosen.{choices_of, AreFewChoices};
-ghost use Rattle.question_reports.specs.EnoughFindings.{group_lines, report_of, told_first, told_group};
+ghost use Rattle.question_reports.specs.EnoughFindings.{group_lines, report_of, listed_first, listed_group};
 
 use crate::decision::{write_decided, write_head};
 use crate::enough::choices::Choices;
@@ -98,7 +98,7 @@ fn write_group<A: Allocator + Copy>(
 ) -> Result<(), AllocError>
     requires few { AreFewChoices choices }
     ensures { OnOk result (string_bytes out.new
-        ≡ string_bytes out.old ++ group_text (choices_of choices.entry) patches (told_group needed.now)) }
+        ≡ string_bytes out.old ++ group_text (choices_of choices.entry) patches (listed_group needed.now)) }
 {
     choices.write_line(out, "needs", needed.group)?;
     write_decided(out, patches, needed.fault.decided, &needed.fault.section)
@@ -111,7 +111,7 @@ fn write_first<A: Allocator + Copy>(
     first: &Option<FirstFault<A>>,
 ) -> Result<(), AllocError>
     ensures { OnOk result (string_bytes out.new ≡ string_bytes out.old
-        ++ flat_map (decided_text patches) (option_to_list (option_map told_first first.now))) }
+        ++ flat_map (decided_text patches) (option_to_list (option_map listed_first first.now))) }
 {
     if let Some(fault) = first {
         write_decided(out, patches, fault.decided, &fault.section)?;

@@ -2,7 +2,7 @@
 
 use crash_model::settings::Settings;
 use crash_model::steps::Step;
-use question_model::{Found, ShownKind};
+use question_model::{SearchCounts, ShownKind};
 use report_sections::Section;
 use std::alloc::Allocator;
 
@@ -22,6 +22,6 @@ pub struct SearchFindings<'found, A: Allocator> {
     pub settings: &'found Settings,
     pub most: usize,
     pub pool: &'found [Step],
-    pub found: &'found Found,
+    pub found: &'found SearchCounts,
     pub kinds: &'found [KindCrash<'found, A>],
 }

@@ -8,8 +8,8 @@ ghost use Rattle.question_model.specs.SearchReport.{first_counted, first_promise
 ghost use Rattle.question_model.specs.SearchReport.{refused_json, step_text};
 ghost use Rattle.question_model.specs.Workloads.{steps_at};
 ghost use Rattle.question_reports.specs.SearchFindings.{failing_keys, kind_head, kind_items, last_keys};
-ghost use Rattle.question_reports.specs.SearchFindings.{ordering_keys, told_kind};
-ghost use Rattle.question_reports.specs.SearchFindings.{told_kinds};
+ghost use Rattle.question_reports.specs.SearchFindings.{ordering_keys, listed_kind};
+ghost use Rattle.question_reports.specs.SearchFindings.{listed_kinds};
 
 use crate::search::acts::acts_at;
 use crate::search::findings::{KindCrash, SearchFindings};
@@ -17,7 +17,7 @@ use crash_model::separators::COMMA;
 use crash_model::settings::Settings;
 use crash_model::steps::{Act, Step};
 use json_values::{KnownTexts, push_all_shows, push_replay, push_set, write_comma};
-use question_model::{Found, RefusedCount};
+use question_model::{RefusedCount, SearchCounts};
 use report_json::{
     write_atomic_key, write_counted_numbers, write_disk_keys, write_module_key, write_rule_key,
     write_strict_key, write_whole_key,
@@ -35,7 +35,7 @@ pub fn search_json<A: Allocator + Copy>(
     findings: &SearchFindings<'_, A>,
 ) -> Result<String<A>, AllocError>
     ensures { IfOk result (λ text. string_bytes text ≡ json_search findings.now.settings.now findings.now.most
-        (length findings.now.pool.now) findings.now.found.now (told_kinds findings.now)) }
+        (length findings.now.pool.now) findings.now.found.now (listed_kinds findings.now)) }
 {
     let mut out = String::new(alloc);
     write_findings(&mut out, heap, findings)?;
@@ -50,7 +50,7 @@ fn write_findings<A: Allocator + Copy>(
 ) -> Result<(), AllocError>
     requires empty { string_bytes out.old ≡ [] }
     ensures { OnOk result (string_bytes out.new ≡ json_search findings.now.settings.now findings.now.most
-        (length findings.now.pool.now) findings.now.found.now (told_kinds findings.now)) }
+        (length findings.now.pool.now) findings.now.found.now (listed_kinds findings.now)) }
 {
     let (pool, failing) = (findings.pool.len(), findings.found.failing);
     out.push_str("{")?;
@@ -128,7 +128,7 @@ pub fn write_last_keys<B: Allocator>(
     settings: &Settings,
     most: usize,
     pool: usize,
-    found: &Found,
+    found: &SearchCounts,
 ) -> Result<(), AllocError>
     ensures { OnOk result (string_bytes out.new
         ≡ string_bytes out.old ++ last_keys settings.now most pool found.now) }
@@ -212,7 +212,7 @@ fn write_kind<A: Allocator + Copy>(
     crash: &KindCrash<'_, A>,
 ) -> Result<(), AllocError>
     ensures { OnOk result (string_bytes out.new
-        ≡ string_bytes out.old ++ kind_json numbers (told_kind pool.now crash.now)) }
+        ≡ string_bytes out.old ++ kind_json numbers (listed_kind pool.now crash.now)) }
 {
     let (section, workloads) = (&crash.section, crash.shown.workloads);
     let mut known = KnownTexts::new(heap, crash.patches, numbers)?;

@@ -2,7 +2,7 @@
 
 ghost use Rattle.std.specs.Prelude.{◌≡◌, length, string_bytes, IfOk};
 ghost use Rattle.question_model.specs.SearchReport.{search_bytes};
-ghost use Rattle.question_reports.specs.SearchFindings.{told_kinds};
+ghost use Rattle.question_reports.specs.SearchFindings.{listed_kinds};
 
 use crate::search::findings::SearchFindings;
 use crate::search::json::search_json;
@@ -19,7 +19,7 @@ pub fn search_report<A: Allocator + Copy>(
     findings: &SearchFindings<'_, A>,
 ) -> Result<String<A>, AllocError>
     ensures { IfOk result (λ text. string_bytes text ≡ search_bytes findings.now.settings.now findings.now.most
-        (length findings.now.pool.now) findings.now.found.now (told_kinds findings.now)) }
+        (length findings.now.pool.now) findings.now.found.now (listed_kinds findings.now)) }
 {
     if findings.settings.json {
         search_json(heap, alloc, findings)

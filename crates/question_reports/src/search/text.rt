@@ -6,13 +6,13 @@ ghost use Rattle.report_model.specs.Report.{line};
 ghost use Rattle.question_model.specs.SearchReport.{kind_text, refused_text, search_text as head_text, step_text};
 ghost use Rattle.question_model.specs.SearchReport.{text_search};
 ghost use Rattle.question_model.specs.Workloads.{steps_at};
-ghost use Rattle.question_reports.specs.SearchFindings.{kind_lines, told_kind, told_kinds};
+ghost use Rattle.question_reports.specs.SearchFindings.{kind_lines, listed_kind, listed_kinds};
 
 use crate::search::acts::acts_at;
 use crate::search::findings::{KindCrash, SearchFindings};
 use crash_model::settings::Settings;
 use crash_model::steps::{Act, Step};
-use question_model::{Found, RefusedCount};
+use question_model::{RefusedCount, SearchCounts};
 use report_text::write_ordering;
 use section_lines::lines::write_section;
 use std::alloc::{AllocError, Allocator};
@@ -27,7 +27,7 @@ pub fn search_text<A: Allocator + Copy>(
     findings: &SearchFindings<'_, A>,
 ) -> Result<String<A>, AllocError>
     ensures { IfOk result (λ text. string_bytes text ≡ text_search findings.now.settings.now findings.now.most
-        (length findings.now.pool.now) findings.now.found.now (told_kinds findings.now)) }
+        (length findings.now.pool.now) findings.now.found.now (listed_kinds findings.now)) }
 {
     let mut out = String::new(alloc);
     let pool = findings.pool.len();
@@ -52,7 +52,7 @@ pub fn write_head<A: Allocator>(
     settings: &Settings,
     most: usize,
     pool: usize,
-    found: &Found,
+    found: &SearchCounts,
 ) -> Result<(), AllocError>
     ensures { OnOk result (string_bytes out.new
         ≡ string_bytes out.old ++ head_text settings.now most pool found.now) }
@@ -111,7 +111,7 @@ fn write_kind<A: Allocator + Copy>(
     pool: &[Step],
     crash: &KindCrash<'_, A>,
 ) -> Result<(), AllocError>
-    ensures { OnOk result (string_bytes out.new ≡ string_bytes out.old ++ kind_text (told_kind pool.now crash.now)) }
+    ensures { OnOk result (string_bytes out.new ≡ string_bytes out.old ++ kind_text (listed_kind pool.now crash.now)) }
 {
     let (number, name) = (crash.shown.kind.number(), crash.shown.kind.name());
     let workloads = crash.shown.workloads;

@@ -3,7 +3,7 @@
 use crate::enough::FirstFault;
 use crash_model::settings::Settings;
 use crash_model::steps::Step;
-use question_model::{Found, Places};
+use question_model::{Places, SearchCounts};
 use std::alloc::Allocator;
 
 /// A group of rules of which one is needed, the first workload that fails without it, how many patches that has, and
@@ -24,7 +24,7 @@ pub struct SearchRulesFindings<'found, A: Allocator> {
     pub settings: &'found Settings,
     pub most: usize,
     pub pool: &'found [Step],
-    pub found: &'found Found,
+    pub found: &'found SearchCounts,
     pub enough: &'found [u128],
     pub needs: &'found [NeededWorkload<A>],
 }

@@ -3,7 +3,7 @@
 ghost use Rattle.std.specs.Prelude.{◌≡◌, ◌++◌, [], length, string_bytes, IfOk, OnOk};
 ghost use Rattle.report_model.specs.ScriptGraph.{ordering_rules};
 ghost use Rattle.question_model.specs.SearchRulesReport.{json_search_rules, need_json};
-ghost use Rattle.question_reports.specs.SearchRulesFindings.{need_items, told_need, told_needs};
+ghost use Rattle.question_reports.specs.SearchRulesFindings.{need_items, listed_need, listed_needs};
 
 use crate::enough::choices::Choices;
 use crate::enough::json::{write_group_head, write_sets};
@@ -26,7 +26,7 @@ pub fn search_rules_json<A: Allocator + Copy>(
     findings: &SearchRulesFindings<'_, A>,
 ) -> Result<String<A>, AllocError>
     ensures { IfOk result (λ text. string_bytes text ≡ json_search_rules findings.now.settings.now findings.now.most
-        (length findings.now.pool.now) findings.now.found.now findings.now.enough.now (told_needs findings.now)) }
+        (length findings.now.pool.now) findings.now.found.now findings.now.enough.now (listed_needs findings.now)) }
 {
     let ordering = findings.settings.ordering();
     let mut out = String::new(alloc);
@@ -44,7 +44,7 @@ fn write_findings<A: Allocator + Copy>(
     requires empty { string_bytes out.old ≡ [] }
     requires ordering { ordering.now.rules.items ≡ ordering_rules findings.now.settings.now }
     ensures { OnOk result (string_bytes out.new ≡ json_search_rules findings.now.settings.now findings.now.most
-        (length findings.now.pool.now) findings.now.found.now findings.now.enough.now (told_needs findings.now)) }
+        (length findings.now.pool.now) findings.now.found.now findings.now.enough.now (listed_needs findings.now)) }
 {
     let (pool, failing) = (findings.pool.len(), findings.found.failing);
     out.push_str("{")?;
@@ -92,7 +92,7 @@ fn write_need<A: Allocator + Copy>(
     needed: &NeededWorkload<A>,
 ) -> Result<(), AllocError>
     ensures { OnOk result (string_bytes out.new
-        ≡ string_bytes out.old ++ need_json numbers ordering.now.rules.items (told_need pool.now needed.now)) }
+        ≡ string_bytes out.old ++ need_json numbers ordering.now.rules.items (listed_need pool.now needed.now)) }
 {
     let section = &needed.fault.section;
     let mut known = KnownTexts::new(heap, needed.patches, numbers)?;

@@ -2,7 +2,7 @@
 
 ghost use Rattle.std.specs.Prelude.{◌≡◌, length, string_bytes, IfOk};
 ghost use Rattle.question_model.specs.SearchRulesReport.{search_rules_bytes};
-ghost use Rattle.question_reports.specs.SearchRulesFindings.{told_needs};
+ghost use Rattle.question_reports.specs.SearchRulesFindings.{listed_needs};
 
 use crate::search_rules::findings::SearchRulesFindings;
 use crate::search_rules::json::search_rules_json;
@@ -19,7 +19,7 @@ pub fn search_rules_report<A: Allocator + Copy>(
     findings: &SearchRulesFindings<'_, A>,
 ) -> Result<String<A>, AllocError>
     ensures { IfOk result (λ text. string_bytes text ≡ search_rules_bytes findings.now.settings.now findings.now.most
-        (length findings.now.pool.now) findings.now.found.now findings.now.enough.now (told_needs findings.now)) }
+        (length findings.now.pool.now) findings.now.found.now findings.now.enough.now (listed_needs findings.now)) }
 {
     if findings.settings.json {
         search_rules_json(heap, alloc, findings)

@@ -2,7 +2,7 @@
 
 ghost use Rattle.std.specs.Prelude.{◌≡◌, ◌++◌, length, string_bytes, IfOk, OnOk};
 ghost use Rattle.question_model.specs.SearchRulesReport.{need_text, text_search_rules};
-ghost use Rattle.question_reports.specs.SearchRulesFindings.{need_lines, told_need, told_needs};
+ghost use Rattle.question_reports.specs.SearchRulesFindings.{need_lines, listed_need, listed_needs};
 
 use crate::decision::write_decided;
 use crate::enough::choices::Choices;
@@ -23,7 +23,7 @@ pub fn search_rules_text<A: Allocator + Copy>(
     findings: &SearchRulesFindings<'_, A>,
 ) -> Result<String<A>, AllocError>
     ensures { IfOk result (λ text. string_bytes text ≡ text_search_rules findings.now.settings.now findings.now.most
-        (length findings.now.pool.now) findings.now.found.now findings.now.enough.now (told_needs findings.now)) }
+        (length findings.now.pool.now) findings.now.found.now findings.now.enough.now (listed_needs findings.now)) }
 {
     let ordering = findings.settings.ordering();
     let pool = findings.pool.len();
@@ -65,7 +65,7 @@ fn write_need<A: Allocator + Copy>(
     needed: &NeededWorkload<A>,
 ) -> Result<(), AllocError>
     ensures { OnOk result (string_bytes out.new
-        ≡ string_bytes out.old ++ need_text ordering.now.rules.items (told_need pool.now needed.now)) }
+        ≡ string_bytes out.old ++ need_text ordering.now.rules.items (listed_need pool.now needed.now)) }
 {
     Choices::Rules(ordering).write_line(out, "needs", needed.group)?;
     write_steps(out, pool, needed.places.as_slice())?;

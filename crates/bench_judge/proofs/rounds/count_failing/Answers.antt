@@ -12,17 +12,17 @@ loop-set-preserved c =
     let i = c.loop-set.set-index in
     let inside : i < length sets = omega (arith, c.loop-set-test.true) in
     let more = counted_more good sets i c.loop-set.failing inside c.loop-set.invariant.2 in
-    let told = c.in_ok-judge.ensures.good in
+    let judged = c.in_ok-judge.ensures.good in
     elim c.if-not-branch.branch [
       | then-not-branch w ↦
           let ill : good (get_or sets i 0) → ⊥ = λ well. let no : false ≡ true = sym w.if-not-branch.true
-          ∙ told.1 well in cc in (
+          ∙ judged.1 well in cc in (
             c.in_ok-judge.ensures.own,
             omega (arith, w.failing-is, c.loop-set.invariant.1),
             subst (IsCountOfOthers good (take (i + 1) sets)) (sym w.failing-is) (more.1 ill),
           )
       | else-not-branch w ↦
-          let well : good (get_or sets i 0) = told.0 w.if-not-branch.false in (
+          let well : good (get_or sets i 0) = judged.0 w.if-not-branch.false in (
             c.in_ok-judge.ensures.own,
             omega (arith, w.failing-is, c.loop-set.invariant.1),
             subst (IsCountOfOthers good (take (i + 1) sets)) (sym w.failing-is) (more.0 well),

@@ -33,10 +33,10 @@ returns-clause-reported g c = λ last is.
     c.in_ok-faults.ensures in
     let counted = subst (λ ps. CountsClosed ps c.closed_number.result) c.graph-2.ensures c.closed_number.ensures in
     let firsts = subst (λ fs. AreSections (detail_of settings script.demands) script.base.now script.traced.patches
-    (map (λ f. f.first) fs) (map (λ d. d.first) written.told)) c.deref-2.ensures.value written.firsts in
+    (map (λ f. f.first) fs) (map (λ d. d.first) written.listed)) c.deref-2.ensures.value written.firsts in
     let many : c.len.result ≡ length faults = search rules in
     subst (λ n. IsDecision settings script.demands script.base.now last script.traced.patches text n) (sym many)
-    (is_decision settings script.demands script.base.now script.traced last c.closed_number.result faults written.told
+    (is_decision settings script.demands script.base.now script.traced last c.closed_number.result faults written.listed
     text
     is counted decided (written.of_faults ∙ c.deref-2.ensures.value) firsts written.whole)
 

@@ -9,10 +9,10 @@ use Rattle.crash_model.specs.Patches.{CountsClosed, deps_of}
 use Rattle.crash_model.specs.Checker.{IsFailingUnder}
 use Rattle.crash_model.specs.declared.rules.Rule.{Rule}
 use Rattle.question_model.specs.Enough.{AreEnough, rules_but}
-use Rattle.question_model.specs.EnoughReport.{IsToldAny, enough_bytes, rule_choices}
+use Rattle.question_model.specs.EnoughReport.{IsListedIfAny, enough_bytes, rule_choices}
 use Rattle.enough_deciding.specs.Rules.{IsTracingOf, tracing_of}
 use Rattle.enough_deciding.proofs.Tracings.{one_tracing}
-use Rattle.question_reports.specs.EnoughFindings.{told_first, told_group}
+use Rattle.question_reports.specs.EnoughFindings.{listed_first, listed_group}
 use Rattle.question_reports.specs.declared.enough.findings.NeededGroup.{NeededGroup}
 use Rattle.report_sections.specs.Bodies.{explanation_by}
 use Rattle.first_crashes.proofs.Without.{none_spared}
@@ -44,9 +44,9 @@ returns-clause-reported g c = λ last is.
     let needs = c.in_ok-needs.ensures in
     let counted = subst (λ ps. CountsClosed ps c.closed_number.result) c.graph-2.ensures c.closed_number.ensures in
     let earlier = subst (λ ps. AreEarlier (deps_of ps)) (sym c.graph.ensures) is.graph.earlier in
-    let any = subst (λ ps. IsToldAny (detail_of settings script.demands) script.base.now ps
-    (option_map told_first first))
-    c.graph.ensures (c.in_ok-first.ensures.told earlier) in
+    let any = subst (λ ps. IsListedIfAny (detail_of settings script.demands) script.base.now ps
+    (option_map listed_first first))
+    c.graph.ensures (c.in_ok-first.ensures.listed earlier) in
     let form : List Rule → List ℕ → List (NeededGroup g.row.A.Denot) → List ℕ = λ rules enough groups.
     enough_bytes (rule_choices rules) settings (record {
       patches = length t.patches;
@@ -54,15 +54,15 @@ returns-clause-reported g c = λ last is.
       explanation = when settings.explain (explanation_by script.base.now t);
       promises = if settings.explain then script.demands.promises else None;
       enough = enough;
-      needs = map told_group groups;
-      first = option_map told_first first;
+      needs = map listed_group groups;
+      first = option_map listed_first first;
     }) in
     let enough : List ℕ = c.deref-2.result.now in
     let groups : List (NeededGroup g.row.A.Denot) = c.deref-3.result.now in
     is_enough_report settings script.demands script.base.now t last c.closed_number.result
     c.in_ok-found.found.enough.items c.in_ok-found.found.needed.items c.in_ok-needs.needs.items first
     (string_bytes c.in_ok-enough_report.field-0) _ is counted (found.enough last of_trace) (found.needed last of_trace)
-    (needs.groups ∙ c.deref.ensures.value) (needs.told last of_trace) any
+    (needs.groups ∙ c.deref.ensures.value) (needs.listed last of_trace) any
     (c.from.ensures ∙ (ap from_bool c.is_some.ensures ∙ number_of first))
     (c.in_ok-enough_report.ensures ∙ (ap (λ (rules : List Rule). form rules enough groups)
     c.ordering-ordering.ensures.rules ∙ ap₂ (form (ordering_rules settings)) c.deref-2.ensures.value c.deref-3.ensures.value))

@@ -9,11 +9,11 @@ use Rattle.crash_model.specs.Patches.{CountsClosed, deps_of}
 use Rattle.crash_model.specs.Checker.{IsFailingUnder}
 use Rattle.crash_model.specs.Waiting.{Wait}
 use Rattle.question_model.specs.EnoughLines.{all_waits, AreEnoughLines}
-use Rattle.question_model.specs.EnoughReport.{IsToldAny, enough_bytes}
+use Rattle.question_model.specs.EnoughReport.{IsListedIfAny, enough_bytes}
 use Rattle.question_model.specs.LinesReport.{line_choices}
 use Rattle.question_model.specs.declared.question.TheConstants.{MAX_SYNCS}
 use Rattle.enough_deciding.specs.Lines.{HasWaits, waits_of}
-use Rattle.question_reports.specs.EnoughFindings.{told_first, told_group}
+use Rattle.question_reports.specs.EnoughFindings.{listed_first, listed_group}
 use Rattle.question_reports.specs.declared.enough.findings.NeededGroup.{NeededGroup}
 use Rattle.report_sections.specs.Bodies.{explanation_by}
 use Rattle.crash_text.proofs.LineReports.{is_lines_report, none_spared, same_length}
@@ -54,9 +54,9 @@ returns-clause-reported g c = λ last is.
     let needs = c.in_ok-needs.ensures in
     let counted = subst (λ ps. CountsClosed ps c.closed_number.result) c.graph-2.ensures c.closed_number.ensures in
     let earlier = subst (λ ps. AreEarlier (deps_of ps)) (sym c.graph.ensures) is.graph.earlier in
-    let any = subst (λ ps. IsToldAny (detail_of settings script.demands) script.base.now ps
-    (option_map told_first first))
-    c.graph.ensures (c.in_ok-first.ensures.told earlier) in
+    let any = subst (λ ps. IsListedIfAny (detail_of settings script.demands) script.base.now ps
+    (option_map listed_first first))
+    c.graph.ensures (c.in_ok-first.ensures.listed earlier) in
     let form : List Wait → List ℕ → List (NeededGroup g.row.A.Denot) → List ℕ = λ waits enough groups.
     enough_bytes (line_choices waits) settings (record {
       patches = length t.patches;
@@ -64,15 +64,15 @@ returns-clause-reported g c = λ last is.
       explanation = when settings.explain (explanation_by script.base.now t);
       promises = if settings.explain then script.demands.promises else None;
       enough = enough;
-      needs = map told_group groups;
-      first = option_map told_first first;
+      needs = map listed_group groups;
+      first = option_map listed_first first;
     }) in
     let enough : List ℕ = c.deref-2.result.now in
     let groups : List (NeededGroup g.row.A.Denot) = c.deref-3.result.now in
     is_lines_report settings script.demands script.base.now t last c.closed_number.result
     c.in_ok-found.found.enough.items c.in_ok-found.found.needed.items c.in_ok-needs.needs.items first
     (string_bytes c.in_ok-enough_report.field-0) _ is c.requires.few counted (found.enough last of_trace)
-    (found.needed last of_trace) (needs.groups ∙ c.deref.ensures.value) (needs.told last of_trace) any
+    (found.needed last of_trace) (needs.groups ∙ c.deref.ensures.value) (needs.listed last of_trace) any
     (c.from.ensures ∙ (ap from_bool c.is_some.ensures ∙ number_of first))
     (c.in_ok-enough_report.ensures ∙ (ap (λ (waits : List Wait). form waits enough groups) c.waits.ensures
     ∙ ap₂ (form t.waits) c.deref-2.ensures.value c.deref-3.ensures.value))

@@ -31,7 +31,7 @@ returns g c = λ sets all.
     (IsClosed (deps_of patches)) o) c.in-Some.is c.requires.first in
     let is : IsSection (detail_of f.settings.now f.demands.now) f.base.now changed set section =
     subst (λ (m : Reported). IsSection m.detail m.base m.patches set section) c.in_ok-maker.ensures
-    c.in_ok-section.ensures.told in
+    c.in_ok-section.ensures.listed in
     some_new (detail_of f.settings.now f.demands.now) f.base.now patches changed sets set section c.requires.earlier
     first all is
 

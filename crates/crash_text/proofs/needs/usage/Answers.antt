@@ -4,7 +4,7 @@ use Rattle.report_model.specs.Answer.{detail_of}
 use Rattle.crash_model.specs.RuleUse.{pairs_of}
 use Rattle.crash_model.specs.Trace.{Emitted}
 use Rattle.crash_model.specs.Tracing.{Tracing, trace_start}
-use Rattle.report_sections.specs.ToldRules.{usage_of}
+use Rattle.report_sections.specs.ListedRules.{usage_of}
 use Rattle.crash_text.proofs.Needing.{usage_of_pairs}
 use Rattle.crash_text.proofs.needs.usage.Goals as goal
 

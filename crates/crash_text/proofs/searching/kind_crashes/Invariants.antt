@@ -1,11 +1,12 @@
 use Rattle.std.proofs.Common.{◌≡◌, All, map, take}
 use Rattle.pool_judging.specs.Judging.{search_by}
-use Rattle.question_model.specs.SearchReport.{IsToldKind}
-use Rattle.question_reports.specs.SearchFindings.{told_kind}
+use Rattle.question_model.specs.SearchReport.{IsListedKind}
+use Rattle.question_reports.specs.SearchFindings.{listed_kind}
 use Rattle.crash_text.proofs.searching.kind_crashes.Given as goal
 
 abbrev pub invariant-loop-shown : goal.invariant-loop-shown
 invariant-loop-shown g l = record {
   shown : map (λ crash. crash.shown.now) l.crashes.items ≡ take l.shown-index l.kinds;
-  told : All (λ crash. IsToldKind (search_by l.judge) l.explain (told_kind l.judge.pool.now crash)) l.crashes.items;
+  listed : All (λ crash. IsListedKind (search_by l.judge) l.explain (listed_kind l.judge.pool.now crash))
+      l.crashes.items;
 }

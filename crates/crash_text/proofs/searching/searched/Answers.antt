@@ -2,9 +2,9 @@ use Rattle.std.proofs.Common.{rules, List, ap, length, subst, sym, ◌∙◌}
 use Rattle.std.specs.Prelude.{All}
 use Rattle.crash_model.specs.Disk.{IsDisk}
 use Rattle.crash_model.specs.declared.steps.Step.{Step}
-use Rattle.question_model.specs.Found.{AreFound}
+use Rattle.question_model.specs.SearchCounts.{AreSearchCounts}
 use Rattle.question_model.specs.Lengths.{operations_of}
-use Rattle.question_model.specs.SearchReport.{IsToldKind, search_bytes}
+use Rattle.question_model.specs.SearchReport.{IsListedKind, search_bytes}
 use Rattle.question_model.specs.Workloads.{Search}
 use Rattle.pool_judging.specs.Pools.{IsKeep, IsPlace}
 use Rattle.pool_judging.proofs.Pools.{all_keeps, all_places}
@@ -38,7 +38,7 @@ returns-clause-full g c = λ full none.
     let disk : IsDisk pool.base.now = search rules in
     none_reported settings (operations_of pool.longest) pool.base.now pool.steps.now found c.in_ok-outcome.outcome.number full
     none disk c.requires.sound.0 c.requires.sound.1 c.requires.acts
-    (subst (λ (s : Search). AreFound s found) same c.in_ok-found.ensures) c.in_ok-outcome.ensures.number
+    (subst (λ (s : Search). AreSearchCounts s found) same c.in_ok-found.ensures) c.in_ok-outcome.ensures.number
 
 pub returns-clause-reported : goal.returns-clause-reported
 returns-clause-reported g c =
@@ -56,12 +56,13 @@ returns-clause-reported g c =
       steps.all,
       record {
         found = found;
-        exactly = subst (λ (s : Search). AreFound s found) same c.in_ok-found.ensures;
-        told = report.told;
+        exactly = subst (λ (s : Search). AreSearchCounts s found) same c.in_ok-found.ensures;
+        listed = report.listed;
         kinds = report.kinds;
-        each = subst (λ (s : Search). All (IsToldKind s settings.explain) report.told) same report.each;
+        each = subst (λ (s : Search). All (IsListedKind s settings.explain) report.listed) same report.each;
         whole = report.whole
-            ∙ ap (λ (ps : List Step). search_bytes settings (operations_of pool.longest) (length ps) found report.told)
+            ∙ ap (λ (ps : List Step). search_bytes settings (operations_of pool.longest)
+            (length ps) found report.listed)
             places;
         number_of = c.in_ok-outcome.ensures.number;
       },

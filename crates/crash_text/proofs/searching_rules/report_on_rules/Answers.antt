@@ -4,11 +4,11 @@ use Rattle.patch_sets.specs.Sets.{AreAllInOrder}
 use Rattle.question_model.specs.EnoughFor.{IsNeededInSearch}
 use Rattle.question_model.specs.Lengths.{operations_of}
 use Rattle.question_model.specs.SearchRulesReport.{search_rules_bytes}
-use Rattle.question_reports.specs.SearchRulesFindings.{told_need}
+use Rattle.question_reports.specs.SearchRulesFindings.{listed_need}
 use Rattle.question_reports.specs.declared.search_rules.findings.NeededWorkload.{NeededWorkload}
 use Rattle.pool_judging.specs.Judging.{search_by}
 use Rattle.crash_text.proofs.PoolReports.{number_of_failing}
-use Rattle.crash_text.proofs.RuleReports.{each_listed, told_groups}
+use Rattle.crash_text.proofs.RuleReports.{each_listed, listed_groups}
 use Rattle.crash_text.proofs.searching_rules.report_on_rules.Goals as goal
 
 pub needed_workloads-requires-clause-needed : goal.needed_workloads-requires-clause-needed
@@ -23,16 +23,17 @@ returns-clause-report g c =
     let judge = c.args.judge.now in
     let pool = judge.pool.now in
     let needs = c.in_ok-needs.needs.items in
-    let form : ℕ → List ℕ → List (NeededWorkload g.row.A.Denot) → List ℕ = λ longest enough told.
-    search_rules_bytes settings longest (length pool) c.args.searched.now.found enough (map (told_need pool) told) in
+    let form : ℕ → List ℕ → List (NeededWorkload g.row.A.Denot) → List ℕ = λ longest enough listed.
+    search_rules_bytes settings longest (length pool) c.args.searched.now.found enough
+    (map (listed_need pool) listed) in
     record {
       enough = c.in_ok-sets.sets.enough.items;
       minimal = c.in_ok-sets.ensures.enough;
-      needs = map (told_need pool) needs;
+      needs = map (listed_need pool) needs;
       needed = subst (AreAllInOrder (IsNeededInSearch (search_by judge)))
-          (sym (told_groups pool needs ∙ (c.in_ok-needs.ensures.groups ∙ c.deref.ensures.value)))
+          (sym (listed_groups pool needs ∙ (c.in_ok-needs.ensures.groups ∙ c.deref.ensures.value)))
           c.in_ok-sets.ensures.needed;
-      told = c.in_ok-needs.ensures.told;
+      listed = c.in_ok-needs.ensures.listed;
       whole = c.in_ok-search_rules_report.ensures
           ∙ (ap (λ (n : ℕ). form n c.deref-2.result.now c.deref-3.result.now) c.operations.ensures.same
           ∙ ap₂ (form (operations_of judge.longest)) c.deref-2.ensures.value c.deref-3.ensures.value);

@@ -4,9 +4,9 @@ use Rattle.patch_sets.specs.Sets.{AreAllInOrder}
 use Rattle.crash_model.specs.Disk.{IsDisk}
 use Rattle.crash_model.specs.declared.steps.Step.{Step}
 use Rattle.question_model.specs.EnoughFor.{IsMinimalInSearch, IsNeededInSearch}
-use Rattle.question_model.specs.Found.{AreFound}
+use Rattle.question_model.specs.SearchCounts.{AreSearchCounts}
 use Rattle.question_model.specs.Lengths.{operations_of}
-use Rattle.question_model.specs.SearchRulesReport.{IsToldNeed, search_rules_bytes}
+use Rattle.question_model.specs.SearchRulesReport.{IsListedNeed, search_rules_bytes}
 use Rattle.question_model.specs.Workloads.{Search}
 use Rattle.pool_judging.specs.Pools.{IsKeep, IsPlace}
 use Rattle.pool_judging.proofs.Pools.{all_keeps, all_places}
@@ -40,7 +40,7 @@ returns-clause-full g c = λ full none.
     let disk : IsDisk pool.base.now = search rules in
     none_reported settings (operations_of pool.longest) pool.base.now pool.steps.now found c.in_ok-outcome.outcome.number full
     none disk c.requires.sound.0 c.requires.sound.1 c.requires.acts
-    (subst (λ (s : Search). AreFound s found) same c.in_ok-searched.ensures.found) c.in_ok-outcome.ensures.number
+    (subst (λ (s : Search). AreSearchCounts s found) same c.in_ok-searched.ensures.found) c.in_ok-outcome.ensures.number
 
 pub returns-clause-reported : goal.returns-clause-reported
 returns-clause-reported g c =
@@ -58,13 +58,13 @@ returns-clause-reported g c =
       steps.all,
       record {
         found = found;
-        exactly = subst (λ (s : Search). AreFound s found) same c.in_ok-searched.ensures.found;
+        exactly = subst (λ (s : Search). AreSearchCounts s found) same c.in_ok-searched.ensures.found;
         enough = report.enough;
         minimal = subst (λ (s : Search). AreAllInOrder (IsMinimalInSearch s) report.enough) same report.minimal;
         needs = report.needs;
         needed = subst (λ (s : Search). AreAllInOrder (IsNeededInSearch s) (map (λ t. t.group) report.needs)) same
             report.needed;
-        told = subst (λ (s : Search). All (IsToldNeed s settings.explain) report.needs) same report.told;
+        listed = subst (λ (s : Search). All (IsListedNeed s settings.explain) report.needs) same report.listed;
         whole = report.whole ∙ ap (λ (ps : List Step).
             search_rules_bytes settings longest (length ps) found report.enough report.needs) places;
         number_of = c.in_ok-outcome.ensures.number;

@@ -10,7 +10,7 @@ pub returns-then-is_over-clause-too_many : goal.returns-then-is_over-clause-too_
 returns-then-is_over-clause-too_many g c = λ _.
     let same = c.finished-is_finished.ensures.no c.if-is_finished.false in
     let over : c.finished-is_finished.new.seat.over ≡ 1 = ap (λ (seat : Known). seat.over) same
-    ∙ c.requires.left.0.1 c.if-is_over.true in
+    ∙ c.requires.output.0.1 c.if-is_over.true in
     rw (c.requires.board.0, c.requires.board.1, c.requires.board.2) at c.close-contents.ensures.over over
 
 pub returns-then-is_finished-clause-each_once : goal.returns-then-is_finished-clause-each_once
@@ -18,10 +18,10 @@ returns-then-is_finished-clause-each_once g c =
     let same = c.finished-is_finished.ensures.yes c.if-is_finished.true in
     let seat = c.finished-is_finished.new.seat in
     let whole : IsWhole seat.share = subst IsWhole (sym (ap (λ (s : Known). s.share) same)) c.requires.whole in
-    let counted : Counts c.args.left.expanded (claims_made seat) =
-    subst (Counts c.args.left.expanded) (sym (ap claims_made same)) c.requires.left.1 in
-    total_is c.args.left.expanded _ c.collect-found.result
-    (made_each _ _ c.args.board.places c.args.left.expanded seat c.close-contents.result
+    let counted : Counts c.args.output.expanded (claims_made seat) =
+    subst (Counts c.args.output.expanded) (sym (ap claims_made same)) c.requires.output.1 in
+    total_is c.args.output.expanded _ c.collect-found.result
+    (made_each _ _ c.args.board.places c.args.output.expanded seat c.close-contents.result
     c.close-contents.ensures.entries (rw c.requires.board.1 c.requires.small)
     (c.close-contents.ensures.accounts whole) counted (ap (λ (s : Known). s.finished) same))
     c.collect-found.ensures.total
@@ -31,9 +31,9 @@ returns-then-is_finished-clause-at_most_once g c =
     let same = c.finished-is_finished.ensures.yes c.if-is_finished.true in
     let seat = c.finished-is_finished.new.seat in
     let whole : IsWhole seat.share = subst IsWhole (sym (ap (λ (s : Known). s.share) same)) c.requires.whole in
-    let counted : Counts c.args.left.expanded (claims_made seat) =
-    subst (Counts c.args.left.expanded) (sym (ap claims_made same)) c.requires.left.1 in
-    rw (← c.requires.board.2) (made_few _ _ c.args.board.places c.args.left.expanded seat
+    let counted : Counts c.args.output.expanded (claims_made seat) =
+    subst (Counts c.args.output.expanded) (sym (ap claims_made same)) c.requires.output.1 in
+    rw (← c.requires.board.2) (made_few _ _ c.args.board.places c.args.output.expanded seat
     c.close-contents.result c.close-contents.ensures.entries (rw c.requires.board.1 c.requires.small)
     (c.close-contents.ensures.accounts whole) counted)
 
@@ -42,9 +42,9 @@ returns-then-is_over-clause-at_most_once g c =
     let same = c.finished-is_finished.ensures.no c.if-is_finished.false in
     let seat = c.finished-is_finished.new.seat in
     let whole : IsWhole seat.share = subst IsWhole (sym (ap (λ (s : Known). s.share) same)) c.requires.whole in
-    let counted : Counts c.args.left.expanded (claims_made seat) =
-    subst (Counts c.args.left.expanded) (sym (ap claims_made same)) c.requires.left.1 in
-    rw (← c.requires.board.2) (made_few _ _ c.args.board.places c.args.left.expanded seat
+    let counted : Counts c.args.output.expanded (claims_made seat) =
+    subst (Counts c.args.output.expanded) (sym (ap claims_made same)) c.requires.output.1 in
+    rw (← c.requires.board.2) (made_few _ _ c.args.board.places c.args.output.expanded seat
     c.close-contents.result c.close-contents.ensures.entries (rw c.requires.board.1 c.requires.small)
     (c.close-contents.ensures.accounts whole) counted)
 
@@ -53,8 +53,8 @@ returns-clause-at_most_once g c =
     let same = c.finished-is_finished.ensures.no c.if-is_finished.false in
     let seat = c.finished-is_finished.new.seat in
     let whole : IsWhole seat.share = subst IsWhole (sym (ap (λ (s : Known). s.share) same)) c.requires.whole in
-    let counted : Counts c.args.left.expanded (claims_made seat) =
-    subst (Counts c.args.left.expanded) (sym (ap claims_made same)) c.requires.left.1 in
-    rw (← c.requires.board.2) (made_few _ _ c.args.board.places c.args.left.expanded seat
+    let counted : Counts c.args.output.expanded (claims_made seat) =
+    subst (Counts c.args.output.expanded) (sym (ap claims_made same)) c.requires.output.1 in
+    rw (← c.requires.board.2) (made_few _ _ c.args.board.places c.args.output.expanded seat
     c.close-contents.result c.close-contents.ensures.entries (rw c.requires.board.1 c.requires.small)
     (c.close-contents.ensures.accounts whole) counted)

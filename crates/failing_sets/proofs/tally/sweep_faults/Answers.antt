@@ -17,7 +17,7 @@ returns-clause-failing g c =
     ) in
     failing_sets c.args.visitor.now.base c.args.visitor.now.patches all.sets
     (subst (λ (ds : List ℕ). IsAscendingListOf (IsClosed ds) all.sets) c.requires.deps all.closed)
-    c.args.visitor.now.demands c.in_ok-swept.swept.tally.failing c.in_ok-swept.swept.tally.summary short all.told
+    c.args.visitor.now.demands c.in_ok-swept.swept.tally.failing c.in_ok-swept.swept.tally.summary short all.tallied
 
 pub returns-clause-rows : goal.returns-clause-rows
 returns-clause-rows g c =
@@ -30,7 +30,7 @@ returns-clause-rows g c =
     ) in
     swept_rows c.args.visitor.now.base c.args.visitor.now.patches all.sets
     (subst (λ (ds : List ℕ). IsAscendingListOf (IsClosed ds) all.sets) c.requires.deps all.closed)
-    c.args.visitor.now.demands c.in_ok-swept.swept.tally.failing c.in_ok-swept.swept.tally.summary short all.told
+    c.args.visitor.now.demands c.in_ok-swept.swept.tally.failing c.in_ok-swept.swept.tally.summary short all.tallied
     c.into_rows.result.items c.into_rows.ensures.same c.into_rows.ensures.ordered
 
 pub returns-clause-total : goal.returns-clause-total

@@ -33,11 +33,11 @@ returns g c =
     let allowed = of_replayed c.args.bytes disk
     (λ set d. is_allowed promise.allowed set (paths_show d promise.paths)) c.is_allowed.result c.in_ok-disk.ensures.ok
     c.is_allowed.ensures in
-    let told = c.as_slice.result.now in
-    let same : told ≡ promise.spares = c.as_slice.ensures.value ∙ ap (λ (p : Promise). p.spares) c.promise.view_is in
+    let listed = c.as_slice.result.now in
+    let same : listed ≡ promise.spares = c.as_slice.ensures.value ∙ ap (λ (p : Promise). p.spares) c.promise.view_is in
     let spared = subst
     (λ (spares : List StandIn). IsKnownOfSets c.args.bytes (λ set d. is_spared spares d) c.is_spared-spared.result) same
-    (of_replayed c.args.bytes disk (λ set d. is_spared told d) c.is_spared-spared.result c.in_ok-disk.ensures.ok
-    (read_of_disks disk (is_spared told) c.is_spared-spared.result c.is_spared-spared.ensures)) in
+    (of_replayed c.args.bytes disk (λ set d. is_spared listed d) c.is_spared-spared.result c.in_ok-disk.ensures.ok
+    (read_of_disks disk (is_spared listed) c.is_spared-spared.result c.is_spared-spared.ensures)) in
     c.either.ensures c.args.bytes (λ set d. is_allowed promise.allowed set (paths_show d promise.paths))
     (λ set d. is_spared promise.spares d) allowed spared

@@ -6,7 +6,7 @@ use Rattle.fault_deciding.specs.Asked.{IsFirstFault}
 use Rattle.section_maker.specs.Maker.{Reported}
 use Rattle.report_sections.specs.Sections.{IsSection}
 use Rattle.first_crashes.specs.Sparing.{detail_with}
-use Rattle.first_crashes.proofs.Without.{told_some, none_first}
+use Rattle.first_crashes.proofs.Without.{listed_some, none_first}
 use Rattle.first_crashes.proofs.fault.first_fault.Goals as goal
 
 pub section-requires : goal.section-requires
@@ -20,22 +20,22 @@ section-requires g c =
           (sym c.in_ok-maker.ensures) is.first.among.failing.closed;
     }
 
-pub returns-in_default-clause-told : goal.returns-in_default-clause-told
-returns-in_default-clause-told g c = λ earlier.
+pub returns-in_default-clause-listed : goal.returns-in_default-clause-listed
+returns-in_default-clause-listed g c = λ earlier.
     let has = HasFault c.args.demands.now c.args.base.now c.args.graph.now in
     subst (IsFirstFault has) c.in_default.is c.in_ok-decided.ensures
 
-pub returns-clause-told : goal.returns-clause-told
-returns-clause-told g c = λ earlier.
+pub returns-clause-listed : goal.returns-clause-listed
+returns-clause-listed g c = λ earlier.
     let demands = c.args.demands.now in
     let base = c.args.base.now in
     let patches = c.args.graph.now in
     let decided = c.in-Some.decided in
     let section = c.in_ok-section.section in
     let is = subst (IsFirstFault (HasFault demands base patches)) c.in-Some.is c.in_ok-decided.ensures in
-    told_some (detail_with c.args.explain demands) base patches decided section earlier is
+    listed_some (detail_with c.args.explain demands) base patches decided section earlier is
     (subst (λ (m : Reported). IsSection m.detail m.base m.patches decided.first section) c.in_ok-maker.ensures
-    c.in_ok-section.ensures.told)
+    c.in_ok-section.ensures.listed)
 
 pub returns-clause-safe : goal.returns-clause-safe
 returns-clause-safe g c = λ none.

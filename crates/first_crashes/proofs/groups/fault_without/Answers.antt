@@ -1,10 +1,10 @@
 use Rattle.std.proofs.Common.{subst}
 use Rattle.std.specs.Prelude.{option_map}
 use Rattle.question_model.specs.Enough.{rules_but}
-use Rattle.question_model.specs.EnoughReport.{IsToldAny}
+use Rattle.question_model.specs.EnoughReport.{IsListedIfAny}
 use Rattle.enough_deciding.specs.Rules.{tracing_of}
 use Rattle.enough_deciding.proofs.Tracings.{one_tracing}
-use Rattle.question_reports.specs.EnoughFindings.{told_first}
+use Rattle.question_reports.specs.EnoughFindings.{listed_first}
 use Rattle.first_crashes.specs.Sparing.{detail_with}
 use Rattle.first_crashes.proofs.Without.{enough_where_none}
 use Rattle.first_crashes.proofs.groups.fault_without.Goals as goal
@@ -28,8 +28,8 @@ unreachable-requires g c =
     let graph = c.in_ok-graph.graph in
     let earlier = (c.in_ok-graph.ensures.graph (tracing_of base t) (one_tracing base t)).earlier in
     let detail = detail_with c.args.explain o.demands.now in
-    let none = subst (λ first. IsToldAny detail base graph (option_map told_first first)) c.in-None.is
-    (c.in_ok-fault.ensures.told earlier) in
+    let none = subst (λ first. IsListedIfAny detail base graph (option_map listed_first first)) c.in-None.is
+    (c.in_ok-fault.ensures.listed earlier) in
     c.requires (enough_where_none c.args.explain o.demands.now base t (rules_but t.rules c.args.group) graph
     c.in_ok-graph.ensures.graph none)
 
@@ -42,6 +42,6 @@ returns g c = λ s of_trace.
     let earlier = (c.in_ok-graph.ensures.graph (tracing_of base t) (one_tracing base t)).earlier in (
       graph,
       c.in_ok-graph.ensures.graph s of_trace,
-      subst (λ first. IsToldAny detail base graph (option_map told_first first)) c.in-Some.is
-          (c.in_ok-fault.ensures.told earlier),
+      subst (λ first. IsListedIfAny detail base graph (option_map listed_first first)) c.in-Some.is
+          (c.in_ok-fault.ensures.listed earlier),
     )

@@ -1,7 +1,7 @@
 use Rattle.std.proofs.Common.{refl}
-use Rattle.question_model.specs.EnoughReport.{IsToldGroup}
+use Rattle.question_model.specs.EnoughReport.{IsListedGroup}
 use Rattle.first_crashes.specs.Sparing.{detail_with}
-use Rattle.first_crashes.proofs.Without.{group_more, told_more}
+use Rattle.first_crashes.proofs.Without.{group_more, listed_more}
 use Rattle.first_crashes.proofs.groups.needed_groups.Goals as goal
 
 pub fault_without-requires : goal.fault_without-requires
@@ -14,9 +14,9 @@ loop-group-preserved g c =
     record {
       groups = group_more c.args.groups.now c.loop-group.group-index c.loop-group.needs.items _ _
           c.loop-group-test.true before.groups refl c.in_ok-push.ensures.items;
-      told = λ s of_trace.
+      listed = λ s of_trace.
           let detail = detail_with c.args.explain o.demands.now in
-          told_more (IsToldGroup detail o.traced.now.rules o.base.now s)
-          c.loop-group.needs.items _ _ (before.told s of_trace) (c.in_ok-fault.ensures s of_trace)
+          listed_more (IsListedGroup detail o.traced.now.rules o.base.now s)
+          c.loop-group.needs.items _ _ (before.listed s of_trace) (c.in_ok-fault.ensures s of_trace)
           c.in_ok-push.ensures.items;
     }

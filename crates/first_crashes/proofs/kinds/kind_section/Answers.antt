@@ -4,7 +4,7 @@ use Rattle.crash_model.specs.Patches.{deps_of}
 use Rattle.report_sections.specs.Sections.{IsSection}
 use Rattle.section_maker.specs.Maker.{Reported}
 use Rattle.pool_judging.specs.Judging.{search_by}
-use Rattle.first_crashes.proofs.KindCrashes.{below, traced, patches_of, first_closed, kind_told}
+use Rattle.first_crashes.proofs.KindCrashes.{below, traced, patches_of, first_closed, kind_listed}
 use Rattle.first_crashes.proofs.kinds.kind_section.Goals as goal
 
 pub workload_at-requires : goal.workload_at-requires
@@ -41,7 +41,7 @@ returns g c =
     let has = patches_of s shown c.requires c.in_ok-steps.steps.items c.deref.result.now c.deref-2.result.now
     c.in_ok-demands.demands c.in_ok-graph.graph c.in_ok-steps.ensures c.deref.ensures.value c.deref-2.ensures.value
     c.in_ok-graph.ensures.graph c.in_ok-demands.ensures in
-    kind_told s shown c.requires c.args.explain c.in_ok-demands.demands c.in_ok-graph.graph
+    kind_listed s shown c.requires c.args.explain c.in_ok-demands.demands c.in_ok-graph.graph
     c.len.result section c.len.ensures.number has
     (subst (λ (m : Reported). IsSection m.detail m.base m.patches shown.first section) c.in_ok-maker.ensures
-    c.in_ok-section.ensures.told)
+    c.in_ok-section.ensures.listed)

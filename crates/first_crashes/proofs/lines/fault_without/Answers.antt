@@ -2,10 +2,10 @@ use Rattle.std.proofs.Common.{subst}
 use Rattle.std.specs.Prelude.{option_map}
 use Rattle.enough_rules.proofs.Groups.{difference_of}
 use Rattle.question_model.specs.EnoughLines.{all_waits}
-use Rattle.question_model.specs.EnoughReport.{IsToldAny}
-use Rattle.question_reports.specs.EnoughFindings.{told_first}
+use Rattle.question_model.specs.EnoughReport.{IsListedIfAny}
+use Rattle.question_reports.specs.EnoughFindings.{listed_first}
 use Rattle.first_crashes.specs.Sparing.{detail_with}
-use Rattle.first_crashes.proofs.WithoutLines.{graph_waiting, lines_where_none, told_without}
+use Rattle.first_crashes.proofs.WithoutLines.{graph_waiting, lines_where_none, listed_without}
 use Rattle.first_crashes.proofs.lines.fault_without.Goals as goal
 
 pub first_fault-requires : goal.first_fault-requires
@@ -27,8 +27,8 @@ unreachable-requires g c =
     let rest = difference_of (all_waits o.traced.now.waits) c.args.group in
     let is = c.in_ok-script.ensures rest.0 rest.1 in
     let earlier = (graph_waiting c.args.explain o script rest.0 is).earlier in
-    let none = subst (λ first. IsToldAny (detail_with c.args.explain script.demands) o.base.now script.graph
-    (option_map told_first first)) c.in-None.is (c.in_ok-fault.ensures.told earlier) in
+    let none = subst (λ first. IsListedIfAny (detail_with c.args.explain script.demands) o.base.now script.graph
+    (option_map listed_first first)) c.in-None.is (c.in_ok-fault.ensures.listed earlier) in
     c.requires rest.0 rest.1 (lines_where_none c.args.explain o script rest.0 is none)
 
 pub returns : goal.returns
@@ -38,6 +38,6 @@ returns g c = λ s of_trace.
     let rest = difference_of (all_waits o.traced.now.waits) c.args.group in
     let is = c.in_ok-script.ensures rest.0 rest.1 in
     let earlier = (graph_waiting c.args.explain o script rest.0 is).earlier in
-    told_without c.args.explain o script c.args.group c.in-Some.fault s of_trace c.in_ok-script.ensures
-    (subst (λ first. IsToldAny (detail_with c.args.explain script.demands) o.base.now script.graph
-    (option_map told_first first)) c.in-Some.is (c.in_ok-fault.ensures.told earlier))
+    listed_without c.args.explain o script c.args.group c.in-Some.fault s of_trace c.in_ok-script.ensures
+    (subst (λ first. IsListedIfAny (detail_with c.args.explain script.demands) o.base.now script.graph
+    (option_map listed_first first)) c.in-Some.is (c.in_ok-fault.ensures.listed earlier))

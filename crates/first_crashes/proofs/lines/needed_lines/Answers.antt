@@ -1,6 +1,6 @@
 use Rattle.std.proofs.Common.{refl}
-use Rattle.first_crashes.specs.SparingLines.{IsToldWithout}
-use Rattle.first_crashes.proofs.Without.{group_more, told_more}
+use Rattle.first_crashes.specs.SparingLines.{IsListedWithout}
+use Rattle.first_crashes.proofs.Without.{group_more, listed_more}
 use Rattle.first_crashes.proofs.lines.needed_lines.Goals as goal
 
 pub fault_without-requires : goal.fault_without-requires
@@ -12,6 +12,7 @@ loop-group-preserved g c =
     record {
       groups = group_more c.args.groups.now c.loop-group.group-index c.loop-group.needs.items _ _
           c.loop-group-test.true before.groups refl c.in_ok-push.ensures.items;
-      told = λ s of_trace. told_more (IsToldWithout c.args.explain c.args.oracle.now s) c.loop-group.needs.items _ _
-          (before.told s of_trace) (c.in_ok-fault.ensures s of_trace) c.in_ok-push.ensures.items;
+      listed =
+          λ s of_trace. listed_more (IsListedWithout c.args.explain c.args.oracle.now s) c.loop-group.needs.items _ _
+          (before.listed s of_trace) (c.in_ok-fault.ensures s of_trace) c.in_ok-push.ensures.items;
     }

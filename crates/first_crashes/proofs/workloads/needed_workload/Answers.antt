@@ -1,9 +1,9 @@
 use Rattle.std.proofs.Common.{refl, subst}
 use Rattle.std.specs.Prelude.{option_map}
-use Rattle.question_model.specs.EnoughReport.{IsToldAny}
-use Rattle.question_reports.specs.EnoughFindings.{told_first}
+use Rattle.question_model.specs.EnoughReport.{IsListedIfAny}
+use Rattle.question_reports.specs.EnoughFindings.{listed_first}
 use Rattle.pool_judging.specs.Judging.{search_by}
-use Rattle.first_crashes.proofs.FirstWorkload.{below, traced, patches_of, some_told, need_told}
+use Rattle.first_crashes.proofs.FirstWorkload.{below, traced, patches_of, some_listed, need_listed}
 use Rattle.first_crashes.proofs.workloads.needed_workload.Goals as goal
 
 pub first_without-requires-clause-needed : goal.first_without-requires-clause-needed
@@ -40,9 +40,9 @@ unreachable-requires g c =
     let has = patches_of s c.args.group places c.in_ok-places.ensures c.in_ok-steps.steps.items c.deref.result.now
     c.deref-2.result.now c.in_ok-traced.traced demands graph c.in_ok-steps.ensures c.deref.ensures.value
     c.deref-2.ensures.value c.in_ok-traced.ensures.traced c.in_ok-demands.ensures c.in_ok-graph.ensures.graph in
-    some_told s c.args.group places c.in_ok-places.ensures demands graph has c.args.explain
-    (subst (λ first. IsToldAny (record { explain = c.args.explain; demands = demands }) s.base graph
-    (option_map told_first first)) c.in_default.is (c.in_ok-fault.ensures.told has.graph.earlier))
+    some_listed s c.args.group places c.in_ok-places.ensures demands graph has c.args.explain
+    (subst (λ first. IsListedIfAny (record { explain = c.args.explain; demands = demands }) s.base graph
+    (option_map listed_first first)) c.in_default.is (c.in_ok-fault.ensures.listed has.graph.earlier))
 
 pub returns : goal.returns
 returns g c =
@@ -53,9 +53,9 @@ returns g c =
     let has = patches_of s c.args.group places c.in_ok-places.ensures c.in_ok-steps.steps.items c.deref.result.now
     c.deref-2.result.now c.in_ok-traced.traced demands graph c.in_ok-steps.ensures c.deref.ensures.value
     c.deref-2.ensures.value c.in_ok-traced.ensures.traced c.in_ok-demands.ensures c.in_ok-graph.ensures.graph in
-    let told = subst (λ first. IsToldAny (record { explain = c.args.explain; demands = demands }) s.base graph
-    (option_map told_first first)) c.in-Some.is (c.in_ok-fault.ensures.told has.graph.earlier) in (
+    let listed = subst (λ first. IsListedIfAny (record { explain = c.args.explain; demands = demands }) s.base graph
+    (option_map listed_first first)) c.in-Some.is (c.in_ok-fault.ensures.listed has.graph.earlier) in (
       refl,
-      need_told s c.args.group places c.in_ok-places.ensures demands graph has c.args.explain c.copied.result
-          c.len.result c.in-Some.fault c.copied.ensures c.len.ensures.number told,
+      need_listed s c.args.group places c.in_ok-places.ensures demands graph has c.args.explain c.copied.result
+          c.len.result c.in-Some.fault c.copied.ensures c.len.ensures.number listed,
     )

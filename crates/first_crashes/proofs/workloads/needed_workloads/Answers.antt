@@ -1,6 +1,6 @@
 use Rattle.pool_judging.specs.Judging.{search_by}
-use Rattle.question_model.specs.SearchRulesReport.{IsToldNeed}
-use Rattle.first_crashes.proofs.NeededWorkloads.{group_more, told_more}
+use Rattle.question_model.specs.SearchRulesReport.{IsListedNeed}
+use Rattle.first_crashes.proofs.NeededWorkloads.{group_more, listed_more}
 use Rattle.first_crashes.proofs.workloads.needed_workloads.Goals as goal
 
 pub needed_workload-requires-clause-needed : goal.needed_workload-requires-clause-needed
@@ -13,6 +13,6 @@ loop-group-preserved g c =
     record {
       groups = group_more c.args.groups.now c.loop-group.group-index c.loop-group.needs.items _ c.in_ok-needed.needed
           c.loop-group-test.true before.groups c.in_ok-needed.ensures.0 c.in_ok-push.ensures.items;
-      told = told_more (IsToldNeed (search_by judge) c.args.explain) judge.pool.now c.loop-group.needs.items _
-          c.in_ok-needed.needed before.told c.in_ok-needed.ensures.1 c.in_ok-push.ensures.items;
+      listed = listed_more (IsListedNeed (search_by judge) c.args.explain) judge.pool.now c.loop-group.needs.items _
+          c.in_ok-needed.needed before.listed c.in_ok-needed.ensures.1 c.in_ok-push.ensures.items;
     }

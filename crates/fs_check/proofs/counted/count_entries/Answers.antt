@@ -1,6 +1,6 @@
 use Rattle.std.proofs.Common.{◌≡◌, ℕ, arith, sym, subst, ◌∙◌}
 use Rattle.fs_check.specs.References.{led_at}
-use Rattle.fs_check.specs.Tally.{IsTally}
+use Rattle.fs_check.specs.TableCounts.{IsTally}
 use Rattle.fs_check.proofs.Counting.{tally-start}
 use Rattle.fs_check.proofs.Tallied.{entry_counts-uncounted}
 use Rattle.fs_check.proofs.counted.count_entries.Goals as goal

@@ -1,5 +1,5 @@
 use Rattle.fs_check.specs.References.{led_at}
-use Rattle.fs_check.specs.Tally.{IsTally}
+use Rattle.fs_check.specs.TableCounts.{IsTally}
 use Rattle.fs_check.proofs.counted.count_entries.Given as goal
 
 abbrev pub invariant-loop-dir : goal.invariant-loop-dir

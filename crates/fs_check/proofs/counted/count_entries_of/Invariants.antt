@@ -1,6 +1,6 @@
 use Rattle.std.proofs.Common.{◌≡◌, length}
 use Rattle.fs_check.specs.References.{led_at}
-use Rattle.fs_check.specs.Tally.{IsTally}
+use Rattle.fs_check.specs.TableCounts.{IsTally}
 use Rattle.fs_check.proofs.counted.count_entries_of.Given as goal
 
 abbrev pub invariant-loop-k : goal.invariant-loop-k

@@ -9,13 +9,15 @@ use Rattle.fs_check.proofs.counted.have_blocks.Goals as goal
 pub returns-then-is_some : goal.returns-then-is_some
 returns-then-is_some g c =
     let inode = c.loop-inode.inode in
-    let told = c.is_some.ensures ∙ (ap is_some c.bare_at.ensures ∙ is_some-when (lacks_block c.args.image.now inode) (NoBlock inode)) in (
+    let listed = c.is_some.ensures
+    ∙ (ap is_some c.bare_at.ensures ∙ is_some-when (lacks_block c.args.image.now inode) (NoBlock inode)) in (
       λ is. absurd (false≢true is),
-      λ none. absurd (false≢true (sym (none inode c.loop-inode-test.true) ∙ (sym told ∙ c.if-is_some.true))),
+      λ none. absurd (false≢true (sym (none inode c.loop-inode-test.true) ∙ (sym listed ∙ c.if-is_some.true))),
     )
 
 pub loop-inode-preserved : goal.loop-inode-preserved
 loop-inode-preserved g c =
     let inode = c.loop-inode.inode in
-    let told = c.is_some.ensures ∙ (ap is_some c.bare_at.ensures ∙ is_some-when (lacks_block c.args.image.now inode) (NoBlock inode)) in
-    below_more _ _ c.loop-inode.invariant (sym told ∙ c.if-is_some.false)
+    let listed = c.is_some.ensures
+    ∙ (ap is_some c.bare_at.ensures ∙ is_some-when (lacks_block c.args.image.now inode) (NoBlock inode)) in
+    below_more _ _ c.loop-inode.invariant (sym listed ∙ c.if-is_some.false)

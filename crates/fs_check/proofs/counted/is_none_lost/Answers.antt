@@ -9,13 +9,15 @@ use Rattle.fs_check.proofs.counted.is_none_lost.Goals as goal
 pub returns-then-is_some : goal.returns-then-is_some
 returns-then-is_some g c =
     let inode = c.loop-inode.inode in
-    let told = c.is_some.ensures ∙ (ap is_some c.lost_at.ensures ∙ is_some-when (is_lost c.args.image.now c.args.kept inode) (Lost inode)) in (
+    let listed = c.is_some.ensures
+    ∙ (ap is_some c.lost_at.ensures ∙ is_some-when (is_lost c.args.image.now c.args.kept inode) (Lost inode)) in (
       λ is. absurd (false≢true is),
-      λ none. absurd (false≢true (sym (none inode c.loop-inode-test.true) ∙ (sym told ∙ c.if-is_some.true))),
+      λ none. absurd (false≢true (sym (none inode c.loop-inode-test.true) ∙ (sym listed ∙ c.if-is_some.true))),
     )
 
 pub loop-inode-preserved : goal.loop-inode-preserved
 loop-inode-preserved g c =
     let inode = c.loop-inode.inode in
-    let told = c.is_some.ensures ∙ (ap is_some c.lost_at.ensures ∙ is_some-when (is_lost c.args.image.now c.args.kept inode) (Lost inode)) in
-    below_more _ _ c.loop-inode.invariant (sym told ∙ c.if-is_some.false)
+    let listed = c.is_some.ensures
+    ∙ (ap is_some c.lost_at.ensures ∙ is_some-when (is_lost c.args.image.now c.args.kept inode) (Lost inode)) in
+    below_more _ _ c.loop-inode.invariant (sym listed ∙ c.if-is_some.false)

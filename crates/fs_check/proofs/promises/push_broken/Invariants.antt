@@ -7,7 +7,7 @@ use Rattle.fs_check.proofs.promises.push_broken.Given as goal
 
 abbrev pub invariant-loop-line : goal.invariant-loop-line
 invariant-loop-line g l = record {
-  told : l.found.items ≡ l.fn.found.items ++ some_below (line_behind l.last) (broken_at l.set l.image l.promises);
+  listed : l.found.items ≡ l.fn.found.items ++ some_below (line_behind l.last) (broken_at l.set l.image l.promises);
   within : line_behind l.last ≤ lines_end l.promises;
 }
 

@@ -1,6 +1,6 @@
 use Rattle.std.proofs.Common.{◌≡◌, ◌++◌}
 use Rattle.crash_model.specs.Lists.{each_below, some_below}
-use Rattle.fs_check.specs.Tally.{IsTally}
+use Rattle.fs_check.specs.TableCounts.{IsTally}
 use Rattle.fs_check.specs.References.{dangling_at, led_at}
 use Rattle.fs_check.proofs.references.push_dangling.Given as goal
 

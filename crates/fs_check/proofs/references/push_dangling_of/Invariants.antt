@@ -1,6 +1,6 @@
 use Rattle.std.proofs.Common.{◌≡◌, ◌++◌, length}
 use Rattle.crash_model.specs.Lists.{some_below}
-use Rattle.fs_check.specs.Tally.{IsTally}
+use Rattle.fs_check.specs.TableCounts.{IsTally}
 use Rattle.fs_check.specs.References.{dangling_at, led_at}
 use Rattle.fs_check.proofs.references.push_dangling_of.Given as goal
 

@@ -1,7 +1,7 @@
 use Rattle.std.proofs.Common.{◌≡◌, ◌≤◌, ◌*◌}
 use Rattle.arrayvec.specs.ArrayVec.{array_vec_len}
 use Rattle.crash_model.specs.Lists.{each_below, some_below}
-use Rattle.fs_check.specs.Tally.{IsTally}
+use Rattle.fs_check.specs.TableCounts.{IsTally}
 use Rattle.fs_check.specs.References.{wrong_at, named_at}
 use Rattle.fs_check.proofs.references.read_pointers.Given as goal
 

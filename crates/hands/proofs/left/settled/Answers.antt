@@ -5,7 +5,7 @@ use Rattle.crossbeam_deque.specs.Handles.{worker_view, worker_deque, IsPassOf}
 use Rattle.hands.specs.Accounts.{weigh}
 use Rattle.hands.specs.Known.{Way, Known}
 use Rattle.hands.specs.Together.{IsWay}
-use Rattle.hands.specs.Left.{LeadsTo, weigh_taken}
+use Rattle.hands.specs.Remaining.{LeadsTo, weigh_taken}
 use Rattle.hands.proofs.Moves.{merges, learns, absorbed}
 use Rattle.hands.proofs.Kept.{same-way, first-leads}
 use Rattle.hands.proofs.left.settled.Goals as goal

@@ -2,7 +2,7 @@ use Rattle.std.proofs.Common.{◌≡◌, ℕ, ◌+◌, ◌<◌, All, length, sum
 use Rattle.crossbeam_deque.specs.Handles.{worker_view, worker_deque}
 use Rattle.hands.specs.Accounts.{weigh}
 use Rattle.hands.specs.Known.{Way}
-use Rattle.hands.specs.Left.{LeadsTo, weigh_taken}
+use Rattle.hands.specs.Remaining.{LeadsTo, weigh_taken}
 use Rattle.hands.proofs.left.settled.Given as goal
 
 -- what the deque's own pass holds has grown by what the passes that came back hold

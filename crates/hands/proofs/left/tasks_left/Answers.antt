@@ -5,7 +5,7 @@ use Rattle.crossbeam_deque.specs.Handles.{worker_view, worker_deque, IsPassOf}
 use Rattle.hands.specs.Accounts.{weigh}
 use Rattle.hands.specs.Known.{Way, Known}
 use Rattle.hands.specs.Together.{IsWay}
-use Rattle.hands.specs.Left.{LeadsTo, weigh_taken}
+use Rattle.hands.specs.Remaining.{LeadsTo, weigh_taken}
 use Rattle.hands.proofs.Moves.{merges, absorbed}
 use Rattle.hands.proofs.Kept.{same-way, all-lead, owner-leads, all-parts, All-removed, sum-removed}
 use Rattle.hands.proofs.left.tasks_left.Goals as goal

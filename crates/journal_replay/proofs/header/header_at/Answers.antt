@@ -19,6 +19,6 @@ returns g c =
       held = rw (← c.block-row.ensures.bytes) refl;
       targets = rw (← c.block-row.ensures.bytes)
           (first_are_targets row c.from.result c.copy_from_slice.new.self
-          (header_few c.args.image.now c.args.at c.args.turn row is) c.from.ensures
+          (header_few c.args.image.now c.args.at c.args.transaction row is) c.from.ensures
           c.copy_from_slice.ensures.after);
     }

@@ -5,7 +5,7 @@ use Rattle.journal_replay.proofs.journal.replay.Given as goal
 
 abbrev pub invariant-loop-header : goal.invariant-loop-header
 invariant-loop-header g l = record {
-  walk : IsWalking l.initial.image l.image l.at l.turn;
+  walk : IsWalking l.initial.image l.image l.at l.transaction;
   changed : DifferAtMost l.written l.initial.image l.image;
 }
 

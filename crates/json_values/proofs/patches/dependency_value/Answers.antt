@@ -4,7 +4,7 @@ use Rattle.std.specs.Prelude.{option_map}
 use Rattle.traced_patches.specs.Reasons.{reason_text}
 use Rattle.traced_patches.specs.declared.reasons.Reason.{Reason}
 use Rattle.serde_json.specs.View.{view}
-use Rattle.traced_patches.proofs.Told.{emitted_is, no_dependency, dependency_is}
+use Rattle.traced_patches.proofs.Explained.{emitted_is, no_dependency, dependency_is}
 use Rattle.json_values.specs.Patches.{dependency_data}
 use Rattle.json_values.proofs.patches.dependency_value.Goals as goal
 

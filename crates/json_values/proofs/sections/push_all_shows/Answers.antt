@@ -16,10 +16,10 @@ items list = list.items
 pub returns : goal.returns
 returns g c =
     let lists = c.deref.result.now in
-    let told : shown_lists c.args.section.now.shows ≡ Some (map items lists) = ap shown_lists c.in-Some.is
+    let listed : shown_lists c.args.section.now.shows ≡ Some (map items lists) = ap shown_lists c.in-Some.is
     ∙ ap (λ ls. Some (map items ls)) (sym c.deref.ensures.value) in
     shows_pieces (map items lists) (string_bytes c.args.out.now) _ _ _ c.in_ok-push_str.ensures.bytes
     (c.in_ok-push_each_shows.ensures ∙ ap (λ (ts : List (List ℕ)). string_bytes c.push_str.new.self ++ join_of 44 ts)
     (sym (map-map (λ (s : List Shown). json_string (together s)) items lists)))
     c.in_ok-push_str-2.ensures.bytes
-    ∙ ap (λ shows. string_bytes c.args.out.now ++ shows_json shows) (sym told)
+    ∙ ap (λ shows. string_bytes c.args.out.now ++ shows_json shows) (sym listed)

@@ -3,23 +3,23 @@ use Rattle.std.proofs.lemmas.List.{take_all}
 use Rattle.std.proofs.lemmas.Simd.{map-map}
 use Rattle.crash_model.specs.Lists.{join_of}
 use Rattle.report_model.specs.Replayed.{replayed_json}
-use Rattle.report_sections.specs.Replay.{told_block}
+use Rattle.report_sections.specs.Replay.{listed_block}
 use Rattle.report_sections.specs.declared.replayed.ReplayedBlock.{ReplayedBlock}
 use Rattle.json_values.specs.Items.{comma_before}
 use Rattle.json_values.proofs.Commas.{taken_more}
 use Rattle.json_values.proofs.sections.push_replayed_blocks.Goals as goal
 
 abbrev form : ReplayedBlock → List ℕ
-form r = replayed_json (told_block r)
+form r = replayed_json (listed_block r)
 
 -- one block more
 block_more : (blocks : List ReplayedBlock) (at : ℕ) (d : ReplayedBlock) (old so_far comma after : List ℕ)
     → at < length blocks → so_far ≡ old ++ join_of 44 (map form (take at blocks))
-    → comma ≡ so_far ++ comma_before at → after ≡ comma ++ replayed_json (told_block (get_or blocks at d))
+    → comma ≡ so_far ++ comma_before at → after ≡ comma ++ replayed_json (listed_block (get_or blocks at d))
     → after ≡ old ++ join_of 44 (map form (take (at + 1) blocks))
-block_more blocks at d old so_far comma after within tells is more =
+block_more blocks at d old so_far comma after within listing is more =
     let text = form (get_or blocks at d) in
-    taken_more form blocks at d old so_far after text within tells refl
+    taken_more form blocks at d old so_far after text within listing refl
     (more ∙ ap (λ (t : List ℕ). t ++ text) is)
 
 pub loop-at-preserved : goal.loop-at-preserved
@@ -34,4 +34,4 @@ returns g c =
     c.loop-at.invariant
     ∙ (ap (λ (rs : List ReplayedBlock). before ++ join_of 44 (map form rs))
     (take_all c.loop-at.at c.args.replay.now c.loop-at-test.false)
-    ∙ ap (λ (ts : List (List ℕ)). before ++ join_of 44 ts) (sym (map-map replayed_json told_block c.args.replay.now)))
+    ∙ ap (λ (ts : List (List ℕ)). before ++ join_of 44 ts) (sym (map-map replayed_json listed_block c.args.replay.now)))

@@ -7,7 +7,7 @@ pub loop-step-init : goal.loop-step-init
 loop-step-init g c =
     let tracer = c.in_ok-tracer.tracer in
     begin c.args.ordering.now.module c.args.is_durable c.args.base.now c.args.steps.now c.args.ordering.now.whole_blocks
-    tracer c.new-promising.result c.in_ok-tracer.ensures.ordering.0 c.in_ok-tracer.ensures.begun.0 c.requires
+    tracer c.new-promising.result c.in_ok-tracer.ensures.ordering.0 c.in_ok-tracer.ensures.started.0 c.requires
     c.new-promising.ensures.none (c.new-promising.ensures.at tracer.tracing) c.new-promising.ensures.durable
 
 pub take-requires-clause-accepted : goal.take-requires-clause-accepted

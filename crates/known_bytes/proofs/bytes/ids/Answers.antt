@@ -1,5 +1,5 @@
 use Rattle.std.proofs.Common.{◌≡◌, length, arith}
-use Rattle.patch_graph.proofs.Apart.{in_ones}
+use Rattle.patch_graph.proofs.Independent.{in_ones}
 use Rattle.known_bytes.proofs.bytes.ids.Goals as goal
 
 pub returns : goal.returns

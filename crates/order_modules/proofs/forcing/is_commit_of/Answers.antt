@@ -7,5 +7,5 @@ use Rattle.order_modules.proofs.forcing.is_commit_of.Goals as goal
 
 pub returns-then-is_commit : goal.returns-then-is_commit
 returns-then-is_commit c =
-    both (is_commit (emitted_of c.args.label.now)) (c.args.label.now.turn == c.args.turn) _
+    both (is_commit (emitted_of c.args.label.now)) (c.args.label.now.op_number == c.args.op_number) _
     (sym c.if-is_commit.ensures) refl

@@ -7,7 +7,7 @@ use Rattle.pool_judging.proofs.judging.promises_longer.Goals as goal
 pub returns : goal.returns
 returns g c =
     let x = c.args.step.now in
-    let old = c.args.begun.now in
+    let old = c.args.prefix.now in
     let next = c.args.longer.now in
     let copy = c.in_ok-try_copy.field-0 in
     let with_it = c.in_ok-promising.promising in

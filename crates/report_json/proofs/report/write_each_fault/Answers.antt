@@ -1,6 +1,6 @@
 use Rattle.std.proofs.Common.{get_or, subst, sym, ap, ◌∙◌}
 use Rattle.report_model.specs.JsonParts.{Form}
-use Rattle.report_model.specs.Summary.{told_fault_json}
+use Rattle.report_model.specs.Summary.{counted_fault_json}
 use Rattle.patch_sets.specs.Closed.{IsClosed}
 use Rattle.crash_model.specs.Patches.{deps_of}
 use Rattle.crash_model.specs.declared.fault.FaultRow.{FaultRow}
@@ -24,14 +24,15 @@ loop-at-preserved g c =
     let rows = c.args.rows.now in
     let before = c.loop-at.invariant in
     let wrote = c.in_ok-write_fault.ensures in
-    let told = wrote.told in
+    let listed = wrote.listed in
     let is = subst (λ (m : Reported). IsSection m.detail m.base m.patches (get_or rows c.loop-at.at no_row).first
-    told.0) before.maker told.1 in
+    listed.0) before.maker listed.1 in
     record {
-      told = fault_more c.args.known.now maker.detail maker.base maker.patches rows c.loop-at.at no_row _ _ _ _ told.0
-          c.loop-at-test.true before.told is
-          (ap (λ (form : Form). told_fault_json form
-          (record { row = get_or rows c.loop-at.at no_row; first = section_of told.0 })) before.known) told.2;
+      listed =
+          fault_more c.args.known.now maker.detail maker.base maker.patches rows c.loop-at.at no_row _ _ _ _ listed.0
+          c.loop-at-test.true before.listed is
+          (ap (λ (form : Form). counted_fault_json form
+          (record { row = get_or rows c.loop-at.at no_row; first = section_of listed.0 })) before.known) listed.2;
       maker = wrote.maker ∙ before.maker;
       known = wrote.known ∙ before.known;
     }

@@ -4,7 +4,8 @@ use Rattle.report_json.proofs.report.write_each_fault.Given as goal
 
 abbrev pub invariant-loop-at : goal.invariant-loop-at
 invariant-loop-at g l = record {
-  told : WritesFaults l.initial.known l.initial.maker.detail l.initial.maker.base l.initial.maker.patches (take l.at l.rows)
+  listed : WritesFaults l.initial.known l.initial.maker.detail l.initial.maker.base l.initial.maker.patches
+      (take l.at l.rows)
       (string_bytes l.initial.out) (string_bytes l.out);
   maker : l.maker ≡ l.initial.maker;
   known : l.known ≡ l.initial.known;

@@ -11,13 +11,14 @@ loop-at-preserved g c =
     let maker = c.args.maker.now in
     let before = c.loop-at.invariant in
     let wrote = c.in_ok-write_section.ensures in
-    let told = wrote.told in
+    let listed = wrote.listed in
     let is = subst (λ (m : Reported). IsSection m.detail m.base m.patches (get_or c.args.sets.now c.loop-at.at 0)
-    told.0) before.maker told.1 in
+    listed.0) before.maker listed.1 in
     record {
-      told = section_more c.args.known.now maker.detail maker.base maker.patches c.args.sets.now c.args.place c.loop-at.at
-          _ _ _ _ told.0 c.loop-at-test.true before.told is
-          (ap (λ (form : Form). section_json form (section_of told.0)) before.known) told.2;
+      listed =
+          section_more c.args.known.now maker.detail maker.base maker.patches c.args.sets.now c.args.place c.loop-at.at
+          _ _ _ _ listed.0 c.loop-at-test.true before.listed is
+          (ap (λ (form : Form). section_json form (section_of listed.0)) before.known) listed.2;
       maker = wrote.maker ∙ before.maker;
       known = wrote.known ∙ before.known;
     }

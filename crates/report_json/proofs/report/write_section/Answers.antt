@@ -6,8 +6,8 @@ use Rattle.report_sections.specs.declared.section.Section.{Section}
 use Rattle.json_values.specs.Items.{comma_before}
 use Rattle.report_json.proofs.report.write_section.Goals as goal
 
-pub returns-clause-told : goal.returns-clause-told
-returns-clause-told g c =
+pub returns-clause-listed : goal.returns-clause-listed
+returns-clause-listed g c =
     let section = c.in_ok-section.section in
     let text = section_json c.args.known.now (section_of section) in
     let maker = c.args.maker.now in
@@ -18,7 +18,7 @@ returns-clause-told g c =
     c.push_section.result
     (λ wrote. (
       section,
-      c.in_ok-section.ensures.told,
+      c.in_ok-section.ensures.listed,
       wrote
           ∙ ap (λ (t : List ℕ). t ++ text) c.in_ok-write_comma.ensures,
     )) c.push_section.ensures.text

@@ -1,9 +1,9 @@
 use Rattle.std.proofs.Common.{◌≡◌, true, false, string_bytes, sym, ◌∙◌}
-use Rattle.report_text.proofs.CountedNumbers.{number_told, number_passed}
+use Rattle.report_text.proofs.CountedNumbers.{number_listed, number_passed}
 use Rattle.report_text.proofs.head.write_if_counted.Goals as goal
 
 pub returns-in_ok-write : goal.returns-in_ok-write
-returns-in_ok-write g c = number_told c.args.counted c.args.number (string_bytes c.args.out.now) _
+returns-in_ok-write g c = number_listed c.args.counted c.args.number (string_bytes c.args.out.now) _
     (c.has.ensures.0 c.if-has.true) c.in_ok-write.ensures.bytes
 
 pub returns-else-has : goal.returns-else-has

@@ -2,7 +2,7 @@ use Rattle.std.proofs.Common.{◌++◌, [], codes}
 use Rattle.std.specs.Prelude.{if◌then◌else◌}
 use Rattle.std.proofs.lemmas.Result.{on_ok_weaker}
 use Rattle.report_model.specs.Report.{line}
-use Rattle.report_model.specs.OptionTexts.{counted_text, rule_lines, told_with, told_without, blocks_text}
+use Rattle.report_model.specs.OptionTexts.{counted_text, rule_lines, listed_with, listed_without, blocks_text}
 use Rattle.crash_model.specs.Texts.{module_text}
 use Rattle.report_text.proofs.HeadLines.{ordering_of}
 use Rattle.report_text.proofs.head.write_ordering.Goals as goal
@@ -11,7 +11,7 @@ pub returns : goal.returns
 returns g c =
     let s = c.args.settings.now in
     on_ok_weaker c.write_checker.result (λ wrote. ordering_of _ _ _ (line (codes "module " ++ module_text s.module))
-    (rule_lines (codes "without") (told_without s)) (rule_lines (codes "with") (told_with s))
+    (rule_lines (codes "without") (listed_without s)) (rule_lines (codes "with") (listed_with s))
     (blocks_text s.generations s.whole_blocks) (if s.strict then line (codes "strict") else [])
     (if s.atomic then line (codes "atomic") else []) (if s.durable then line (codes "durable") else [])
     (counted_text s.counted) c.in_ok-write_rules_and_disk.ensures wrote) c.write_checker.ensures

@@ -1,15 +1,15 @@
 use Rattle.std.proofs.Common.{◌≢◌, ◌∙◌, sym, string_bytes, length, map, arith}
 use Rattle.std.proofs.lemmas.Bool.{eqb-true, eqb-false}
-use Rattle.traced_patches.proofs.Told.{emitted_is}
+use Rattle.traced_patches.proofs.Explained.{emitted_is}
 use Rattle.traced_patches.specs.Reasons.{reason_text}
-use Rattle.report_text.proofs.PatchLines.{none_told, some_told}
+use Rattle.report_text.proofs.PatchLines.{none_listed, some_listed}
 use Rattle.report_text.proofs.patches.write_dependency.Goals as goal
 
 pub returns-then-is_empty : goal.returns-then-is_empty
 returns-then-is_empty g c = λ q at.
     let t = c.args.traced.now in
     let there = emitted_is t.emitted c.args.earlier c.requires.emitted in
-    none_told t q there.0 c.args.earlier (length c.list-reasons.result.items) (string_bytes c.args.out.now) there.1
+    none_listed t q there.0 c.args.earlier (length c.list-reasons.result.items) (string_bytes c.args.out.now) there.1
     (c.list-reasons.ensures.some t q c.args.earlier there.0 (c.reasons.ensures q there.0 at there.1))
     (eqb-true (length c.list-reasons.result.items) 0 (sym c.is_empty.ensures ∙ c.if-is_empty.true))
 
@@ -18,7 +18,7 @@ returns g c = λ q at.
     let t = c.args.traced.now in
     let there = emitted_is t.emitted c.args.earlier c.requires.emitted in
     let are = c.reasons.ensures q there.0 at there.1 in
-    some_told t q there.0 c.args.earlier (length c.list-reasons.result.items)
+    some_listed t q there.0 c.args.earlier (length c.list-reasons.result.items)
     (map reason_text c.list-reasons.result.items) (string_bytes c.args.out.now) _ _ _ there.1
     (c.list-reasons.ensures.some t q c.args.earlier there.0 are) (let some : length c.list-reasons.result.items ≢ 0 =
     eqb-false (length c.list-reasons.result.items) 0 (sym c.is_empty.ensures ∙ c.if-is_empty.false) in omega arith)

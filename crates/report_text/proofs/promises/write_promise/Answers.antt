@@ -6,7 +6,7 @@ use Rattle.crash_model.specs.declared.promises.Allowance.{Allowance}
 use Rattle.crash_model.specs.declared.promises.Spare.{Spare}
 use Rattle.report_model.specs.Report.{line}
 use Rattle.report_model.specs.Shows.{after_text, shows_text, spare_text}
-use Rattle.report_text.proofs.PromiseLines.{promise_told, line_same}
+use Rattle.report_text.proofs.PromiseLines.{promise_listed, line_same}
 use Rattle.report_text.proofs.promises.write_promise.Goals as goal
 
 pub returns : goal.returns
@@ -17,7 +17,7 @@ returns g c =
     let first = string_bytes c.write_promise_line.new.out in
     let second = string_bytes c.write_after.new.out in
     let third = string_bytes c.write_allowed.new.out in
-    on_ok_weaker c.write_spares.result (λ wrote. promise_told n p (string_bytes c.args.out.now) first second third _
+    on_ok_weaker c.write_spares.result (λ wrote. promise_listed n p (string_bytes c.args.out.now) first second third _
     (c.in_ok-write_promise_line.ensures ∙ ap (λ (t : List ℕ). string_bytes c.args.out.now ++ t) (line_same
     (ap (λ (q : Promise). q.line) view) c.promise_word-word.ensures
     (c.as_slice.ensures.value ∙ ap (λ (q : Promise). q.paths) view)))

@@ -9,7 +9,7 @@ pub loop-set-init : goal.loop-set-init
 loop-set-init g c =
     let maker = c.args.maker.now in
     record {
-      told = sections_none maker.detail maker.base maker.patches (string_bytes c.args.out.now);
+      listed = sections_none maker.detail maker.base maker.patches (string_bytes c.args.out.now);
       same_maker = refl;
       same_lines = refl;
     }
@@ -22,8 +22,8 @@ loop-set-preserved g c =
     let one = subst (λ (m : Reported). WritesSections m.detail m.base m.patches (set ∷ []) (string_bytes c.loop-set.out)
     (string_bytes c.write_one.new.out)) before.same_maker c.in_ok-write_one.ensures.text in
     record {
-      told = section_more maker.detail maker.base maker.patches c.args.sets.now c.loop-set.set-index
-          _ _ _ c.loop-set-test.true before.told one;
+      listed = section_more maker.detail maker.base maker.patches c.args.sets.now c.loop-set.set-index
+          _ _ _ c.loop-set-test.true before.listed one;
       same_maker = c.in_ok-write_one.ensures.maker ∙ before.same_maker;
       same_lines = c.in_ok-write_one.ensures.lines ∙ before.same_lines;
     }

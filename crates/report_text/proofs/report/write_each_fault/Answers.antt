@@ -21,11 +21,12 @@ loop-row-preserved g c =
     let maker = c.args.maker.now in
     let rows = c.args.rows.now in
     let before = c.loop-row.invariant in
-    let told = c.in_ok-write_fault.ensures.told in
+    let listed = c.in_ok-write_fault.ensures.listed in
     let is = subst (λ (m : Reported). IsSection m.detail m.base m.patches (get_or rows c.loop-row.row-index no_row).first
-    told.0) before.maker told.1 in
+    listed.0) before.maker listed.1 in
     record {
-      told = fault_more maker.detail maker.base maker.patches rows c.loop-row.row-index c.args.patches no_row _ _ _ told.0
-          c.loop-row-test.true c.requires.number before.told is told.2;
+      listed = fault_more maker.detail maker.base maker.patches rows c.loop-row.row-index c.args.patches no_row _ _ _
+          listed.0
+          c.loop-row-test.true c.requires.number before.listed is listed.2;
       maker = c.in_ok-write_fault.ensures.maker ∙ before.maker;
     }

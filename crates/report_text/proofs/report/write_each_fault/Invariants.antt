@@ -4,7 +4,7 @@ use Rattle.report_text.proofs.report.write_each_fault.Given as goal
 
 abbrev pub invariant-loop-row : goal.invariant-loop-row
 invariant-loop-row g l = record {
-  told : WritesFaults l.initial.maker.detail l.initial.maker.base l.initial.maker.patches (take l.row-index l.rows)
+  listed : WritesFaults l.initial.maker.detail l.initial.maker.base l.initial.maker.patches (take l.row-index l.rows)
       (string_bytes l.initial.out) (string_bytes l.out);
   maker : l.maker ≡ l.initial.maker;
 }

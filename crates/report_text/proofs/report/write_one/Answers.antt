@@ -10,9 +10,9 @@ pub returns-clause-text : goal.returns-clause-text
 returns-clause-text g c =
     let maker = c.args.maker.now in
     on_ok_weaker c.write_found.result (λ wrote. section_one maker.detail maker.base maker.patches c.args.set
-    c.patches.result c.tell.new.outcome _ (string_bytes c.write_set.new.out) (string_bytes c.push_writes.new.out)
+    c.patches.result c.fill.new.outcome _ (string_bytes c.write_set.new.out) (string_bytes c.push_writes.new.out)
     (string_bytes c.write_replay.new.out) _
-    (c.patches.ensures ∙ ap (λ (ps : List Patch). length ps) (sym c.requires.same)) c.in_ok-tell.ensures.told
+    (c.patches.ensures ∙ ap (λ (ps : List Patch). length ps) (sym c.requires.same)) c.in_ok-fill.ensures.listed
     c.in_ok-write_set.ensures
     (subst (λ (ps : List Patch). WritesRuns ps c.args.set (string_bytes c.write_set.new.out)
     (string_bytes c.push_writes.new.out)) (sym c.requires.same) c.in_ok-push_writes.ensures.text)

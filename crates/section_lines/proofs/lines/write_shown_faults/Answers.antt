@@ -7,7 +7,7 @@ use Rattle.report_sections.proofs.Shown.{once_of}
 use Rattle.section_lines.proofs.ShownLines.{Left, left_alone, left_shown, none_left}
 use Rattle.section_lines.proofs.lines.write_shown_faults.Goals as goal
 use Rattle.section_lines.proofs.lines.write_shown_faults.Goals.{in_default}
-use Rattle.section_lines.proofs.lines.write_shown_faults.Goals.{in-BrokenPromise+in_ok-write_told_shows-in-BrokenPromise}
+use Rattle.section_lines.proofs.lines.write_shown_faults.Goals.{in-BrokenPromise+in_ok-write_if_shown-in-BrokenPromise}
 
 abbrev lists_of : List (ArrayVec Shown) → List (List Shown)
 lists_of shows = map (λ list. list.items) shows
@@ -22,16 +22,16 @@ loop-fault-preserved g c =
     let all = string_bytes c.loop-fault.out in
     let left = c.loop-fault.invariant.left in
     elim c.match-fault.branch [
-      | in-BrokenPromise+in_ok-write_told_shows-in-BrokenPromise w ↦ record {
+      | in-BrokenPromise+in_ok-write_if_shown-in-BrokenPromise w ↦ record {
         within = omega (arith, w.place-is, c.loop-fault.invariant.within);
         left = subst (λ (p : ℕ). Left faults lists whole (i + 1) p (string_bytes c.match-fault.out)) (sym w.place-is)
             (subst (λ (out : String g.row.A.Denot). Left faults lists whole (i + 1) (place + 1) (string_bytes out))
             (sym w.out-is)
             (left_shown faults lists whole i place _ c.loop-fault-test.true all left _
-            (string_bytes c.write_fault.new.out) (string_bytes w.write_told_shows.new.out) (shown_once w.get.result)
+            (string_bytes c.write_fault.new.out) (string_bytes w.write_if_shown.new.out) (shown_once w.get.result)
             w.in-BrokenPromise.is c.in_ok-write_fault.ensures
             (once_of c.args.shows.now place w.get.result w.get.ensures.lookup)
-            w.in_ok-write_told_shows-in-BrokenPromise.ensures));
+            w.in_ok-write_if_shown-in-BrokenPromise.ensures));
       }
       | in_default w ↦ record {
         within = omega (arith, w.place-is, c.loop-fault.invariant.within);

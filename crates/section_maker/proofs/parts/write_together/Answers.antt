@@ -40,12 +40,12 @@ loop-text-preserved g c =
     let each = c.in_ok-texts.ensures.each n item inside in
     let read : item ≡ slice_index_or texts n item = c.text-item.is
     ∙ ap (λ ts. slice_index_or ts n item) c.deref-text-items.ensures.value in
-    let told = subst (λ r. IfOk r (λ text. g.W.WriteSets.writes writer (n * size) (slice_chunk sets size n) []
+    let listed = subst (λ r. IfOk r (λ text. g.W.WriteSets.writes writer (n * size) (slice_chunk sets size n) []
     (string_bytes text))) (sym read ∙ c.in-Ok.is) each in
     let place = begins sets size (vec_len c.in_ok-texts.texts) n c.in_ok-texts.ensures.len
     (omega (arith, inside, c.in_ok-texts.texts.ok)) in
     let part = subst (λ (k : ℕ). g.W.WriteSets.writes writer k (slice_chunk sets size n) []
-    (string_bytes c.in-Ok.text)) (sym place) told in
+    (string_bytes c.in-Ok.text)) (sym place) listed in
     part_more sets size (λ xs. g.W.WriteSets.writes writer 0 xs (string_bytes c.args.out.now)
     (string_bytes c.push_str.new.self)) n
     (c.requires.joined.more (take (n * size) sets) (slice_chunk sets size n) (string_bytes c.args.out.now)

@@ -1,5 +1,5 @@
-use Rattle.workload_search.proofs.Telling.{AreToldKindsBelow}
+use Rattle.workload_search.proofs.Reporting.{AreListedKindsBelow}
 use Rattle.workload_search.proofs.found.shown.Given as goal
 
 abbrev pub invariant-loop-i : goal.invariant-loop-i
-invariant-loop-i l = AreToldKindsBelow l.kinds l.i l.shown.items
+invariant-loop-i l = AreListedKindsBelow l.kinds l.i l.shown.items

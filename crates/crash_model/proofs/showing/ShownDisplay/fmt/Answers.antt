@@ -7,14 +7,14 @@ use Rattle.crash_model.specs.declared.showing.ShownSlot.{ShownSlot}
 use Rattle.crash_model.proofs.showing.ShownDisplay.fmt.Goals as goal
 
 pub slice_bounds-slots-end : goal.slice_bounds-slots-end
-slice_bounds-slots-end g c = c.told.ensures.within
+slice_bounds-slots-end g c = c.listed.ensures.within
 
 pub slice_bounds-words-end : goal.slice_bounds-words-end
-slice_bounds-words-end g c = sym (length-take-le c.told.result c.in-File.slots c.told.ensures.within)
+slice_bounds-words-end g c = sym (length-take-le c.listed.result c.in-File.slots c.listed.ensures.within)
 
 pub returns-in-File-clause-writes : goal.returns-in-File-clause-writes
 returns-in-File-clause-writes g c plain ok =
     has_written_of_eq _ _ _ _ _
     (ap (λ (slots : List ShownSlot). codes "file" ++ flat_map (λ (slot : ShownSlot). 32 ∷ slot_text slot) slots)
-    c.told.ensures.told ∙ sym (ap shown_text c.in-File.is))
+    c.listed.ensures.listed ∙ sym (ap shown_text c.in-File.is))
     (search rules)

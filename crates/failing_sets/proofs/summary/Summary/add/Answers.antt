@@ -1,4 +1,4 @@
-use Rattle.failing_sets.proofs.Told.{next_new, next_again}
+use Rattle.failing_sets.proofs.Adding.{next_new, next_again}
 use Rattle.failing_sets.proofs.summary.Summary.add.Goals as goal
 use Rattle.failing_sets.proofs.summary.Summary.add.Goals.{then-not-has_fault+in_ok-add_row, else-not-has_fault}
 

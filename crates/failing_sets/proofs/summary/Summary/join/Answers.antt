@@ -1,5 +1,5 @@
 use Rattle.std.proofs.Common.{◌≡◌}
-use Rattle.failing_sets.proofs.Told.{next_row}
+use Rattle.failing_sets.proofs.Adding.{next_row}
 use Rattle.failing_sets.proofs.summary.Summary.join.Goals as goal
 
 pub loop-row-preserved : goal.loop-row-preserved

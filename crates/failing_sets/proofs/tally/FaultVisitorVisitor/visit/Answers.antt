@@ -6,8 +6,8 @@ use Rattle.failing_sets.proofs.Failing.{moved_faults}
 use Rattle.failing_sets.proofs.Tallied.{clean_set, failing_set}
 use Rattle.failing_sets.proofs.tally.FaultVisitorVisitor.visit.Goals as goal
 
-pub returns-then-is_clean_under-clause-told : goal.returns-then-is_clean_under-clause-told
-returns-then-is_clean_under-clause-told g c = λ sets told.
+pub returns-then-is_clean_under-clause-tallied : goal.returns-then-is_clean_under-clause-tallied
+returns-then-is_clean_under-clause-tallied g c = λ sets tallied.
     let demands = c.args.self.now.demands in
     let base = c.args.self.now.base in
     let patches = c.args.self.now.patches in
@@ -16,10 +16,10 @@ returns-then-is_clean_under-clause-told g c = λ sets told.
     c.move_to.new.self c.args.set
     c.image.result.now same c.requires.own c.move_to.ensures c.image.ensures in
     clean_set (faults_after demands base patches) sets c.args.set c.args.tally.now.failing c.args.tally.now.summary
-    (sym image ∙ (c.is_clean_under.ensures.0 c.if-is_clean_under.true).faultless) told
+    (sym image ∙ (c.is_clean_under.ensures.0 c.if-is_clean_under.true).faultless) tallied
 
-pub returns-clause-told : goal.returns-clause-told
-returns-clause-told g c = λ sets told.
+pub returns-clause-tallied : goal.returns-clause-tallied
+returns-clause-tallied g c = λ sets tallied.
     let demands = c.args.self.now.demands in
     let base = c.args.self.now.base in
     let patches = c.args.self.now.patches in
@@ -37,4 +37,4 @@ returns-clause-told g c = λ sets told.
     failing_set (faults_after demands base patches) sets c.args.set c.args.tally.now.failing _ c.args.tally.now.summary
     c.add.new.self ill (λ small. omega (arith, small))
     (subst (λ (fs : List Fault). AddsFaults c.args.tally.now.summary c.args.set fs c.add.new.self) found
-    c.in_ok-add.ensures) told
+    c.in_ok-add.ensures) tallied

@@ -1,7 +1,7 @@
 use Rattle.std.proofs.Common.{◌≡◌, ◌++◌, ℕ, string_bytes, ap, ◌∙◌}
 use Rattle.std.proofs.lemmas.Result.{on_ok_weaker}
 use Rattle.report_model.specs.JsonParts.{Form, ids_json}
-use Rattle.report_model.specs.Summary.{told_fault_json}
+use Rattle.report_model.specs.Summary.{counted_fault_json}
 use Rattle.report_sections.specs.Sections.{section_of}
 use Rattle.json_values.specs.Items.{last_json}
 use Rattle.json_values.proofs.SectionPieces.{row_pieces}
@@ -18,7 +18,7 @@ returns-clause-text g c =
     on_ok_weaker {P = string_bytes c.push_last.new.out ≡ string_bytes c.push_shows.new.out
     ++ last_json c.push_fault_head.new.self.patches first}
     {Q = string_bytes c.push_last.new.out ≡ string_bytes c.args.out.now
-    ++ told_fault_json form (record { row = row; first = first })}
+    ++ counted_fault_json form (record { row = row; first = first })}
     c.push_last.result
     (λ wrote. row_pieces form row first (string_bytes c.args.out.now) _ _ _ _ _ _ _
     c.in_ok-push_fault_head.ensures.text

@@ -13,12 +13,12 @@ pub loop-at-preserved : goal.loop-at-preserved
 loop-at-preserved g c =
     let kept : c.push_fault.new.self ≡ c.args.self.now = c.in_ok-push_fault.ensures.kept ∙ c.loop-at.invariant.kept in
     let text = fault_json (get_or c.args.faults.now c.loop-at.at no_fault) in
-    let told : string_bytes c.push_fault.new.out ≡ string_bytes c.write_comma.new.out ++ text =
+    let listed : string_bytes c.push_fault.new.out ≡ string_bytes c.write_comma.new.out ++ text =
     c.in_ok-push_fault.ensures.text in
     record {
       text = taken_more fault_json c.args.faults.now c.loop-at.at no_fault (string_bytes c.args.out.now)
           (string_bytes c.loop-at.out) (string_bytes c.push_fault.new.out) text c.loop-at-test.true
           c.loop-at.invariant.text refl
-          (told ∙ ap (λ (t : List ℕ). t ++ text) c.in_ok-write_comma.ensures);
+          (listed ∙ ap (λ (t : List ℕ). t ++ text) c.in_ok-write_comma.ensures);
       kept = kept;
     }

@@ -1,8 +1,8 @@
 use Rattle.std.proofs.Common.{◌≡◌, List, [], ◌∷◌, ◌++◌, length, map, arith, subst, ap, ◌∙◌, append_assoc}
 use Rattle.std.specs.Prelude.{option_map}
-use Rattle.promise_steps.specs.Underway.{Under, advanced, begun_by, rested}
+use Rattle.promise_steps.specs.Underway.{Under, advanced, started_by, rested}
 use Rattle.kept_promises.specs.Watched.{under_of}
-use Rattle.kept_promises.proofs.Each.{split_at, all_taken, map_pushed, with_begun, at_pushed, at_last, at_taken}
+use Rattle.kept_promises.proofs.Each.{split_at, all_taken, map_pushed, with_started, at_pushed, at_last, at_taken}
 use Rattle.kept_promises.proofs.promising.Promising.step.Goals as goal
 
 pub loop-one-preserved : goal.loop-one-preserved
@@ -31,14 +31,14 @@ returns-clause-advanced g c kind s next all here known goes =
     let taken = all_taken c.loop-one.yielded c.loop-one.one-iterator.rest.items items
     (omega (arith, c.in-None.ensures.steps.0, c.loop-one.one-iterator.rest.ok.0)) c.loop-one.invariant.parts in
     ap (map under_of) c.in_ok-with_last.ensures
-    ∙ with_begun c.loop-one.underway.items c.in_ok-begun.begun
+    ∙ with_started c.loop-one.underway.items c.in_ok-started.started
     (map (λ (u : Under). advanced u s act next) (map under_of items))
-    (option_map (λ (u : Under). rested u next) (begun_by c.args.self.is_durable c.args.step.now.line act next))
+    (option_map (λ (u : Under). rested u next) (started_by c.args.self.is_durable c.args.step.now.line act next))
     (c.loop-one.invariant.made kind s next (at_taken s c.loop-one.yielded items taken all) here known goes
     ∙ ap (λ xs. map (λ (u : Under). advanced u s act next) (map under_of xs)) taken)
-    (c.in_ok-begun.ensures.begun next here)
+    (c.in_ok-started.ensures.started next here)
 
 pub returns-clause-at : goal.returns-clause-at
 returns-clause-at g c next here =
-    at_last next c.loop-one.underway.items _ c.in_ok-begun.begun c.in_ok-with_last.ensures
-    (c.loop-one.invariant.at next here) (c.in_ok-begun.ensures.at next here)
+    at_last next c.loop-one.underway.items _ c.in_ok-started.started c.in_ok-with_last.ensures
+    (c.loop-one.invariant.at next here) (c.in_ok-started.ensures.at next here)

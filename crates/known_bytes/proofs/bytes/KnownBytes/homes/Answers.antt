@@ -28,8 +28,9 @@ returns-in_default-clause-ok g c =
     let none = subst (λ (o : Option _). MatchOption o (HasNoHeader f at) (λ ts. HasTargets f at ts.items))
     c.in_default.is
     c.in_ok-targets.ensures.ok in
-    walking_end f c.loop-at.homes.blocks c.loop-at.homes.others c.loop-at.homes.asks at c.loop-at.turn c.loop-at.comes
-    c.base.ensures.alike (λ set m. none set m c.loop-at.turn) c.loop-at.invariant
+    walking_end f c.loop-at.homes.blocks c.loop-at.homes.others c.loop-at.homes.asks at c.loop-at.transaction
+    c.loop-at.comes
+    c.base.ensures.alike (λ set m. none set m c.loop-at.transaction) c.loop-at.invariant
 
 pub returns-then-not-may_have-clause-ok : goal.returns-then-not-may_have-clause-ok
 returns-then-not-may_have-clause-ok g c =
@@ -42,7 +43,8 @@ returns-then-not-may_have-clause-ok g c =
     ap (λ (d : Disk). may_have d at ts) (sym c.base-in-loop-at.ensures.base)
     ∙ ap (λ (xs : List ℕ). may_have c.base-in-loop-at.result.now at xs) (sym c.deref.ensures.0)
     ∙ sym c.may_have.ensures ∙ c.if-not-may_have.true in
-    walking_end f c.loop-at.homes.blocks c.loop-at.homes.others c.loop-at.homes.asks at c.loop-at.turn c.loop-at.comes
+    walking_end f c.loop-at.homes.blocks c.loop-at.homes.others c.loop-at.homes.asks at c.loop-at.transaction
+    c.loop-at.comes
     c.base.ensures.alike (λ set m. none_may f at ts c.base.ensures.alike shape never
     (omega (
       arith,
@@ -51,7 +53,7 @@ returns-then-not-may_have-clause-ok g c =
       c.journal-end.ensures.value,
       c.base.ensures.disk.room,
     ))
-    set m c.loop-at.turn) c.loop-at.invariant
+    set m c.loop-at.transaction) c.loop-at.invariant
 
 pub has_header-is_there-requires-clause-targets : goal.has_header-is_there-requires-clause-targets
 has_header-is_there-requires-clause-targets g c =
@@ -65,11 +67,11 @@ pub returns-then-eq-clause-ok : goal.returns-then-eq-clause-ok
 returns-then-eq-clause-ok g c =
     let f = c.args.self.now in
     let at = c.loop-at.at in
-    let turn = c.loop-at.turn in
-    let none = subst (λ (r : Result Bool ℕ). IsKnown (left f) (λ d. is_header d at turn (block_of d at)) r)
+    let transaction = c.loop-at.transaction in
+    let none = subst (λ (r : Result Bool ℕ). IsKnown (left f) (λ d. is_header d at transaction (block_of d at)) r)
     (is_none c.has_header-is_there.result c.if-eq.ensures)
     c.has_header-is_there.ensures in
-    walking_end f c.loop-at.homes.blocks c.loop-at.homes.others c.loop-at.homes.asks at turn c.loop-at.comes
+    walking_end f c.loop-at.homes.blocks c.loop-at.homes.others c.loop-at.homes.asks at transaction c.loop-at.comes
     c.base.ensures.alike none c.loop-at.invariant
 
 pub note-requires-clause-known : goal.note-requires-clause-known
@@ -88,21 +90,23 @@ pub note-requires-clause-patch : goal.note-requires-clause-patch
 note-requires-clause-patch g c =
     let f = c.args.self.now in
     let at = c.loop-at.at in
-    let turn = c.loop-at.turn in
+    let transaction = c.loop-at.transaction in
     let test = c.loop-at.invariant.test in
-    let read = c.both-is_read.ensures (left f) (λ d. is_header d at turn (block_of d at)) test
+    let read = c.both-is_read.ensures (left f) (λ d. is_header d at transaction (block_of d at)) test
     c.has_header-is_there.ensures
     c.loop-at.invariant.known in
-    err_small f (λ d. (is_header d at turn (block_of d at) && test d) && (byte d at 0 == 0xC7)) c.both-copied.result
+    err_small f (λ d. (is_header d at transaction (block_of d at) && test d) && (byte d at 0 == 0xC7))
+    c.both-copied.result
     c.base.ensures.few
-    (c.both-copied.ensures (left f) (λ d. is_header d at turn (block_of d at) && test d) (λ d. byte d at 0 == 0xC7) read
+    (c.both-copied.ensures (left f) (λ d. is_header d at transaction (block_of d at) && test d)
+    (λ d. byte d at 0 == 0xC7) read
     c.byte_is.ensures)
 
 pub loop-at-preserved : goal.loop-at-preserved
 loop-at-preserved g c =
     let f = c.args.self.now in
     let at = c.loop-at.at in
-    let turn = c.loop-at.turn in
+    let transaction = c.loop-at.transaction in
     let ts = c.in-Some.targets.items in
     let test = c.loop-at.invariant.test in
     let shape = subst (λ (o : Option _). MatchOption o (HasNoHeader f at) (λ ts. HasTargets f at ts.items)) c.in-Some.is
@@ -111,18 +115,19 @@ loop-at-preserved g c =
     ap (λ (d : Disk). may_have d at ts) (sym c.base-in-loop-at.ensures.base)
     ∙ ap (λ (xs : List ℕ). may_have c.base-in-loop-at.result.now at xs) (sym c.deref.ensures.0)
     ∙ sym c.may_have.ensures ∙ c.if-not-may_have.false in
-    let read = c.both-is_read.ensures (left f) (λ d. is_header d at turn (block_of d at)) test
+    let read = c.both-is_read.ensures (left f) (λ d. is_header d at transaction (block_of d at)) test
     c.has_header-is_there.ensures
     c.loop-at.invariant.known in
-    let copied = c.both-copied.ensures (left f) (λ d. is_header d at turn (block_of d at) && test d)
+    let copied = c.both-copied.ensures (left f) (λ d. is_header d at transaction (block_of d at) && test d)
     (λ d. byte d at 0 == 0xC7) read c.byte_is.ensures in
-    let next = c.both-comes.ensures (left f) test (λ d. is_header d at turn (block_of d at)) c.loop-at.invariant.known
+    let next =
+    c.both-comes.ensures (left f) test (λ d. is_header d at transaction (block_of d at)) c.loop-at.invariant.known
     c.has_header-is_there.ensures in
     let new = c.note.new.self in
-    subst (λ (n : ℕ). IsWalking f new.blocks new.others new.asks (at + (1 + n)) (turn + 1) c.both-comes.result)
+    subst (λ (n : ℕ). IsWalking f new.blocks new.others new.asks (at + (1 + n)) (transaction + 1) c.both-comes.result)
     (sym c.len.ensures.value)
     (walking_step f c.loop-at.homes.blocks c.loop-at.homes.others new.blocks new.others c.loop-at.homes.asks new.asks
-    at turn c.loop-at.comes ts c.base.ensures.disk c.base.ensures.alike c.loop-at.invariant may shape
+    at transaction c.loop-at.comes ts c.base.ensures.disk c.base.ensures.alike c.loop-at.invariant may shape
     c.has_header-is_there.result c.both-copied.result c.both-comes.result c.has_header-is_there.ensures copied next
     (subst (λ (xs : List ℕ). AreNoted c.both-copied.result c.loop-at.homes.blocks c.loop-at.homes.others new.blocks
     new.others (at + 1) xs) c.deref-in-loop-at-2.ensures.0 c.note.ensures.noted) c.note.ensures.asks)
@@ -130,9 +135,9 @@ loop-at-preserved g c =
 pub returns-clause-ok : goal.returns-clause-ok
 returns-clause-ok g c =
     let f = c.args.self.now in
-    walking_end f c.loop-at.homes.blocks c.loop-at.homes.others c.loop-at.homes.asks c.loop-at.at c.loop-at.turn
+    walking_end f c.loop-at.homes.blocks c.loop-at.homes.others c.loop-at.homes.asks c.loop-at.at c.loop-at.transaction
     c.loop-at.comes c.base.ensures.alike
-    (out_of_journal f c.loop-at.at c.loop-at.turn c.base.ensures.alike
+    (out_of_journal f c.loop-at.at c.loop-at.transaction c.base.ensures.alike
     (omega (
       arith,
       c.loop-at-test.false,

@@ -3,7 +3,7 @@ use Rattle.std.proofs.lemmas.Bool.{cases_lt}
 use Rattle.patch_sets.specs.Sets.{Has}
 use Rattle.known_bytes.specs.Reading.{IsKnown}
 use Rattle.known_bytes.specs.Reached.{names_live}
-use Rattle.known_bytes.specs.declared.reach.Reach.{Reach}
+use Rattle.known_bytes.specs.declared.reach.ReachedInodes.{ReachedInodes}
 use Rattle.known_bytes.proofs.Named.{IsReading, reading_on, reading_add, few_live, known_few}
 use Rattle.known_bytes.proofs.disk.KnownDisk.read.Goals as goal
 use Rattle.known_bytes.proofs.disk.KnownDisk.read.Goals.{then-not-is_settled, else-not-is_settled}
@@ -44,13 +44,13 @@ loop-inode-preserved g c =
           (subst (λ (k : ℕ). IsKnown r (names_live dir k) w.names_live-named.result) (sym from_inode.ensures)
           w.names_live-named.ensures) in
           let new = w.add.new.self in
-          subst (λ (x : Reach). IsReading r dir (i + 1) before x.sure x.may x.asks) (sym w.reach-is)
+          subst (λ (x : ReachedInodes). IsReading r dir (i + 1) before x.sure x.may x.asks) (sym w.reach-is)
           (reading_add r dir i before was.sure was.may was.asks c.loop-inode.invariant new.sure new.may new.asks
           w.names_live-named.result (w.add.ensures.reach r c.loop-inode.invariant.reach known) w.add.ensures.grown
           (subst (λ (k : ℕ). (w.names_live-named.result ≡ Ok false) ⊎ Has new.may k) from_inode.ensures
           w.add.ensures.added) w.names_live-named.ensures)
       | else-not-is_settled w ↦
-          subst (λ (x : Reach). IsReading r dir (i + 1) before x.sure x.may x.asks) (sym w.reach-is)
+          subst (λ (x : ReachedInodes). IsReading r dir (i + 1) before x.sure x.may x.asks) (sym w.reach-is)
           (reading_on r dir i before was.sure was.may was.asks c.loop-inode.invariant
           (subst (λ (k : ℕ). Has was.may k) c.from-in-loop-inode.ensures
           (c.is_settled.ensures w.if-not-is_settled.false)))

@@ -9,14 +9,14 @@ use Rattle.order_modules.proofs.log.PatchLog.emit_copies.Goals as goal
 pub emit-requires-clause-room : goal.emit-requires-clause-room
 emit-requires-clause-room g c =
     let transaction = c.args.transaction in
-    copies_space c.args.self.now c.loop-target.self c.args.after.now transaction.turn (transaction.header + 1)
+    copies_space c.args.self.now c.loop-target.self c.args.after.now transaction.op_number (transaction.header + 1)
     (origin_by transaction.origin) c.args.targets.now c.loop-target.target-index c.loop-target.invariant.adds
     c.loop-target-test.true c.requires.room
 
 pub loop-target-preserved : goal.loop-target-preserved
 loop-target-preserved g c = let transaction = c.args.transaction in record {
   block = omega (arith, c.loop-target.invariant.block);
-  adds = copies_next c.args.self.now c.loop-target.self c.args.after.now transaction.turn (transaction.header + 1)
+  adds = copies_next c.args.self.now c.loop-target.self c.args.after.now transaction.op_number (transaction.header + 1)
       (origin_by transaction.origin) c.args.targets.now c.loop-target.target-index c.loop-target.invariant.adds
       c.emit.new.self c.loop-target.block (get_or c.args.targets.now c.loop-target.target-index 0) c.from.result
       c.block.result.now c.loop-target-test.true c.loop-target.invariant.block c.from.ensures refl

@@ -7,6 +7,6 @@ use Rattle.order_modules.proofs.log.PatchLog.emit_copies.Given as goal
 abbrev pub invariant-loop-target : goal.invariant-loop-target
 invariant-loop-target g l = record {
   block : l.block ≡ l.transaction.header + 1 + l.target-index;
-  adds : Adds l.initial.self l.self (copies l.after l.transaction.turn (l.transaction.header + 1)
+  adds : Adds l.initial.self l.self (copies l.after l.transaction.op_number (l.transaction.header + 1)
       (origin_by l.transaction.origin) (take l.target-index l.targets));
 }

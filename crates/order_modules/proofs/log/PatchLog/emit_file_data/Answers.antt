@@ -15,14 +15,14 @@ emit-requires-clause-room g c =
     let t : is_ahead c.args.self.now.kind x ≡ true = ahead_read c.args.self.now.kind c.loop-change.self.kind
     c.module.result x true c.module.ensures c.loop-change.invariant.kind c.if-is_ahead.ensures in
     chosen_space c.args.self.now c.loop-change.self (is_ahead c.args.self.now.kind)
-    (file_data c.args.turn (origin_by c.args.origin)) c.args.changes.now c.loop-change.change-index x
+    (file_data c.args.op_number (origin_by c.args.origin)) c.args.changes.now c.loop-change.change-index x
     c.loop-change-test.true c.change-item.is c.loop-change.invariant (t) c.requires.room
 
 pub loop-change-preserved : goal.loop-change-preserved
 loop-change-preserved g c =
     let old = c.args.self.now in let now = c.loop-change.self in let x = c.change-item.result in
-    let turn = c.args.turn in let origin = origin_by c.args.origin in let i = c.loop-change.change-index in
-    let p = is_ahead c.args.self.now.kind in let f = file_data c.args.turn (origin_by c.args.origin) in
+    let op_number = c.args.op_number in let origin = origin_by c.args.origin in let i = c.loop-change.change-index in
+    let p = is_ahead c.args.self.now.kind in let f = file_data c.args.op_number (origin_by c.args.origin) in
     let next : Log → Type 0 = λ log. Adds old log (map f (filter p (take (i + 1) c.args.changes.now))) in
     let same : is_ahead old.kind x ≡ c.is_ahead.result = ahead_read old.kind now.kind c.module.result x
     c.is_ahead.result c.module.ensures c.loop-change.invariant.kind c.is_ahead.ensures in
@@ -30,8 +30,8 @@ loop-change-preserved g c =
       | then-is_ahead+in_ok-emit w ↦
           let t : is_ahead old.kind x ≡ true = same ∙ w.if-is_ahead.true in
           let one = adds-same now w.emit.new.self _ (f x ∷ [])
-          (ap (λ (new : List ℕ). part_of turn origin w.data_part.result x.block x.offset new ∷ [])
-          w.as_slice.ensures.value ∙ ap (λ (p : Part). part_of turn origin p x.block x.offset x.new.items ∷ [])
+          (ap (λ (new : List ℕ). part_of op_number origin w.data_part.result x.block x.offset new ∷ [])
+          w.as_slice.ensures.value ∙ ap (λ (p : Part). part_of op_number origin p x.block x.offset x.new.items ∷ [])
           w.data_part.ensures) w.in_ok-emit.ensures.ok in
           subst next (sym w.self-is) (chosen_next old now p f c.args.changes.now i x c.loop-change-test.true
           c.change-item.is c.loop-change.invariant w.emit.new.self (t) one)

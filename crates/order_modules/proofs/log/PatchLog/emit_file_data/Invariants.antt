@@ -6,4 +6,5 @@ use Rattle.order_modules.proofs.log.PatchLog.emit_file_data.Given as goal
 
 abbrev pub invariant-loop-change : goal.invariant-loop-change
 invariant-loop-change g l = Adds l.initial.self l.self
-    (map (file_data l.turn (origin_by l.origin)) (changes_ahead l.initial.self.kind (take l.change-index l.changes)))
+    (map (file_data l.op_number (origin_by l.origin))
+    (changes_ahead l.initial.self.kind (take l.change-index l.changes)))

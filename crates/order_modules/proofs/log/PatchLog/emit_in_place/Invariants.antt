@@ -7,5 +7,5 @@ use Rattle.order_modules.proofs.log.PatchLog.emit_in_place.Given as goal
 
 abbrev pub invariant-loop-change : goal.invariant-loop-change
 invariant-loop-change g l = Adds l.initial.self l.self
-    (map (in_place_patch l.turn (origin_by l.origin)) (changes_in_place l.initial.self.kind
+    (map (in_place_patch l.op_number (origin_by l.origin)) (changes_in_place l.initial.self.kind
     (take l.change-index l.changes)))

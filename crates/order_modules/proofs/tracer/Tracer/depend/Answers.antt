@@ -40,7 +40,7 @@ returns-clause-ok g c =
     let later = c.args.later.now in
     let earlier = c.args.earlier.now in
     let line = c.args.line in
-    let old : Trace = trace_of i.log i.disk i.turn i.next (group_by i.current) (names_by i.opened.items)
+    let old : Trace = trace_of i.log i.disk i.op_number i.next (group_by i.current) (names_by i.opened.items)
     (names_by i.ended.items) i.forced (waits_by i.waits.items) in
     let a : Bool = not (is_among earlier (names_by i.ended.items)) in
     let b : Bool = bytes_eq later earlier in
@@ -48,7 +48,7 @@ returns-clause-ok g c =
     let among = among_read old earlier i.ended.items c.as_slice.result.now c.is_among.result (names_by i.ended.items)
     c.is_among.ensures c.as_slice.ensures.value refl in
     let linked = c.in_ok-link.ensures.ok in
-    subst (λ (t : Trace). Moves t (trace_of c.link.new.self i.disk i.turn i.next (group_by i.current)
+    subst (λ (t : Trace). Moves t (trace_of c.link.new.self i.disk i.op_number i.next (group_by i.current)
     (names_by i.opened.items) (names_by i.ended.items) i.forced (waits_by i.waits.items))
     (unless (not (is_among earlier t.tracing.ended) || bytes_eq later earlier
     || list_any (λ e. is_same_group e.origin.group later) t.tracing.emitted) (fault.GroupFault line)
@@ -58,7 +58,7 @@ returns-clause-ok g c =
       kind = ap (λ (l : Log). l.kind) linked;
       rules = ap (λ (l : Log). l.rules) linked;
       whole = ap (λ (l : Log). l.whole) linked;
-      turns = omega arith;
+      op_numbers = omega arith;
       answered = accepted (a || b || p) (fault.GroupFault line) _
           (or_neither (a || b) p (or_neither a b (ap not (among ∙ c.if-not-is_among.false))
           (sym c.is_same.ensures ∙ c.if-is_same.false)) (sym c.has_patch_in.ensures ∙ c.if-has_patch_in.false))

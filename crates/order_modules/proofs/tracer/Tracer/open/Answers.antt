@@ -33,7 +33,7 @@ returns-clause-ok g c =
     let i = c.self.inside in
     let s = c.args.self.now.tracing in
     let name = c.args.name.now in
-    let old : Trace = trace_of i.log i.disk i.turn i.next (group_by i.current) (names_by i.opened.items)
+    let old : Trace = trace_of i.log i.disk i.op_number i.next (group_by i.current) (names_by i.opened.items)
     (names_by i.ended.items) i.forced (waits_by i.waits.items) in
     let line = c.args.line in
     let current : is_some (group_by i.current) ≡ false = some_group i.current ∙ sym c.is_some.ensures
@@ -41,7 +41,7 @@ returns-clause-ok g c =
     let among : is_among name (names_by i.opened.items) ≡ false =
     among_read old name i.opened.items c.as_slice.result.now c.is_among.result (names_by i.opened.items)
     c.is_among.ensures c.as_slice.ensures.value refl ∙ c.if-is_among.false in
-    subst (λ (t : Trace). Moves t (trace_of i.log i.disk i.turn i.next (Some name) (names_by c.push.new.self.items)
+    subst (λ (t : Trace). Moves t (trace_of i.log i.disk i.op_number i.next (Some name) (names_by c.push.new.self.items)
     (names_by i.ended.items) i.forced (waits_by i.waits.items))
     (unless (is_some t.tracing.current || is_among name t.tracing.opened) (fault.GroupFault line)
     (Ok (record t.tracing { current = Some name; opened = t.tracing.opened ++ name ∷ [] })))) c.self.view_is
@@ -50,7 +50,7 @@ returns-clause-ok g c =
       kind = refl;
       rules = refl;
       whole = refl;
-      turns = omega arith;
+      op_numbers = omega arith;
       answered = accepted (is_some (group_by i.current) || is_among name (names_by i.opened.items))
           (fault.GroupFault line) _ (or_neither (is_some (group_by i.current)) (is_among name (names_by i.opened.items))
           current among)

@@ -12,9 +12,10 @@ returns g c =
     let i = c.self.inside in
     let step = c.args.step in
     let ids = c.args.ids in
-    let old : Trace = trace_of i.log i.disk i.turn i.next (group_by i.current) (names_by i.opened.items)
+    let old : Trace = trace_of i.log i.disk i.op_number i.next (group_by i.current) (names_by i.opened.items)
     (names_by i.ended.items) i.forced (waits_by i.waits.items) in
-    subst (λ (t : Trace). Moves t (trace_of i.log i.disk i.turn i.next (group_by i.current) (names_by i.opened.items)
+    subst (λ (t : Trace). Moves t
+    (trace_of i.log i.disk i.op_number i.next (group_by i.current) (names_by i.opened.items)
     (names_by i.ended.items) (bit_or i.forced ids) (waits_by c.push.new.self.items))
     (Ok (with_wait step.now.line step.now.act ids t.tracing))) c.self.view_is
     (record {
@@ -22,7 +23,7 @@ returns g c =
       kind = refl;
       rules = refl;
       whole = refl;
-      turns = omega arith;
+      op_numbers = omega arith;
       answered = ap (λ (ws : List waiting.Wait). Ok (record old.tracing { forced = bit_or i.forced ids; waits = ws }))
           (sym (waits_push i.waits.items c.push.new.self.items (record { step = step; ids = ids })
           c.in_ok-push.ensures.items));

@@ -38,13 +38,13 @@ emit_transaction-requires-clause-known g c =
 
 pub invariant_of-self : goal.invariant_of-self
 invariant_of-self g c = trace_kept _ _ c.emit_transaction.new.self c.apply.new.image c.args.plan.now.items
-    c.self.inside.turn c.self.inside.next c.self.view_is c.self.invariant c.emit_transaction.ensures.kept
+    c.self.inside.op_number c.self.inside.next c.self.view_is c.self.invariant c.emit_transaction.ensures.kept
     c.requires.inside c.apply.ensures.changes
     (omega arith) c.self.invariant.to c.self.invariant.counted
 
 pub invariant_of-self-2 : goal.invariant_of-self-2
 invariant_of-self-2 g c = trace_kept _ _ c.emit_transaction.new.self c.apply.new.image c.args.plan.now.items
-    (c.self.inside.turn + 1) (c.self.inside.next + 1 + c.len.result) c.self.view_is c.self.invariant
+    (c.self.inside.op_number + 1) (c.self.inside.next + 1 + c.len.result) c.self.view_is c.self.invariant
     c.emit_transaction.ensures.kept c.requires.inside c.apply.ensures.changes
     (omega arith) (omega (arith, c.if-next-journal.false, c.journal.ensures.value))
     (λ j. omega (arith, c.self.invariant.counted j))
@@ -52,7 +52,7 @@ invariant_of-self-2 g c = trace_kept _ _ c.emit_transaction.new.self c.apply.new
 pub returns-clause-ok : goal.returns-clause-ok
 returns-clause-ok g c =
     let i = c.self.inside in
-    let old : Trace = trace_of i.log i.disk i.turn i.next (group_by i.current) (names_by i.opened.items)
+    let old : Trace = trace_of i.log i.disk i.op_number i.next (group_by i.current) (names_by i.opened.items)
     (names_by i.ended.items) i.forced (waits_by i.waits.items) in
     let cs = c.args.plan.now.items in
     let targets = c.touched_by-targets.result.items in
@@ -60,14 +60,14 @@ returns-clause-ok g c =
     let are = subst (λ (t : Trace). targets ≡ targets_of t.log.kind t.tracing.disk.blocks cs) (sym c.self.view_is)
     c.touched_by-targets.ensures in
     let room = c.has_room.ensures.0 c.if-not-has_room.false in
-    let adds = transaction_read i.log c.emit_transaction.new.self c.apply.new.image i.turn i.next
+    let adds = transaction_read i.log c.emit_transaction.new.self c.apply.new.image i.op_number i.next
     (origin_at c.args.line c.args.op.now (group_by i.current) i.forced) targets c.as_slice.result.now cs
     c.as_slice-2.result.now c.in_ok-emit_transaction.ensures.ok c.as_slice.ensures.value
     c.as_slice-2.ensures.value in
-    subst (λ (t : Trace). Moves t (trace_of c.emit_transaction.new.self c.apply.new.image (i.turn + 1)
+    subst (λ (t : Trace). Moves t (trace_of c.emit_transaction.new.self c.apply.new.image (i.op_number + 1)
     (i.next + 1 + c.len.result) (group_by i.current) (names_by i.opened.items) (names_by i.ended.items) i.forced (waits_by i.waits.items))
     (trace_of_plan t.log.kind c.args.line c.args.op.now t.tracing (Ok cs))) c.self.view_is
-    (moves_journaled old c.args.line c.args.op.now cs c.emit_transaction.new.self c.apply.new.image (i.turn + 1)
+    (moves_journaled old c.args.line c.args.op.now cs c.emit_transaction.new.self c.apply.new.image (i.op_number + 1)
     (i.next + 1 + c.len.result) refl refl refl c.apply.ensures.changes targets order are adds refl
     (omega (arith, c.len.ensures.value)) (omega (arith, c.if-next-journal.false, c.journal.ensures.value))
     (omega (arith, room, c.len-2.ensures.value, c.len-3.ensures.value)))

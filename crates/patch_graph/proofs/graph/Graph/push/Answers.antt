@@ -8,9 +8,9 @@ use Rattle.patch_sets.proofs.Bits.{in_or_cases, in_or_left, in_or_right}
 use Rattle.crash_model.specs.declared.patches.Patch.{Patch}
 use Rattle.patch_graph.specs.Graph.{IsGraph, IsPatch, OverlapsAt, AddsOverlaps}
 use Rattle.crash_model.specs.Patches.{deps_of, homes_of}
-use Rattle.patch_graph.specs.Apart.{AreApart, AddsId}
+use Rattle.patch_graph.specs.Independent.{AreIndependent, AddsId}
 use Rattle.patch_graph.specs.Homes.{AreAtBlocks}
-use Rattle.patch_graph.proofs.Apart.{apart_push}
+use Rattle.patch_graph.proofs.Independent.{apart_push}
 use Rattle.patch_graph.proofs.Homes.{patch_push}
 use Rattle.patch_graph.proofs.Patches.{graph_push}
 use Rattle.patch_graph.proofs.graph.Graph.push.Goals as goal
@@ -82,15 +82,18 @@ invariant_of-self-2 g c =
     let count : c.len-id.result ≡ length deps = omega (arith, long, c.len-id.ensures, c.self.inside.patches.ok.0) in
     let known : (id : ℕ) → Has own id → id < length deps = λ id is. let less =
     known_ids patches c.args.patch c.overlapped_by.result exact earlier id is in omega (arith, less, long) in
-    let masks : AddsId (length deps) own c.self.inside.apart c.take_out.new.apart =
-    subst (λ n. AddsId n own c.self.inside.apart c.take_out.new.apart) count c.take_out.ensures in
-    let more : AreApart (deps ++ own ∷ []) c.take_out.new.apart =
-    apart_push deps c.self.inside.apart c.take_out.new.apart own c.self.invariant.1 c.self.invariant.0.earlier known
+    let masks : AddsId (length deps) own c.self.inside.independent c.take_out.new.independent =
+    subst (λ n. AddsId n own c.self.inside.independent c.take_out.new.independent) count c.take_out.ensures in
+    let more : AreIndependent (deps ++ own ∷ []) c.take_out.new.independent =
+    apart_push deps c.self.inside.independent c.take_out.new.independent own c.self.invariant.1
+    c.self.invariant.0.earlier known
     (omega (arith, room, long)) masks in (
       subst IsGraph (sym c.in_ok-push.ensures.items) (keeps patches c.args.patch c.overlapped_by.result exact
           c.self.invariant.0 room c.requires.whole earlier),
-      subst (λ (xs : List Patch). AreApart (deps_of xs) c.take_out.new.apart) (sym c.in_ok-push.ensures.items)
-          (subst (λ (ds : List ℕ). AreApart ds c.take_out.new.apart) (sym (map_push (λ x. x.deps) patches added)) more),
+      subst (λ (xs : List Patch). AreIndependent (deps_of xs) c.take_out.new.independent)
+          (sym c.in_ok-push.ensures.items)
+          (subst (λ (ds : List ℕ). AreIndependent ds c.take_out.new.independent)
+          (sym (map_push (λ x. x.deps) patches added)) more),
       subst (λ (xs : List Patch). AreAtBlocks (homes_of xs)
           (set c.self.inside.at_block c.from-block.result c.with.result)) (sym c.in_ok-push.ensures.items)
           (patch_push patches added c.self.inside.at_block c.from-block.result c.len-id.result c.with.result

@@ -17,6 +17,7 @@ demands-requires g c = traced (search_by c.args.self.now.judge.now) c.args.place
 pub returns : goal.returns
 returns g c =
     fails_by (search_by c.args.self.now.judge.now) c.args.places.now.items c.deref.result.now c.deref-2.result.now
-    c.in_ok-traced.traced c.in_ok-told.told (c.deref.ensures.value ∙ c.in_ok-steps.ensures)
-    (c.deref-2.ensures.value ∙ c.in_ok-steps.ensures) c.in_ok-traced.ensures.traced c.in_ok-told.ensures c.args.group
+    c.in_ok-traced.traced c.in_ok-demanded.demanded (c.deref.ensures.value ∙ c.in_ok-steps.ensures)
+    (c.deref-2.ensures.value ∙ c.in_ok-steps.ensures) c.in_ok-traced.ensures.traced
+    c.in_ok-demanded.ensures c.args.group
     c.in_ok-fails.fails c.in_ok-fails.ensures

@@ -1,7 +1,7 @@
 use Rattle.std.proofs.Common.{◌≡◌, ℕ, ◌++◌, string_bytes, ap, ◌∙◌}
 use Rattle.std.proofs.lemmas.Result.{on_ok_weaker}
 use Rattle.report_model.specs.JsonParts.{Form}
-use Rattle.question_model.specs.ToldDecided.{decided_json}
+use Rattle.question_model.specs.ListedFault.{decided_json}
 use Rattle.report_sections.specs.Sections.{section_of}
 use Rattle.json_values.specs.Items.{crash_json}
 use Rattle.question_reports.proofs.DecisionPieces.{fault_pieces}

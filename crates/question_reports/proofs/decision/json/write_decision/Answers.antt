@@ -8,10 +8,10 @@ returns g c =
     let wrote = c.in_ok-write_faults.ensures in
     let number : c.len-patches.result ≡ length decision.traced.now.patches = cc in
     record {
-      told = wrote.told;
+      listed = wrote.listed;
       of_faults = wrote.of_faults;
       firsts = wrote.firsts;
-      whole = json_pieces decision c.len-patches.result wrote.told _ _ _ _ _ _ _ _ _ _ _ _ number c.requires.empty
+      whole = json_pieces decision c.len-patches.result wrote.listed _ _ _ _ _ _ _ _ _ _ _ _ number c.requires.empty
           c.in_ok-push_str.ensures.bytes (c.in_ok-write_first_keys.ensures decision.traced.now)
           c.in_ok-write.ensures.bytes c.in_ok-write_promise_keys.ensures c.in_ok-push_str-2.ensures.bytes wrote.whole
           c.in_ok-push_str-3.ensures.bytes c.in_ok-write_module.ensures c.in_ok-write_promises.ensures

@@ -22,12 +22,12 @@ loop-at-preserved g c =
     let faults = c.args.faults.now in
     let before = c.loop-at.invariant in
     let wrote = c.in_ok-write_fault.ensures in
-    let told = wrote.told in
+    let listed = wrote.listed in
     let is = subst (λ (m : Reported). IsSection m.detail m.base m.patches (get_or faults c.loop-at.at no_fault).first
-    told.0) before.maker told.1 in
+    listed.0) before.maker listed.1 in
     record {
-      told = object_more maker.detail maker.base maker.patches faults c.loop-at.at no_fault _ _ _ told.0
-          c.loop-at-test.true is c.loop-at.known c.args.known.now before.known before.told told.2;
+      listed = object_more maker.detail maker.base maker.patches faults c.loop-at.at no_fault _ _ _ listed.0
+          c.loop-at-test.true is c.loop-at.known c.args.known.now before.known before.listed listed.2;
       maker = wrote.maker ∙ before.maker;
       known = wrote.known ∙ before.known;
     }

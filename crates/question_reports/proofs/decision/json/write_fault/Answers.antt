@@ -1,13 +1,13 @@
 use Rattle.std.proofs.Common.{◌≡◌, List, ℕ, ◌++◌, string_bytes, ap, ◌∙◌}
 use Rattle.std.proofs.lemmas.Result.{on_ok_weaker}
-use Rattle.question_model.specs.ToldDecided.{decided_json}
+use Rattle.question_model.specs.ListedFault.{decided_json}
 use Rattle.report_sections.specs.Sections.{section_of, IsSection}
 use Rattle.report_sections.specs.declared.section.Section.{Section}
 use Rattle.json_values.specs.Items.{comma_before}
 use Rattle.question_reports.proofs.decision.json.write_fault.Goals as goal
 
-pub returns-clause-told : goal.returns-clause-told
-returns-clause-told g c =
+pub returns-clause-listed : goal.returns-clause-listed
+returns-clause-listed g c =
     let section = c.in_ok-section.section in
     let n = c.args.known.now in
     let decided = c.args.decided in
@@ -20,6 +20,6 @@ returns-clause-told g c =
     c.push_decided.result
     (λ wrote. (
       section,
-      c.in_ok-section.ensures.told,
+      c.in_ok-section.ensures.listed,
       wrote ∙ ap (λ (t : List ℕ). t ++ object) c.in_ok-write_comma.ensures,
     )) c.push_decided.ensures.text

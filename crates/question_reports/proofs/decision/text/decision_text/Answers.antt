@@ -5,9 +5,9 @@ pub returns : goal.returns
 returns g c =
     let wrote = c.in_ok-write_faults.ensures in
     record {
-      told = wrote.told;
+      listed = wrote.listed;
       of_faults = wrote.of_faults;
       firsts = wrote.firsts;
-      whole = text_pieces c.args.decision.now wrote.told _ _ _ c.new-out.ensures.bytes
+      whole = text_pieces c.args.decision.now wrote.listed _ _ _ c.new-out.ensures.bytes
           (c.in_ok-write_head.ensures c.args.decision.now.base.now) wrote.whole;
     }

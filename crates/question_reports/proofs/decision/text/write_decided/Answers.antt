@@ -12,6 +12,6 @@ pub returns : goal.returns
 returns g c =
     three_pieces (string_bytes c.args.out.now) _ _ _ (line (codes "fault " ++ fault_text c.args.decided.fault)) _
     (crash_text c.args.patches (section_of c.args.section.now)) c.in_ok-write.ensures.bytes
-    (c.in_ok-write_told_shows.ensures
+    (c.in_ok-write_if_shown.ensures
     ∙ ap (λ (shows : List (List Shown)). string_bytes c.write.new.self ++ flat_map shows_text shows) c.shows_of.ensures)
     c.in_ok-write_crash.ensures

@@ -21,11 +21,12 @@ loop-decided-preserved g c =
     let maker = c.args.maker.now in
     let faults = c.args.faults.now in
     let before = c.loop-decided.invariant in
-    let told = c.in_ok-write_fault.ensures.told in
+    let listed = c.in_ok-write_fault.ensures.listed in
     let is = subst (λ (m : Reported). IsSection m.detail m.base m.patches
-    (get_or faults c.loop-decided.decided-index no_fault).first told.0) before.maker told.1 in
+    (get_or faults c.loop-decided.decided-index no_fault).first listed.0) before.maker listed.1 in
     record {
-      told = lines_more maker.detail maker.base maker.patches faults c.loop-decided.decided-index no_fault _ _ _ told.0
-          c.loop-decided-test.true is c.args.patches c.requires.number before.told told.2;
+      listed =
+          lines_more maker.detail maker.base maker.patches faults c.loop-decided.decided-index no_fault _ _ _ listed.0
+          c.loop-decided-test.true is c.args.patches c.requires.number before.listed listed.2;
       maker = c.in_ok-write_fault.ensures.maker ∙ before.maker;
     }

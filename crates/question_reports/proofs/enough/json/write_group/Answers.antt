@@ -4,7 +4,7 @@ use Rattle.report_model.specs.JsonParts.{Form, ids_json}
 use Rattle.report_model.specs.SectionJson.{write_json}
 use Rattle.patch_sets.specs.declared.write.BlockWrite.{BlockWrite}
 use Rattle.question_reports.specs.Chosen.{choices_of}
-use Rattle.question_reports.specs.EnoughFindings.{told_group}
+use Rattle.question_reports.specs.EnoughFindings.{listed_group}
 use Rattle.question_reports.proofs.EnoughPieces.{group_pieces}
 use Rattle.question_reports.proofs.enough.json.write_group.Goals as goal
 
@@ -18,7 +18,7 @@ returns-clause-text g c =
     ++ join_of 44 (map (write_json c.write_group_head.new.known.patches) ws)) c.deref.ensures.value in
     let writes = ap (λ (k : ℕ). string_bytes c.push_str-2.new.self
     ++ join_of 44 (map (write_json k) section.writes.items)) same in
-    group_pieces (choices_of c.args.choices) form (told_group c.args.needed.now) _ _ _ _ _ _ _ _ _
+    group_pieces (choices_of c.args.choices) form (listed_group c.args.needed.now) _ _ _ _ _ _ _ _ _
     c.in_ok-write_group_head.ensures.text c.in_ok-push_str.ensures.bytes (c.in_ok-push_set.ensures ∙ set)
     c.in_ok-push_shows.ensures c.in_ok-write_last_key.ensures c.in_ok-push_str-2.ensures.bytes
     (c.in_ok-push_writes.ensures.text ∙ (slice ∙ writes)) c.in_ok-push_str-3.ensures.bytes

@@ -3,7 +3,7 @@ use Rattle.report_model.specs.JsonParts.{Form}
 use Rattle.question_model.specs.EnoughReport.{group_json}
 use Rattle.json_values.proofs.Commas.{taken_more}
 use Rattle.question_reports.specs.Chosen.{choices_of}
-use Rattle.question_reports.specs.EnoughFindings.{told_group}
+use Rattle.question_reports.specs.EnoughFindings.{listed_group}
 use Rattle.question_reports.specs.declared.enough.findings.NeededGroup.{NeededGroup}
 use Rattle.question_reports.proofs.enough.json.write_groups.Goals as goal
 
@@ -12,11 +12,12 @@ loop-at-preserved g c =
     let choices = choices_of c.args.choices in
     let n = c.args.known.now in
     let before = c.loop-at.invariant in
-    let form : NeededGroup g.row.A.Denot → List ℕ = λ needed. group_json choices n (told_group needed) in
+    let form : NeededGroup g.row.A.Denot → List ℕ = λ needed. group_json choices n (listed_group needed) in
     let text = form c.index-groups-at.result in
     let written : string_bytes c.write_group.new.out ≡ string_bytes c.write_comma.new.out ++ text =
     c.in_ok-write_group.ensures.text
-    ∙ ap (λ (k : Form). string_bytes c.write_comma.new.out ++ group_json choices k (told_group c.index-groups-at.result))
+    ∙ ap (λ (k : Form). string_bytes c.write_comma.new.out ++ group_json choices k
+    (listed_group c.index-groups-at.result))
     before.known in
     record {
       written = taken_more form c.args.groups.now c.loop-at.at c.index-groups-at.result (string_bytes c.args.out.now)

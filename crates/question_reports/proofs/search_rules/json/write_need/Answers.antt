@@ -6,7 +6,7 @@ use Rattle.patch_sets.specs.declared.write.BlockWrite.{BlockWrite}
 use Rattle.question_model.specs.EnoughReport.{rule_choices}
 use Rattle.question_model.specs.SearchReport.{step_text}
 use Rattle.question_model.specs.Workloads.{steps_at}
-use Rattle.question_reports.specs.EnoughFindings.{group_head, told_first}
+use Rattle.question_reports.specs.EnoughFindings.{group_head, listed_first}
 use Rattle.question_reports.proofs.SearchRulesJsonPieces.{need_pieces}
 use Rattle.question_reports.proofs.search_rules.json.write_need.Goals as goal
 
@@ -16,7 +16,8 @@ returns g c =
     let known = c.write_group_head.new.known.patches in
     let made = c.in_ok-known.ensures in
     let head = ap (λ (f : Form). string_bytes c.args.out.now ++ group_head f.numbers
-    (rule_choices c.args.ordering.now.rules.items) c.args.needed.now.group (told_first c.args.needed.now.fault)) made in
+    (rule_choices c.args.ordering.now.rules.items) c.args.needed.now.group (listed_first c.args.needed.now.fault))
+    made in
     let steps = ap (λ (places : List ℕ). string_bytes c.push_str-2.new.self
     ++ join_of 44 (map (λ step. json_string (step_text step)) (steps_at pool places))) c.as_slice.ensures.value in
     let writes = ap (λ (ws : List BlockWrite). string_bytes c.push_str-3.new.self

@@ -21,9 +21,9 @@ invariant_of-seat g c = let v = c.seat.inside.seat.me.0 in let held : v.rows.hel
     let near : c.args.probe.shard < 13 = omega (arith, c.requires.probe.0) in let i = c.seat.invariant in
     let t = c.append-within.ensures.view in let at : get_or c.seat.inside.counts c.args.probe.shard 0
     ≡ length (row_of v.rows.seen c.args.probe.shard) = i.1.each c.args.probe.shard near in
-    let told : v.places ≡ c.args.self.now.places = search rules in
+    let informed : v.places ≡ c.args.self.now.places = search rules in
     let room : get_or c.seat.inside.counts c.args.probe.shard 0 < v.places =
-    omega (arith, at, told, rw (← c.seat.view_is) at c.requires.room) in (
+    omega (arith, at, informed, rw (← c.seat.view_is) at c.requires.room) in (
       (
         c.append-within.ensures.seat.1 ∙ i.0.0,
         omega (
@@ -44,9 +44,9 @@ invariant_of-seat-2 g c = let v = c.seat.inside.seat.me.0 in let held : v.rows.h
     let i = c.seat.invariant in let t = c.append-within.ensures.view in
     let at : get_or c.seat.inside.counts c.args.probe.shard 0 ≡ length (row_of v.rows.seen c.args.probe.shard) =
     i.1.each c.args.probe.shard near in
-    let told : v.places ≡ c.args.self.now.places = search rules in
+    let informed : v.places ≡ c.args.self.now.places = search rules in
     let room : get_or c.seat.inside.counts c.args.probe.shard 0 < v.places =
-    omega (arith, at, told, rw (← c.seat.view_is) at c.requires.room) in (
+    omega (arith, at, informed, rw (← c.seat.view_is) at c.requires.room) in (
       (
         c.append-within.ensures.seat.1 ∙ i.0.0,
         omega (

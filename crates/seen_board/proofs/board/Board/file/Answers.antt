@@ -12,10 +12,10 @@ pub store-requires : goal.store-requires
 store-requires g c = let same = c.load.ensures.2.0 ∙ c.loop-t.invariant.same in
     let key : c.self.inside.table.shared.key.places ≡ c.args.self.now.places = search rules in
     let inside : c.self.inside.layout.places ≡ c.args.self.now.places = search rules in
-    let told : c.loop-t.seat.me.0.places ≡ c.self.inside.layout.places = search rules in
+    let informed : c.loop-t.seat.me.0.places ≡ c.self.inside.layout.places = search rules in
     let held : c.loop-t.seat.me.0.rows.held ≡ c.args.probe.shard = search rules in
-    let mark = (c.load.ensures.2.1 c.slot-slot.result (omega (arith, told, held, c.mark-address.ensures))
-    (omega (arith, told, c.slot-slot.ensures.below))).0 in
+    let mark = (c.load.ensures.2.1 c.slot-slot.result (omega (arith, informed, held, c.mark-address.ensures))
+    (omega (arith, informed, c.slot-slot.ensures.below))).0 in
     let empty : get_or c.args.seat.now.me.0.rows.marks c.slot-slot.result 0 ≡ 0 =
     ap (λ (m : Me Unit View). get_or m.0.rows.marks c.slot-slot.result 0) (sym c.loop-t.invariant.same) ∙ sym mark
     ∙ c.if-load-eq0.true in (

@@ -2,7 +2,7 @@ use Rattle.std.proofs.Common.{refl, arith, ap, ◌≡◌, ◌∙◌, ◌%◌, �
 use Rattle.board_rule.specs.Changes.{opening_words}
 use Rattle.board_rule.specs.Layout.{slot}
 use Rattle.board_rule.proofs.Opens.{opens}
-use Rattle.seen_board.proofs.AfterOpening.{opening_counts, opening_is, opening_told}
+use Rattle.seen_board.proofs.AfterOpening.{opening_counts, opening_is, opening_fixed}
 use Rattle.seen_board.proofs.board.Board.open_with_rows.Goals as goal
 
 pub of_words-requires : goal.of_words-requires
@@ -33,4 +33,4 @@ invariant_of-result g c = let h = c.start-start.ensures in let is = c.in_ok-tabl
 
 pub returns-clause-opening : goal.returns-clause-opening
 returns-clause-opening g c = let h = c.start-start.ensures in let is = c.in_ok-table.ensures.4 in
-    rw is (rw c.of.ensures (rw (← h) (refl, λ e a. opening_told _ _ _ _ e a)))
+    rw is (rw c.of.ensures (rw (← h) (refl, λ e a. opening_fixed _ _ _ _ e a)))

@@ -41,5 +41,5 @@ returns-clause-named g c = let t : Scans c.seat.inside.seat.me.0 c.args.shard c.
 pub returns-clause-within : goal.returns-clause-within
 returns-clause-within g c = let t : Scans c.seat.inside.seat.me.0 c.args.shard c.load-mark.result
     c.load-mark.new.seat.me.0 = c.load-mark.ensures.2.1 c.args.shard c.args.slot (search rules) c.requires.range.0
-    (search rules) in let told : c.seat.inside.seat.me.0.places ≡ c.args.self.now.places = search rules in
-    omega (arith, t.within, told)
+    (search rules) in let informed : c.seat.inside.seat.me.0.places ≡ c.args.self.now.places = search rules in
+    omega (arith, t.within, informed)

@@ -9,11 +9,12 @@ pub load-mark-requires : goal.load-mark-requires
 load-mark-requires g c = (search rules, search rules, reads_mark _ _ _ _ _ _ _ (search rules) (search rules))
 
 pub entry-requires-clause-seen : goal.entry-requires-clause-seen
-entry-requires-clause-seen g c = let told : c.loop-t.seat.me.0.places ≡ c.self.inside.layout.places = search rules in
+entry-requires-clause-seen g c = let informed : c.loop-t.seat.me.0.places ≡ c.self.inside.layout.places =
+    search rules in
     let held : c.loop-t.seat.me.0.rows.held ≡ c.args.probe.shard = search rules in
     let seen : c.loop-t.seat.me.0.rows.seen ≡ c.args.seat.now.me.0.rows.seen = search rules in
-    let named = (c.load-mark.ensures.2.1 c.slot-slot.result (omega (arith, told, held, c.mark.ensures))
-    (omega (arith, told, c.slot-slot.ensures.below))).1 in
+    let named = (c.load-mark.ensures.2.1 c.slot-slot.result (omega (arith, informed, held, c.mark.ensures))
+    (omega (arith, informed, c.slot-slot.ensures.below))).1 in
     let row : length (row_of c.loop-t.seat.me.0.rows.seen c.loop-t.seat.me.0.rows.held)
     ≡ length (row_of c.args.seat.now.me.0.rows.seen c.args.probe.shard) =
     ap (λ (q : ℕ). length (row_of c.loop-t.seat.me.0.rows.seen q)) held

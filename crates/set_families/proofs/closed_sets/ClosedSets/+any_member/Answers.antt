@@ -9,7 +9,7 @@ returns-else-any_member g t c =
     let holds = g.Q.Question.holds c.args.question.now in
     let having = c.any_member-else-any_member.ensures in
     let lacking = c.any_member.ensures in (
-      λ told. let it = having.0 told in
+      λ given. let it = having.0 given in
           let w =
           from_having deps holds c.args.family c.hold.result c.bar.result c.in-Err.id c.hold.ensures.members
           c.bar.ensures.members it.0 (it.1, it.2) in

@@ -13,4 +13,4 @@ returns-clause-counted c =
     let near = subst (λ p. p < self.divisor.by) is (mod-lt c.args.set self.divisor.some) in
     swept_more (AreShares self.divisor.by) self.deps.now 0 c.args.set c.args.count c.args.counts.now c.requires.counted
     c.requires.closed _
-    (λ sets told. shares_more self.divisor.by sets c.args.counts.now c.args.set place is near told _ refl)
+    (λ sets tallied. shares_more self.divisor.by sets c.args.counts.now c.args.set place is near tallied _ refl)

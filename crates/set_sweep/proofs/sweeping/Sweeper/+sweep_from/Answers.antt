@@ -12,16 +12,16 @@ next_out-id-requires-clause-small g t c = set_small c.args.self.now.deps.now c.a
 pub loop-id-init : goal.loop-id-init
 loop-id-init g t c =
     let self = c.args.self.now in
-    let told = c.in_ok-visit.ensures in
+    let tallied = c.in_ok-visit.ensures in
     let part = c.visit.new.part in
     record {
-      own = told.own;
-      within = told.within;
-      root = told.root;
+      own = tallied.own;
+      within = tallied.within;
+      root = tallied.root;
       at = outside_next c.args.k (omega arith) c.next_out-id.ensures;
-      swept = subst (λ to. AreSwept (g.V.Visitor.tells self.visitor.now) self.deps.now part.root to part.total
+      swept = subst (λ to. AreSwept (g.V.Visitor.tallies self.visitor.now) self.deps.now part.root to part.total
           part.tally)
-          (sym (end_next c.next_out-id.ensures ∙ end_none c.args.set)) told.swept;
+          (sym (end_next c.next_out-id.ensures ∙ end_none c.args.set)) tallied.swept;
     }
 
 pub sweep_from-requires : goal.sweep_from-requires
@@ -31,7 +31,7 @@ sweep_from-requires g t c κs within =
     let part = c.loop-id.part in
     let child = child_of self.deps.now self.closures.now c.args.k c.args.set c.loop-id.id self.each c.requires.known
     c.requires.root inv.at.out c.loop-id-test.true in
-    let swept = swept_rises (g.V.Visitor.tells self.visitor.now) self.deps.now part.root _ part.total part.tally
+    let swept = swept_rises (g.V.Visitor.tallies self.visitor.now) self.deps.now part.root _ part.total part.tally
     inv.swept _ child.up child.none in (
       omega (arith, c.decreases, c.loop-id-test.true),
       (
@@ -60,18 +60,18 @@ pub loop-id-preserved : goal.loop-id-preserved
 loop-id-preserved g t c =
     let self = c.args.self.now in
     let inv = c.loop-id.invariant in
-    let told = c.in_ok-sweep_from.ensures in
+    let tallied = c.in_ok-sweep_from.ensures in
     let part = c.sweep_from.new.part in
     let child = child_of self.deps.now self.closures.now c.args.k c.args.set c.loop-id.id self.each c.requires.known
     c.requires.root inv.at.out c.loop-id-test.true in
     record {
-      own = told.own;
-      within = told.within;
-      root = told.root ∙ inv.root;
+      own = tallied.own;
+      within = tallied.within;
+      root = tallied.root ∙ inv.root;
       at = outside_next c.args.k (omega (arith, c.loop-id-test.true)) c.next_out-id-in-loop-id.ensures;
-      swept = subst (λ to. AreSwept (g.V.Visitor.tells self.visitor.now) self.deps.now part.root to part.total
+      swept = subst (λ to. AreSwept (g.V.Visitor.tallies self.visitor.now) self.deps.now part.root to part.total
           part.tally)
-          (child.end ∙ sym (end_next c.next_out-id-in-loop-id.ensures)) told.swept;
+          (child.end ∙ sym (end_next c.next_out-id-in-loop-id.ensures)) tallied.swept;
     }
 
 pub returns-clause-own : goal.returns-clause-own
@@ -88,7 +88,7 @@ returns-clause-swept g t c =
     let self = c.args.self.now in
     let inv = c.loop-id.invariant in
     let part = c.loop-id.part in
-    subst (λ to. AreSwept (g.V.Visitor.tells self.visitor.now) self.deps.now part.root to part.total part.tally)
+    subst (λ to. AreSwept (g.V.Visitor.tallies self.visitor.now) self.deps.now part.root to part.total part.tally)
     (end_outside inv.at c.loop-id-test.false) inv.swept
 
 pub returns-in_err-visit-clause-too_many : goal.returns-in_err-visit-clause-too_many

@@ -12,7 +12,8 @@ invariant-loop-id g l = record {
   within : l.part.total ≤ l.self.limit;
   root : l.part.root ≡ l.fn.part.root;
   at : IsOutside l.set l.k l.id;
-  swept : AreSwept (g.V.Visitor.tells l.self.visitor.now) l.self.deps.now l.part.root (part_end l.set l.id) l.part.total
+  swept : AreSwept (g.V.Visitor.tallies l.self.visitor.now) l.self.deps.now l.part.root
+      (part_end l.set l.id) l.part.total
       l.part.tally;
 }
 

@@ -11,7 +11,7 @@ loop-init g c =
     let sweeper = self.sweeper.now in
     record {
       own = c.requires.own;
-      done = rw c.in_ok-all.ensures.items (All-nil (IsDone (g.V.Visitor.tells sweeper.visitor.now) sweeper.deps.now
+      done = rw c.in_ok-all.ensures.items (All-nil (IsDone (g.V.Visitor.tallies sweeper.visitor.now) sweeper.deps.now
           self.low self.roots.now));
     }
 
@@ -31,7 +31,7 @@ pub loop-preserved : goal.loop-preserved
 loop-preserved g c =
     let self = c.args.self.now in
     let sweeper = self.sweeper.now in
-    let done = IsDone (g.V.Visitor.tells sweeper.visitor.now) sweeper.deps.now self.low self.roots.now in
+    let done = IsDone (g.V.Visitor.tallies sweeper.visitor.now) sweeper.deps.now self.low self.roots.now in
     record {
       own = c.in_ok-done.ensures.own;
       done = rw c.in_ok-push.ensures.items (All-push done c.loop.all.items c.in-Some.done c.loop.invariant.done

@@ -7,6 +7,6 @@ invariant-loop g l =
     let sweeper = l.self.sweeper.now in
     record {
       own : g.V.Visitor.is_own sweeper.visitor.now l.scratch;
-      done : All (IsDone (g.V.Visitor.tells sweeper.visitor.now) sweeper.deps.now l.self.low l.self.roots.now)
+      done : All (IsDone (g.V.Visitor.tallies sweeper.visitor.now) sweeper.deps.now l.self.low l.self.roots.now)
           l.all.items;
     }

@@ -16,8 +16,8 @@ join_parts-requires-clause-parts g c =
 pub join_parts-requires-clause-done : goal.join_parts-requires-clause-done
 join_parts-requires-clause-done g c =
     let deps = c.args.sweeper.now.deps.now in
-    let tells = g.V.Visitor.tells c.args.sweeper.now.visitor.now in
-    subst (λ (roots : List ℕ). All (IsDone tells deps c.args.parts.now.low roots) c.in_ok-done.done.items)
+    let tallies = g.V.Visitor.tallies c.args.sweeper.now.visitor.now in
+    subst (λ (roots : List ℕ). All (IsDone tallies deps c.args.parts.now.low roots) c.in_ok-done.done.items)
     (c.deref.ensures.value ∙ sym c.deref-2.ensures.value) c.in_ok-done.ensures.done
 
 pub returns-clause-swept : goal.returns-clause-swept
