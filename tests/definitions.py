@@ -9,7 +9,7 @@ from program import ROOT
 
 CRATES = ROOT / "crates"
 
-# What a plain run is told by, in the order in which it is read: whole files.
+# The files that define a plain run, in the order in which they are read, each whole.
 PLAIN = {
     "sets and crashes": ["patch_sets/Sets", "patch_sets/Closed", "patch_sets/Machine", "patch_sets/Writes",
                          "state_space/Counts"],
@@ -72,7 +72,7 @@ ADDS = {"`--json` with `--numbers`": ["`--json`"], "`--enough` with `--syncs`": 
         "`--search` with `--enough`": ["`--search`", "`--enough`"]}
 
 # What the files of a plain run cite outside them: the case of a match, the field or the type of a field that an option
-# adds, or what stands behind a test whether it is asked for. A plain run is told without these.
+# adds, or what stands behind a test whether it is asked for. A plain run needs none of these.
 ASKED_FOR = {
     "crash_model/Tracing": "Wait",
     "crash_model/Trace": "forced_by_sync forced_by_fsync is_same_path target_found when_found with_wait",
@@ -134,7 +134,7 @@ def constants():
     return found
 
 
-def told(names):
+def listed(names):
     """The files, by the folder that they are in."""
     folders = {}
     for name in names:
@@ -147,15 +147,15 @@ def row(name):
     others = ["lines that wait" if it == WAITS else it for it in ADDS.get(name, [])]
     first = f"what the rows of {' and of '.join(others)} name, and " if others else ""
     more = " more" if name in ADDS else ""
-    return f"| {name} | {first}{told(ROWS[name])} | {lines_of(ROWS[name])}{more} |"
+    return f"| {name} | {first}{listed(ROWS[name])} | {lines_of(ROWS[name])}{more} |"
 
 
 def page():
     """What DEFINITIONS.md has from here: the lists, the table and the constants."""
     parts = list(PLAIN.items())
-    lists = [f"{k}. {title}: {told(names)}{'.' if k == len(parts) else ';'}"
+    lists = [f"{k}. {title}: {listed(names)}{'.' if k == len(parts) else ';'}"
              for k, (title, names) in enumerate(parts, 1)]
-    inside = [f"- {title}: {told(names)}, {lines_of(names)} lines" for title, names in INSIDE.items()]
+    inside = [f"- {title}: {listed(names)}, {lines_of(names)} lines" for title, names in INSIDE.items()]
     table = ["| what you ask for | what you also read | lines of code |", "|---|---|---|", *map(row, ROWS)]
     numbers = [f"- `{file}`: {', '.join(f'`{name}`' for name in sorted(names))}"
                for file, names in sorted(constants().items())]

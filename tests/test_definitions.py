@@ -9,7 +9,7 @@ sys.path.insert(0, str(pathlib.Path(__file__).resolve().parent))
 from definitions import ADDS, ASKED_FOR, CRATES, INSIDE, ROWS, files, imports_of, lines_of, page, plain_run, text_of
 from program import ROOT
 
-MOST_OF_A_PLAIN_RUN = 1_165
+MOST_OF_A_PLAIN_RUN = 1_170
 
 MODELS = ("state_space", "patch_sets", "crash_model", "report_model", "question_model")
 GHOST = re.compile(r"\s*ghost use Rattle\.(\w+)\.specs\.(\w+)\.\{")
