@@ -1,6 +1,7 @@
 """Which files of definitions one must read for a run, and how many lines of code they have.
 
-Run as a program, this prints the lists and the table of `docs/DEFINITIONS.md`; `test_definitions.py` compares.
+Run as a program, this puts the lists, the table and the numbers into `docs/DEFINITIONS.md`; `test_definitions.py`
+compares.
 """
 
 import re
@@ -8,6 +9,7 @@ import re
 from program import ROOT
 
 CRATES = ROOT / "crates"
+PAGE = ROOT / "docs/DEFINITIONS.md"
 
 # The files that define a plain run, in the order in which they are read, each whole.
 PLAIN = {
@@ -59,8 +61,8 @@ ROWS = {
     "`--enough` with `--syncs`": ["patch_sets/Ends", "crash_model/ChosenWaits", "question_model/EnoughLines",
                                   "question_model/LinesReport"],
     "`--search`": ["crash_model/FirstSets"] + ["question_model/" + name for name in
-                   ("OrderingText", "Kinds", "Lengths", "Refused", "Sequences", "Workloads", "SearchCounts", "SearchReport",
-                    "PoolAnswer")],
+                   ("OrderingText", "Kinds", "Lengths", "Refused", "Sequences", "Workloads", "SearchCounts",
+                    "SearchReport", "PoolAnswer")],
     "`--search` with `--enough`": ["question_model/" + name for name in
                                    ("MinimalRules", "EnoughFor", "SearchRulesReport")],
     "what `serve` and `answer_call` say of devices and of the exit status":
@@ -71,8 +73,8 @@ ROWS = {
 ADDS = {"`--json` with `--numbers`": ["`--json`"], "`--enough` with `--syncs`": ["`--enough`", WAITS],
         "`--search` with `--enough`": ["`--search`", "`--enough`"]}
 
-# What the files of a plain run cite outside them: the case of a match, the field or the type of a field that an option
-# adds, or what stands behind a test whether it is asked for. A plain run needs none of these.
+# What the files of a plain run cite outside them: in the case of a match or the field of a record that an option adds,
+# behind a test whether it is asked for, or of each of some promises, where there are none.
 ASKED_FOR = {
     "crash_model/Tracing": "Wait",
     "crash_model/Trace": "forced_by_sync forced_by_fsync is_same_path target_found when_found with_wait",
@@ -150,19 +152,39 @@ def row(name):
     return f"| {name} | {first}{listed(ROWS[name])} | {lines_of(ROWS[name])}{more} |"
 
 
-def page():
-    """What DEFINITIONS.md has from here: the lists, the table and the constants."""
-    parts = list(PLAIN.items())
-    lists = [f"{k}. {title}: {listed(names)}{'.' if k == len(parts) else ';'}"
-             for k, (title, names) in enumerate(parts, 1)]
+def parts():
+    """The lists, the table and the constants of the page, as lines."""
+    groups = list(PLAIN.items())
+    lists = [f"{k}. {title}: {listed(names)}{'.' if k == len(groups) else ';'}"
+             for k, (title, names) in enumerate(groups, 1)]
     inside = [f"- {title}: {listed(names)}, {lines_of(names)} lines" for title, names in INSIDE.items()]
     table = ["| what you ask for | what you also read | lines of code |", "|---|---|---|", *map(row, ROWS)]
     numbers = [f"- `{file}`: {', '.join(f'`{name}`' for name in sorted(names))}"
                for file, names in sorted(constants().items())]
-    return "\n\n".join("\n".join(part) for part in (lists, inside, table, numbers))
+    return [lists, inside, table, numbers]
+
+
+def numbers():
+    """The numbers of the page's sentences, each with the words before and behind it."""
+    return [("is built from ", len(files()), " files"),
+            ("The files have ", sum(len(text_of(name)) for name in files()), " lines"),
+            ("Of these ", lines_of(files()), " are neither"),
+            ("For it you read ", len(plain_run()), " files whole"),
+            ("They have ", lines_of(plain_run()), " lines of code")]
+
+
+def write_page():
+    """Puts the parts and the numbers in the place of those that the page has."""
+    page = PAGE.read_text()
+    for part in parts():
+        first = re.escape(re.match(r"[^:]+(: `\w+/)?|.*", part[0]).group())
+        page, count = re.subn(rf"\n{first}[^\n]*(\n[^\n]+)*", lambda _: "\n" + "\n".join(part), page, count=1)
+        assert count, part[0]
+    for before, number, behind in numbers():
+        page, count = re.subn(rf"{before}[\d,]+{behind}", f"{before}{number:,}{behind}", page)
+        assert count == 1, before
+    PAGE.write_text(page)
 
 
 if __name__ == "__main__":
-    print(f"{len(files())} files, {sum(len(text_of(name)) for name in files()):,} lines, {lines_of(files()):,} of "
-          f"them code; a plain run has {len(plain_run())} files and {lines_of(plain_run()):,} lines of code\n")
-    print(page())
+    write_page()

@@ -6,8 +6,8 @@ import sys
 import unittest
 
 sys.path.insert(0, str(pathlib.Path(__file__).resolve().parent))
-from definitions import ADDS, ASKED_FOR, CRATES, INSIDE, ROWS, files, imports_of, lines_of, page, plain_run, text_of
-from program import ROOT
+from definitions import ADDS, ASKED_FOR, CRATES, INSIDE, PAGE, ROWS
+from definitions import files, imports_of, lines_of, numbers, parts, plain_run
 
 MOST_OF_A_PLAIN_RUN = 1_170
 
@@ -18,29 +18,18 @@ GHOST = re.compile(r"\s*ghost use Rattle\.(\w+)\.specs\.(\w+)\.\{")
 class Definitions(unittest.TestCase):
     """The page of definitions."""
 
-    def setUp(self):
-        self.page = (ROOT / "docs/DEFINITIONS.md").read_text()
-
-    def number(self, pattern):
-        found = re.search(pattern, self.page)
-        self.assertIsNotNone(found, pattern)
-        return int(found.group(1).replace(",", ""))
-
-    def test_files_and_lines(self):
-        self.assertEqual(self.number(r"built from (\d+) files"), len(files()))
-        self.assertEqual(self.number(r"files have ([\d,]+) lines"), sum(len(text_of(name)) for name in files()))
-        self.assertEqual(self.number(r"Of these ([\d,]+) are neither"), lines_of(files()))
-
-    def test_a_plain_run(self):
-        self.assertEqual(self.number(r"you read (\d+) files whole"), len(plain_run()))
-        self.assertEqual(self.number(r"They have ([\d,]+) lines of code"), lines_of(plain_run()))
-        self.assertLessEqual(lines_of(plain_run()), MOST_OF_A_PLAIN_RUN)
+    def test_numbers(self):
+        page = PAGE.read_text()
+        for before, number, behind in numbers():
+            self.assertIn(f"{before}{number:,}{behind}", re.findall(rf"{before}[\d,]+{behind}", page))
 
     def test_lists_and_table(self):
-        for part in page().split("\n\n"):
-            for line in part.split("\n"):
-                with self.subTest(line[:60]):
-                    self.assertIn(f"\n{line}\n", self.page)
+        page = PAGE.read_text().splitlines()
+        for part in parts():
+            self.assertEqual([line for line in part if line not in page], [])
+
+    def test_a_plain_run(self):
+        self.assertLessEqual(lines_of(plain_run()), MOST_OF_A_PLAIN_RUN)
 
     def test_each_file_stands_once(self):
         self.assertEqual(len(plain_run()), len(set(plain_run())))
