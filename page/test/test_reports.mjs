@@ -236,7 +236,7 @@ async function testNoReport() {
   await openEmpty();
   const words = await browser.ask("document.body.textContent");
   check("a page without a report asks for one", words.includes("Drop a report here"), true);
-  check("every case is tested", Object.keys(cases).length, 39);
+  check("every case is tested", Object.keys(cases).length, 47);
 }
 
 await run([testCreate, testReuse, testPointer, testTwice, testNothingFails, testDecisions, testImmense, testOrderings,
