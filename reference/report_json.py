@@ -40,8 +40,8 @@ def head_value(found, settings):
 
 
 class Detail:
-    """How much is reported of a set: `explained` what replay changes, `shown` what paths show too, `numbers` the numbers
-    in the texts of faults."""
+    """How much is reported of a set: `explained` what replay changes, `shown` what paths show too, `numbers` the
+    numbers in the texts of faults."""
 
     def __init__(self, found, settings):
         self.explained = settings.explain

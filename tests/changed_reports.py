@@ -55,8 +55,8 @@ WRONG_TEXTS = {
     "step": WRONG_STEPS, "steps": WRONG_STEPS, "text": ("no", "Not found", "group fault")}
 """Texts that are wrong for the key that they have or are in a list of."""
 
-NEVER_EMPTY = {"patches", "steps", "keep", "hold", "counted", "why", "fault_numbers", "faults", "rules", "with", "without",
-               "base"}
+NEVER_EMPTY = {"patches", "steps", "keep", "hold", "counted", "why", "fault_numbers", "faults", "rules", "with",
+               "without", "base"}
 """Keys of lists that are not empty. `faults` and `rules` of a whole report can be."""
 
 
