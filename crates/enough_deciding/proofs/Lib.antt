@@ -1,2 +1,3 @@
+pub mod SmallerGroups
 pub mod Tracings
 pub mod WaitingLines

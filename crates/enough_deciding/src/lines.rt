@@ -3,10 +3,11 @@
 ghost use Rattle.std.specs.Prelude.{◌≡◌, ◌<◌, ◌≤◌, ℕ, length, IfOk};
 ghost use Rattle.std.specs.List.{All};
 ghost use Rattle.patch_sets.specs.Ends.{IsDifference};
-ghost use Rattle.patch_sets.specs.Sets.{AreAllInOrder};
+ghost use Rattle.patch_sets.specs.Sets.{AreAllInOrder, IsSubset};
 ghost use Rattle.crash_model.specs.Tracing.{Tracing};
 ghost use Rattle.question_model.specs.EnoughLines.{all_waits, IsMinimalLines, IsNeededLines};
-ghost use Rattle.enough_deciding.specs.Lines.{IsScriptWaiting, HasWaits};
+ghost use Rattle.enough_rules.specs.Asked.{IsFound, IsInEach};
+ghost use Rattle.enough_deciding.specs.Lines.{AreEnoughWaiting, IsScriptWaiting, HasWaits};
 
 use crate::waiting::demands_waiting;
 use chosen_rules::excluding_lines;
@@ -16,6 +17,8 @@ use fault_deciding::Decider;
 use order_modules::graph_waiting;
 use patch_graph::Graph;
 use patch_sets::ends::difference;
+use patch_sets::set::{has, with};
+use question_model::MAX_SYNCS;
 use std::alloc::{AllocError, Allocator};
 use traced_patches::Traced;
 
@@ -79,18 +82,14 @@ impl<A: Allocator + Copy> LineOracle<'_, A> {
             demands: demands_waiting(self.alloc, self.demands, waits, chosen)?,
         })
     }
-}
 
-impl<A: Allocator + Copy> Oracle for LineOracle<'_, A> {
-    ghost use Rattle.question_model.specs.EnoughLines.{all_waits, AreEnoughLines};
-    ghost use Rattle.enough_deciding.specs.Lines.{waits_of};
-
-    ghost all = { λ o. all_waits o.traced.now.waits };
-
-    ghost is_enough = { λ o.
-        AreEnoughLines o.demands.now o.base.now o.traced.now.rules (waits_of o.base.now o.traced.now) };
-
-    fn blocking(&self, set: u128) -> Result<Option<u128>, AllocError> {
+    /// A group of lines of which the set has none and each set that is enough has one, or `None` if the set is enough.
+    /// It fails only when out of memory.
+    fn excluding(&self, set: u128) -> Result<Option<u128>, AllocError>
+        requires { IsSubset set (all_waits self.now.traced.now.waits) }
+        ensures { IfOk result (IsFound (all_waits self.now.traced.now.waits)
+            (AreEnoughWaiting self.now.demands.now self.now.base.now self.now.traced.now) set) }
+    {
         let script = self.waiting(set)?;
         let decider = Decider {
             alloc: self.alloc,
@@ -101,6 +100,44 @@ impl<A: Allocator + Copy> Oracle for LineOracle<'_, A> {
         match decider.first_fault()? {
             None => Ok(None),
             Some(found) => Ok(Some(excluding_lines(self.traced, &found))),
+        }
+    }
+
+    /// A part of a group of which each set that is enough has a line, as the group has. Of each line it is asked whether
+    /// all lines without the group are enough together with it: if not, then the part does without the line.
+    /// It fails only when out of memory.
+    fn smaller(&self, group: u128) -> Result<u128, AllocError>
+        requires { IsInEach (all_waits self.now.traced.now.waits)
+            (AreEnoughWaiting self.now.demands.now self.now.base.now self.now.traced.now) group }
+        ensures each { IfOk result (IsInEach (all_waits self.now.traced.now.waits)
+            (AreEnoughWaiting self.now.demands.now self.now.base.now self.now.traced.now)) }
+        ensures part { IfOk result (λ part. IsSubset part group) }
+    {
+        let mut part = group;
+        for line in 0..MAX_SYNCS {
+            if has(part, line) {
+                let rest = with(difference(self.all(), part), line);
+                if let Some(others) = self.excluding(rest)? {
+                    part = others;
+                }
+            }
+        }
+        Ok(part)
+    }
+}
+
+impl<A: Allocator + Copy> Oracle for LineOracle<'_, A> {
+    ghost use Rattle.question_model.specs.EnoughLines.{all_waits};
+    ghost use Rattle.enough_deciding.specs.Lines.{AreEnoughWaiting};
+
+    ghost all = { λ o. all_waits o.traced.now.waits };
+
+    ghost is_enough = { λ o. AreEnoughWaiting o.demands.now o.base.now o.traced.now };
+
+    fn blocking(&self, set: u128) -> Result<Option<u128>, AllocError> {
+        match self.excluding(set)? {
+            None => Ok(None),
+            Some(group) => Ok(Some(self.smaller(group)?)),
         }
     }
 }

@@ -6,7 +6,7 @@ use Rattle.chosen_rules.proofs.LineOracles.{lines_found}
 use Rattle.chosen_rules.proofs.Prevented.{some_fault}
 use Rattle.enough_deciding.specs.Lines.{waits_of}
 use Rattle.enough_deciding.proofs.WaitingLines.{one_waiting}
-use Rattle.enough_deciding.proofs.lines.LineOracleOracle.blocking.Goals as goal
+use Rattle.enough_deciding.proofs.lines.LineOracle.excluding.Goals as goal
 
 pub returns-in-None : goal.returns-in-None
 returns-in-None g c =
