@@ -1,5 +1,5 @@
 -- Disks that are large enough for a script.
-use Rattle.std.specs.Prelude.{◌≡◌, ℕ, List, Bool, Option, None, Ok}
+use Rattle.std.specs.Prelude.{◌≡◌, ℕ, List, Bool, None, Ok}
 use Rattle.crash_model.specs.Disk.{Disk}
 use Rattle.crash_model.specs.Generations.{new_disk}
 use Rattle.crash_model.specs.Trace.{base_from, trace_from}

@@ -4,6 +4,10 @@ use crash_model::names::GroupName;
 use crash_model::steps::{Act, Step};
 use std::alloc::{AllocError, Allocator};
 
+/// What is said of a line that a pool may not have.
+const POOL: &str = "a pool has only operations and the lines `sync`, `fsync` and `keep`\n\
+                    hint: leave the line out, or ask without `--search`";
+
 /// Why the line of this number, which the program refused for its groups, is refused, and what would be right.
 pub(crate) fn group_text<A: Allocator + Copy>(
     alloc: A,
@@ -19,6 +23,7 @@ pub(crate) fn group_text<A: Allocator + Copy>(
     match act_at(traced, number) {
         Some(Act::Group(name)) => opening_text(alloc, traced, number, name),
         Some(Act::Depend(later, earlier)) => depend_text(alloc, traced, number, later, earlier),
+        Some(Act::Hold(_) | Act::Spare(..)) => format!(in alloc; "{POOL}"),
         _ => format!(in alloc;
             "no group is open at this line\nhint: a line `group NAME` opens a group, and `end` ends it"
         ),
@@ -42,9 +47,7 @@ fn opening_text<A: Allocator + Copy>(
             "line {line} opened this group already\nhint: a group is opened once; give this one another name"
         ),
         // In a script such a line is right, so this is a pool.
-        None => format!(in alloc;
-            "a pool has operations alone\nhint: leave the line out, or ask without `--search`"
-        ),
+        None => format!(in alloc; "{POOL}"),
     }
 }
 

@@ -61,6 +61,7 @@ fn words_text<A: Allocator + Copy>(
     let follow = match verb {
         "overwrite" if given == 2 => return slot_text(alloc, line),
         "overwrite" => "one or two words follow",
+        "keep" => "one to four words follow",
         _ if given == spaces_in(form) => return names_text(alloc, script, line),
         _ => ["nothing follows", "one word follows", "two words follow"][spaces_in(form).min(2)],
     };

@@ -74,6 +74,14 @@ fn text_of<A: Allocator + Copy>(
             "no line of the script is `start`\n\
              hint: the lines before `start` build the disk, and those after it are explored"
         )?,
+        RunFault::OnlyAfterStart { .. } => format!(in alloc;
+            "the line is before `start`\n\
+             hint: put it after `start`; what is built before `start` is on the disk already"
+        )?,
+        RunFault::TooManySyncs { .. } => format!(in alloc;
+            "`--enough --syncs` asks about at most 64 lines `sync` and `fsync`, and this is the next one\n\
+             hint: leave lines out, or ask about a part of the script"
+        )?,
         RunFault::CannotWrite => format!(in alloc; "{UNWRITTEN}")?,
         RunFault::ScriptTooLong => format!(in alloc;
             "a script has at most 1048576 bytes\n\

@@ -4,7 +4,7 @@ use std::alloc::Allocator;
 use strsim::levenshtein;
 
 /// How each line is written.
-static FORMS: [&str; 14] = [
+static FORMS: [&str; 19] = [
     "create PATH",
     "write PATH",
     "overwrite PATH` or `overwrite PATH SLOT",
@@ -18,15 +18,21 @@ static FORMS: [&str; 14] = [
     "group NAME",
     "end",
     "depend LATER EARLIER",
+    "sync",
+    "fsync PATH",
+    "keep PATH` or, for up to four paths together, `keep PATH PATH PATH PATH",
+    "hold PATH",
+    "spare PATH OTHER",
     "start",
 ];
 
 /// All words that a line begins with, in the order of their explanation.
 pub(crate) const LIST: &str =
-    "create, write, overwrite, truncate, link, unlink, rename, replace, mkdir, rmdir, group, end, depend, start or #";
+    "create, write, overwrite, truncate, link, unlink, rename, replace, mkdir, rmdir, group, end, depend, sync, \
+     fsync, keep, hold, spare, start or #";
 
 /// Words that begin a line, each with other words that people write for it.
-static OTHER_WORDS: [(&str, &[&str]); 12] = [
+static OTHER_WORDS: [(&str, &[&str]); 16] = [
     ("create", &["touch", "open", "new", "add", "Create"]),
     ("rename", &["mv", "move", "Rename"]),
     ("unlink", &["rm", "remove", "delete", "del", "Unlink"]),
@@ -38,10 +44,11 @@ static OTHER_WORDS: [(&str, &[&str]); 12] = [
     ("mkdir", &["md", "dir"]),
     ("rmdir", &["rd"]),
     ("start", &["begin", "go", "run"]),
-    (
-        "depend",
-        &["sync", "fsync", "fdatasync", "flush", "barrier", "after"],
-    ),
+    ("depend", &["barrier", "after"]),
+    ("sync", &["syncfs", "flush", "Sync"]),
+    ("fsync", &["fdatasync", "Fsync"]),
+    ("keep", &["promise", "expect"]),
+    ("spare", &["backup"]),
 ];
 
 /// How many letters of a word may differ from the word that was meant.
