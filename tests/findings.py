@@ -3,8 +3,9 @@
 A command is in a block of its own, after `$ ./crashmap`, and its whole output follows. A block marked `slow` runs
 with --all alone. A table has comments before it, each with the words of searches that all give this table, and a row
 for each rule: the shortest search that finds more failing workloads without the rule than with it, the first failing
-workload and its fault. Another table has a row for each script and a column for each module: which lines of the script
-have to wait. It says how long each command and each table took. The last line is `N passed, M failed`.
+workload and its fault. Other tables have a row for each script and a column for each module: how many of its sets
+fail, or which of its lines have to wait. It says how long each command and each table took. The last line is
+`N passed, M failed`.
 """
 
 import pathlib
@@ -24,7 +25,7 @@ FINDINGS = ROOT / "docs" / "FINDINGS.md"
 BLOCK = re.compile(r"^```console( slow)?\n\$ \./crashmap ([^\n]*)\n(.*?)^```$", re.MULTILINE | re.DOTALL)
 TABLE = re.compile(r"^((?:<!-- searches: .* -->\n)+)\|.*\n\|.*\n((?:\|.*\n)+)", re.MULTILINE)
 SEARCHES = re.compile(r"<!-- searches: (.*) -->")
-SYNCS = re.compile(r"^<!-- syncs: (.*) -->\n\|[^|\n]*\|(.*)\|\n\|.*\n((?:\|.*\n)+)", re.MULTILINE)
+SCRIPTS = re.compile(r"^<!-- (broken|syncs): (.*) -->\n\|[^|\n]*\|(.*)\|\n\|.*\n((?:\|.*\n)+)", re.MULTILINE)
 
 Finding = namedtuple("Finding", "words wanted make is_slow")
 """The words of a command or of a table's searches, what the document has, what makes it again, and whether that
@@ -92,11 +93,20 @@ def waiting_lines(words):
     return f"{' or '.join(enough)}; {without}" if needs else "none"
 
 
-def syncs_made(words, modules, rows):
-    """The table of lines that have to wait with its rows made again."""
+def failing_sets(words):
+    """How many sets of a script fail, and of how many."""
+    report = printed_by([*words, "--summary"])
+    return f"{value('failing', report)} of {value('closed', report)}"
+
+
+CELLS = {"broken": failing_sets, "syncs": waiting_lines}
+
+
+def scripts_made(cell, words, modules, rows):
+    """A table with a row for each script, and with its cells made again."""
     made = ""
     for first, script in re.findall(r"^(\| \[[^]]*\]\(\.\./([^)]*)\) \|)", rows, re.MULTILINE):
-        cells = [waiting_lines([script, *words, "--module", module]) for module in modules]
+        cells = [cell([script, *words, "--module", module]) for module in modules]
         made += f"{first} {' | '.join(cells)} |\n"
     return made
 
@@ -108,12 +118,13 @@ def findings():
                 for slow, words, output in BLOCK.findall(text)]
     tables = [Finding(shlex.split(words), rows, lambda given, kept=rows: table_made(given, kept), False)
               for comments, rows in TABLE.findall(text) for words in SEARCHES.findall(comments)]
-    syncs = []
-    for words, modules, rows in SYNCS.findall(text):
-        names = re.findall(r"`([a-z]+)`", modules)
-        syncs.append(Finding(shlex.split(words), rows,
-                             lambda given, names=names, kept=rows: syncs_made(given, names, kept), False))
-    return commands + tables + syncs
+    scripts = []
+    for kind, words, modules, rows in SCRIPTS.findall(text):
+        names, cell = re.findall(r"`([a-z]+)`", modules), CELLS[kind]
+        scripts.append(Finding(shlex.split(words), rows,
+                               lambda given, cell=cell, names=names, kept=rows: scripts_made(cell, given, names, kept),
+                               False))
+    return commands + tables + scripts
 
 
 def main(words):
