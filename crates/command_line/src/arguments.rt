@@ -116,8 +116,8 @@ Words of reports:
   in place  a change where it belongs on the disk, and not its copy in the journal
 
 A script has one operation a line (create, write, overwrite, truncate, link, unlink, rename, replace, mkdir, rmdir, with
-paths), groups (group A, end, depend B A), comments (#) and one line `start`: the lines before it build the disk, those
-after it are explored.
+paths), groups (group A, end, depend B A), lines that wait (sync, fsync P) and that promise (keep P, hold P, spare P Q),
+comments (#) and one line `start`: the lines before it build the disk, those after it are explored.
 
 Exit status: 0 no failing set, 1 at least one, 2 a refusal (one line on standard error).";
 

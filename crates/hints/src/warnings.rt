@@ -53,7 +53,8 @@ fn write_made_later<E: Write>(steps: &[Step], err: &mut E) -> io::Result<()> {
         if matches!(step.act, Act::Do(Op::Create(_) | Op::Mkdir(_))) {
             return write!(
                 err,
-                "hint: --strict asks about what is there before `start`, and not about what line {} makes\n",
+                "hint: --strict asks about what is there before `start`, and not about what line {} makes\n\
+                 hint: to ask about that, write `fsync PATH` and `keep PATH` behind it\n",
                 step.line
             );
         }
