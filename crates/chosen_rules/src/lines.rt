@@ -15,8 +15,8 @@ use traced_patches::{Traced, Wait};
 
 /// The set of the lines that wait that exclude a fault of a set of patches.
 ///
-/// A line excludes it if it makes a patch of the set wait for one that the set lacks, or if the fault is of a promise
-/// that stands behind the line and the set lacks what the line forces.
+/// A line excludes it if it makes a patch of the set wait for one that the set lacks. It also does if the fault is a
+/// broken promise of a later line, and the set lacks what the line forces.
 pub fn excluding_lines<A: Allocator + Copy>(traced: &Traced<'_, A>, found: &DecidedFault) -> u128
     requires few { length traced.now.waits ≤ 64 }
     ensures { (place : ℕ) → Has result place

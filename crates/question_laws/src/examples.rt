@@ -33,7 +33,7 @@ pub fn a_sync_alone_is_not_needed()
         (Reported (codes "module async\npatches 0\nclosed 1\nenough 1\nsyncs\n") 0) }
 {}
 
-/// The first sync makes the promise start where the file is on the disk. The second stands behind the promise, so it is
+/// The first sync makes the promise start where the file is on the disk. The second comes after the promise, so it is
 /// not needed.
 pub fn the_sync_before_a_promise_is_needed()
     ensures { IsAnswerTo EnoughLines (codes "start\ncreate /a\nsync\nkeep /a\nsync\n") ordered

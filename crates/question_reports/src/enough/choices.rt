@@ -86,7 +86,7 @@ impl Choices<'_> {
         }
     }
 
-    /// The key of a group's lines, which stands behind its other keys, with a comma. Rules have none there.
+    /// The key of a group's lines, which comes after its other keys, with a comma before it. Rules have none there.
     pub(crate) fn write_last_key<A: Allocator>(
         self,
         out: &mut String<A>,
