@@ -160,7 +160,7 @@ some_words P xs apart each = record {
 pub flat_entries : (t : Fixed) (rows : List (List ℕ)) (words : List ℕ) → RowsOk t rows words
     → IsSome (IsReached t.next t.origin) (concat rows)
 flat_entries t rows words o = some_words (IsReached t.next t.origin) (concat rows)
-    (flat_apart 0 rows (λ q b j k. o.apart q j k (omega (arith, b, o.all)))
+    (flat_apart 0 rows (λ q b j k. o.distinct q j k (omega (arith, b, o.all)))
     (λ q k b c. o.at_home q k (omega (arith, b, o.all)) c ∙ (let z : q ≡ 0 + q = omega arith in z)))
     (flat_each (IsReached t.next t.origin) rows (λ q k b c. o.reached q k (omega (arith, b, o.all)) c))
 
@@ -186,7 +186,7 @@ full_row t rows words q x o near full right home absent = let row = row_of rows 
       row ++ x ∷ [],
       some_words P (row ++ x ∷ [])
           (λ j k bj bk. snoc_cases row x (λ j y. y ≡ get_or (row ++ x ∷ []) k 0 → j ≡ k)
-          (λ j b. snoc_cases row x (λ k z. get_or row j 0 ≡ z → j ≡ k) (λ k c e. o.apart q j k near b c e)
+          (λ j b. snoc_cases row x (λ k z. get_or row j 0 ≡ z → j ≡ k) (λ k c e. o.distinct q j k near b c e)
           (λ e. absurd (absent j b e)) k bk)
           (snoc_cases row x (λ k z. x ≡ z → length row ≡ k) (λ k c e. absurd (absent k c (sym e))) (λ e. refl) k bk) j
           bj)

@@ -148,7 +148,7 @@ opens t good S wide = let start = t.origin in let places = t.places in let q = s
         lows = each (λ p k x. get_or words (low_word p k) 0 ≡ x % half) w.low;
         highs = each (λ p k x. get_or words (high_word places p k) 0 ≡ x / half) w.high;
         at_home = each (λ p k x. x % 13 ≡ p) refl;
-        apart = λ p a b h c d e. let f : (y : ℕ) → y < length (row_of rows p)
+        distinct = λ p a b h c d e. let f : (y : ℕ) → y < length (row_of rows p)
             → y ≡ 0 = λ y i. each (λ p k x. k ≡ 0) refl p y h i in f a c ∙ sym (f b d);
         reached = each (λ p k x. IsReached t.next start x) (reached_start t.next start);
       };

@@ -24,7 +24,7 @@ rows_stay t rows words words' o lens halves = record {
   lows = λ q k h b. (halves q k h b).0 ∙ o.lows q k h b;
   highs = λ q k h b. (halves q k h b).1 ∙ o.highs q k h b;
   at_home = o.at_home;
-  apart = o.apart;
+  distinct = o.distinct;
   reached = o.reached;
 }
 
@@ -103,14 +103,14 @@ rows_grow t rows words q x near long o room low high home right absent = let row
       at_home = λ p k h. rows_cases rows q new (λ p r. (k : ℕ) → k < length r → get_or r k 0 % 13 ≡ p) o.all near
           (snoc_cases row x (λ k y. y % 13 ≡ q) (λ k b. o.at_home q k near b) home) (λ p h ne k b. o.at_home p k h b) p
           h k;
-      apart = λ p j k h. rows_cases rows q new (λ p r. (j k : ℕ) → j < length r → k < length r
+      distinct = λ p j k h. rows_cases rows q new (λ p r. (j k : ℕ) → j < length r → k < length r
           → get_or r j 0 ≡ get_or r k 0 → j ≡ k) o.all near
           (λ j k bj bk. snoc_cases row x (λ j y. y ≡ get_or new k 0 → j ≡ k)
-          (λ j b. snoc_cases row x (λ k z. get_or row j 0 ≡ z → j ≡ k) (λ k c e. o.apart q j k near b c e)
+          (λ j b. snoc_cases row x (λ k z. get_or row j 0 ≡ z → j ≡ k) (λ k c e. o.distinct q j k near b c e)
           (λ e. absurd (absent j b e)) k bk)
           (snoc_cases row x (λ k z. x ≡ z → length row ≡ k) (λ k c e. absurd (absent k c (sym e))) (λ e. refl) k bk) j
           bj)
-          (λ p h ne j k bj bk e. o.apart p j k h bj bk e) p h j k;
+          (λ p h ne j k bj bk e. o.distinct p j k h bj bk e) p h j k;
       reached = λ p k h. rows_cases rows q new (λ p r. (k : ℕ) → k < length r
           → IsReached t.next t.origin (get_or r k 0)) o.all near
           (snoc_cases row x (λ k y. IsReached t.next t.origin y) (λ k b. o.reached q k near b) right)

@@ -39,7 +39,7 @@ pub record RowsOk (t : Fixed) (rows : List (List ℕ)) (words : List ℕ) : Type
   pub highs : (q k : ℕ) → q < SHARDS → k < length (row_of rows q)
       → slice_index words (high_word t.places q k) ≡ slice_index (row_of rows q) k / half
   pub at_home : (q k : ℕ) → q < SHARDS → k < length (row_of rows q) → slice_index (row_of rows q) k % SHARDS ≡ q
-  pub apart : (q j k : ℕ) → q < SHARDS → j < length (row_of rows q) → k < length (row_of rows q)
+  pub distinct : (q j k : ℕ) → q < SHARDS → j < length (row_of rows q) → k < length (row_of rows q)
       → slice_index (row_of rows q) j ≡ slice_index (row_of rows q) k → j ≡ k
   pub reached : (q k : ℕ) → q < SHARDS → k < length (row_of rows q)
       → IsReached t.next t.origin (slice_index (row_of rows q) k)

@@ -27,7 +27,7 @@ use Rattle.known_bytes.specs.SetFaults.{does_count, is_of_set}
 use Rattle.known_bytes.specs.Texts.{has_fault}
 use Rattle.known_bytes.proofs.ListedFaults.{left_of, right_of, both}
 use Rattle.set_families.specs.Families.{IsFamily, IsMember as IsClosedMember}
-use Rattle.set_families.specs.Questions.{IsAnswer}
+use Rattle.set_families.specs.Properties.{IsAnswer}
 use Rattle.set_families.specs.declared.family.Family.{Family as Held}
 use Rattle.fault_deciding.specs.Asked.{LeavesFault, family_of}
 use Rattle.fault_deciding.specs.OfSets.{InEachRead, IsKnownOfSets, IsKnownRead, is_excused}
@@ -40,7 +40,7 @@ module _ (c : Change) (family : Held) (deps : List ℕ) (about : deps ≡ deps_o
   member_held = record {
     closed = subst (λ (ds : List ℕ). IsClosed ds family.held) about is.closed;
     held = λ id has. has;
-    barred = λ id barred has. is.apart id has barred;
+    barred = λ id barred has. is.disjoint id has barred;
   }
 
   member_to : (set : ℕ) → IsClosedMember deps family set → IsMember (family_of c family) set

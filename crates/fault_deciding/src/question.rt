@@ -11,7 +11,7 @@ use crash_model::fault::Fault;
 use disk_image::Demands;
 use fs_check::is_counted;
 use known_bytes::{Chains, KnownBytes, KnownDisk};
-use set_families::{ClosedSets, Family, Question};
+use set_families::{ClosedSets, Family, SetProperty};
 use std::alloc::Allocator;
 
 /// Whether a set has a fault, by what is demanded: a broken promise, or a fault of the image that it leaves, after
@@ -23,7 +23,7 @@ pub struct FaultQuestion<'a, A: Allocator + Copy> {
     pub fault: Fault,
 }
 
-impl<A: Allocator + Copy> Question for FaultQuestion<'_, A> {
+impl<A: Allocator + Copy> SetProperty for FaultQuestion<'_, A> {
     ghost use Rattle.std.specs.Prelude.{◌≡◌};
     ghost use Rattle.crash_model.specs.Patches.{deps_of};
     ghost use Rattle.fault_deciding.specs.Asked.{LeavesFault};

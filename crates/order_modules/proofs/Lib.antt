@@ -7,6 +7,6 @@ pub mod Grouping
 pub mod Planning
 pub mod ForcedIds
 pub mod Steps
-pub mod Turning
+pub mod Making
 pub mod WaitSteps
 mod Relabelling

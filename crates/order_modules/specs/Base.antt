@@ -21,13 +21,13 @@ disk_before_refusal d (x ∷ xs) = elim x.act [
 ]
 
 -- a step's operation makes one disk of another, whose view has gained and lost what the operation means
-abbrev pub StepTurns : Disk → Step → Disk → Type 0
-StepTurns d x next = (op : Op) × (x.act ≡ Do op) × Means d.blocks d.journal (view_of d) (view_of next) op
+abbrev pub StepMakes : Disk → Step → Disk → Type 0
+StepMakes d x next = (op : Op) × (x.act ≡ Do op) × Means d.blocks d.journal (view_of d) (view_of next) op
 
 -- from disk to disk, each by the operation of a step
-abbrev pub StepsTurn : Disk → List Step → Disk → Type 0
-StepsTurn d [] end = end ≡ d
-StepsTurn d (x ∷ xs) end = (next : Disk) × StepTurns d x next × StepsTurn next xs end
+abbrev pub StepsMake : Disk → List Step → Disk → Type 0
+StepsMake d [] end = end ≡ d
+StepsMake d (x ∷ xs) end = (next : Disk) × StepMakes d x next × StepsMake next xs end
 
 -- how a step is refused that is no operation
 abbrev pub base_refusal : Step → TraceFault
@@ -49,4 +49,4 @@ IsStopped d x fault =
 abbrev pub StepsStop : Disk → List Step → Disk → TraceFault → Type 0
 StepsStop d [] end fault = ⊥
 StepsStop d (x ∷ xs) end fault =
-    (IsStopped d x fault × (end ≡ d)) ⊎ ((next : Disk) × StepTurns d x next × StepsStop next xs end fault)
+    (IsStopped d x fault × (end ≡ d)) ⊎ ((next : Disk) × StepMakes d x next × StepsStop next xs end fault)

@@ -4,7 +4,7 @@ ghost use Rattle.std.specs.Prelude.{◌≡◌, Ok, Err, OnOk, IfOk, IfErr};
 ghost use Rattle.crash_model.specs.Trace.{base_from};
 ghost use Rattle.crash_model.specs.Sound.{IsSound};
 ghost use Rattle.inode_fs.specs.Inside.{HasSameJournal};
-ghost use Rattle.order_modules.specs.Base.{base_refusal, disk_before_refusal, StepsTurn, StepsStop};
+ghost use Rattle.order_modules.specs.Base.{base_refusal, disk_before_refusal, StepsMake, StepsStop};
 
 use crash_model::refusals::TraceFault;
 use crash_model::steps::{Act, Step};
@@ -27,7 +27,7 @@ pub fn build_base<A: Allocator + Copy>(
     ensures before { image.new ≡ disk_before_refusal image.old steps.now }
     ensures journal { (image.new.journal ≡ image.old.journal) × HasSameJournal image.old image.new }
     ensures sound { IsSound image.old → IsSound image.new }
-    ensures means { IsSound image.old → IfOk result (λ _. StepsTurn image.old steps.now image.new) }
+    ensures means { IsSound image.old → IfOk result (λ _. StepsMake image.old steps.now image.new) }
     ensures stops { IsSound image.old → IfErr result (λ fault. StepsStop image.old steps.now image.new fault) }
 {
     for step in steps {

@@ -7,7 +7,7 @@ use Rattle.crash_model.specs.declared.steps.Step.{Step}
 use Rattle.question_model.specs.Workloads.{is_place, is_keep, IsOfPool, places_of, keeps_of}
 use Rattle.pool_judging.specs.declared.copying.PoolSteps.{PoolSteps}
 
--- the steps are those of a pool, with what workloads are made of and the promises apart
+-- the steps are those of a pool: what workloads are made of, and the promises in a list of their own
 pub record IsPoolOf {A : Type 0} (steps : List Step) (pool : PoolSteps A) : Type 0 where
   pub all : All IsOfPool steps
   pub places : pool.places.items ≡ places_of steps

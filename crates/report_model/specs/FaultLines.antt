@@ -7,7 +7,7 @@ use Rattle.crash_model.specs.declared.showing.Shown.{Shown}
 use Rattle.report_model.specs.Parts.{line}
 use Rattle.report_model.specs.Shows.{shows_text}
 
--- what is shown, where it is told
+-- what paths show, if it is listed
 abbrev pub shows_if : Option (List (List Shown)) → List (List Shown)
 shows_if None = []
 shows_if (Some shows) = shows

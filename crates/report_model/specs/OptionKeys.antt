@@ -2,7 +2,7 @@
 use Rattle.std.specs.Prelude.{ℕ, List, [], ◌∷◌, ◌++◌, map, Bool, if◌then◌else◌, Option, Some, None, codes, decimal}
 use Rattle.crash_model.specs.Promises.{Promise}
 use Rattle.crash_model.specs.Waiting.{Wait}
-use Rattle.crash_model.specs.Reasons.{Explanation, explanation}
+use Rattle.crash_model.specs.Reasons.{Explanation}
 use Rattle.crash_model.specs.RuleTexts.{rule_text}
 use Rattle.crash_model.specs.declared.rules.Rule.{Rule}
 use Rattle.crash_model.specs.declared.settings.Settings.{Settings}
@@ -57,7 +57,7 @@ disk_json settings =
 abbrev pub before_module : Settings → List ℕ
 before_module settings = disk_json settings ++ codes ",\"module\":"
 
--- the promises of a report with a comma before them, where they are told
+-- the promises of a report with a comma before them, if they are listed
 abbrev pub promises_json : ℕ → Option (List Promise) → List ℕ
 promises_json n None = []
 promises_json n (Some promises) = codes ",\"promises\":" ++ json_array (map (promise_json n) promises)
@@ -67,7 +67,7 @@ abbrev pub trace_json : Option Explanation → List ℕ
 trace_json None = []
 trace_json (Some listed) = codes ",\"trace\":" ++ json_array (map explained_json listed.patches)
 
--- the lines that wait with a comma before them, where promises are told
+-- the lines that wait with a comma before them, if promises are listed
 abbrev pub waits_json : ℕ → List Wait → Option (List Promise) → List ℕ
 waits_json n waits None = []
 waits_json n waits (Some _) = codes ",\"waits\":" ++ json_array (map (wait_json n) waits)

@@ -1,7 +1,7 @@
 -- What a whole report says.
 use Rattle.std.specs.Prelude.{ℕ, List, Option}
 use Rattle.report_model.specs.Report.{Section}
-use Rattle.crash_model.specs.Reasons.{Explanation, explanation}
+use Rattle.crash_model.specs.Reasons.{Explanation}
 use Rattle.crash_model.specs.Promises.{Promise}
 use Rattle.report_model.specs.Summary.{CountedFault}
 use Rattle.report_model.specs.Needs.{ListedRule}

@@ -170,7 +170,7 @@ module _ (t : Fixed) (good : ℕ → Type 0) (S : Type 0) (id : ℕ) (v : View) 
     distinct = λ p q j k near far b c same. let home : p ≡ q = sym (o.row.at_home p j near b)
         ∙ ap (λ (x : ℕ). x % 13) same ∙ o.row.at_home q k far c in (
           home,
-          o.row.apart q j k far (subst (λ (y : ℕ). j < length (row_of o.rows y)) home b) c
+          o.row.distinct q j k far (subst (λ (y : ℕ). j < length (row_of o.rows y)) home b) c
               (subst (λ (y : ℕ). get_or (row_of o.rows y) j 0 ≡ get_or (row_of o.rows q) k 0) home same),
         );
     short = o.row.short;

@@ -2,4 +2,4 @@ pub mod Closures
 pub mod Families
 pub mod Widening
 pub mod Firsts
-pub mod Questions
+pub mod Properties

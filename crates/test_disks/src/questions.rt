@@ -4,7 +4,7 @@ ghost use Rattle.std.specs.Prelude.{◌<◌, ◌⊎◌, length};
 ghost use Rattle.patch_sets.specs.Sets.{Has};
 
 use patch_sets::set::has;
-use set_families::{ClosedSets, Family, Question};
+use set_families::{ClosedSets, Family, SetProperty};
 
 /// Whether a set has an id.
 #[derive(Clone, Copy)]
@@ -22,7 +22,7 @@ pub(crate) struct Both<P, Q>(pub(crate) P, pub(crate) Q);
 #[derive(Clone, Copy, Drop)]
 pub(crate) struct Either<P, Q>(pub(crate) P, pub(crate) Q);
 
-impl Question for HasId {
+impl SetProperty for HasId {
     ghost is_about = { λ q deps. q.0 < length deps };
 
     ghost holds = { λ q set. Has set q.0 };
@@ -38,7 +38,7 @@ impl Question for HasId {
     }
 }
 
-impl Question for LacksId {
+impl SetProperty for LacksId {
     ghost is_about = { λ q deps. q.0 < length deps };
 
     ghost holds = { λ q set. ¬ (Has set q.0) };
@@ -48,7 +48,7 @@ impl Question for LacksId {
     }
 }
 
-impl<P: Question, Q: Question> Question for Both<P, Q> {
+impl<P: SetProperty, Q: SetProperty> SetProperty for Both<P, Q> {
     ghost is_about = { λ q deps. P.is_about q.0 deps × Q.is_about q.1 deps };
 
     ghost holds = { λ q set. P.holds q.0 set × Q.holds q.1 set };
@@ -65,7 +65,7 @@ impl<P: Question, Q: Question> Question for Both<P, Q> {
     }
 }
 
-impl<P: Question, Q: Question> Question for Either<P, Q> {
+impl<P: SetProperty, Q: SetProperty> SetProperty for Either<P, Q> {
     ghost is_about = { λ q deps. P.is_about q.0 deps × Q.is_about q.1 deps };
 
     ghost holds = { λ q set. P.holds q.0 set ⊎ Q.holds q.1 set };

@@ -4,8 +4,8 @@ use Rattle.crash_model.specs.Sound.{IsSound}
 use Rattle.crash_model.specs.Trace.{base_from}
 use Rattle.crash_model.specs.declared.refusals.TraceFault.{TraceFault}
 use Rattle.crash_model.specs.declared.steps.Step.{Step}
-use Rattle.order_modules.specs.Base.{disk_before_refusal, StepTurns, StepsStop}
-use Rattle.order_modules.proofs.Turning.{drop_step, turns_on, stops_on, stops_base, stops_disk}
+use Rattle.order_modules.specs.Base.{disk_before_refusal, StepMakes, StepsStop}
+use Rattle.order_modules.proofs.Making.{drop_step, made_on, stops_on, stops_base, stops_disk}
 use Rattle.order_modules.proofs.base.build_base.Goals as goal
 
 pub returns-in_default : goal.returns-in_default
@@ -40,7 +40,7 @@ loop-step-preserved g c =
     let split : drop c.loop-step.step-index c.args.steps.now ≡ c.step-item.result ∷ drop (c.loop-step.step-index + 1)
     c.args.steps.now = drop_step c.args.steps.now c.loop-step.step-index c.step-item.result c.loop-step-test.true
     c.step-item.is in
-    let turn : IsSound c.args.image.now → StepTurns d c.step-item.result next =
+    let made : IsSound c.args.image.now → StepMakes d c.step-item.result next =
     λ sound. (
       c.in-Do.op,
       c.in-Do.is,
@@ -51,9 +51,9 @@ loop-step-preserved g c =
       journal = search rules;
       same_journal = search rules;
       sound = search rules;
-      means = λ sound. turns_on c.args.image.now d next c.args.steps.now c.loop-step.step-index c.step-item.result split
-          (turn sound) (c.loop-step.invariant.means sound);
+      means = λ sound. made_on c.args.image.now d next c.args.steps.now c.loop-step.step-index c.step-item.result split
+          (made sound) (c.loop-step.invariant.means sound);
       stops = λ sound. stops_on c.args.image.now d next c.args.steps.now c.loop-step.step-index c.step-item.result split
-          (turn sound) (c.loop-step.invariant.stops sound);
+          (made sound) (c.loop-step.invariant.stops sound);
       before = search rules;
     }

@@ -6,7 +6,7 @@ use Rattle.set_families.proofs.closed_sets.ClosedSets.+any_member.Goals as goal
 pub returns-else-any_member : goal.returns-else-any_member
 returns-else-any_member g t c =
     let deps = c.args.self.now.deps.now in
-    let holds = g.Q.Question.holds c.args.question.now in
+    let holds = g.Q.SetProperty.holds c.args.property.now in
     let having = c.any_member-else-any_member.ensures in
     let lacking = c.any_member.ensures in (
       λ given. let it = having.0 given in

@@ -1,4 +1,4 @@
--- Answers to questions about families.
+-- What is said of a property when it is asked of a family.
 use Rattle.std.specs.Prelude.{ℕ, List, Bool, true, false, Result, Ok, Err}
 use Rattle.set_families.specs.declared.family.Family.{Family}
 use Rattle.set_families.specs.Families.{IsMember, IsUndecided}

@@ -1,6 +1,6 @@
 use Rattle.std.proofs.Common.{sym, ◌∙◌}
 use Rattle.fault_deciding.proofs.Promised.{answered, not_counted}
-use Rattle.fault_deciding.proofs.question.FaultQuestionQuestion.ask.Goals as goal
+use Rattle.fault_deciding.proofs.question.FaultQuestionSetProperty.ask.Goals as goal
 
 pub returns-then-not-counts : goal.returns-then-not-counts
 returns-then-not-counts g c =

@@ -13,7 +13,7 @@ use Rattle.crash_model.specs.declared.refusals.TraceFault.TheVariants as no
 use Rattle.crash_model.specs.declared.steps.Act.{Act}
 use Rattle.crash_model.specs.declared.steps.Act.TheVariants.{Do, Group, End, Depend, Sync, Fsync, Keep, Hold, Spare}
 use Rattle.crash_model.specs.declared.steps.Step.{Step}
-use Rattle.order_modules.specs.Base.{base_refusal, disk_before_refusal, StepTurns, StepsTurn, StepsStop}
+use Rattle.order_modules.specs.Base.{base_refusal, disk_before_refusal, StepMakes, StepsMake, StepsStop}
 
 pub drop_step : (steps : List Step) (i : ℕ) (x : Step) → i < length steps → x ≡ get_or steps i x
     → drop i steps ≡ x ∷ drop (i + 1) steps
@@ -21,16 +21,16 @@ drop_step steps i x inside read = drop-cons steps i x inside ∙ ap (λ (y : Ste
     ∙ ap (λ (n : ℕ). x ∷ drop n steps) (let z : suc i ≡ i + 1 = omega arith in z)
 
 module _ (start d next : Disk) (steps : List Step) (i : ℕ) (x : Step) (split : drop i steps ≡ x ∷ drop (i + 1) steps)
-    (turn : StepTurns d x next) where
-  pub turns_on : ((end : Disk) → StepsTurn d (drop i steps) end → StepsTurn start steps end) → (end : Disk)
-      → StepsTurn next (drop (i + 1) steps) end → StepsTurn start steps end
-  turns_on before end rest = before end (subst (λ (l : List Step). StepsTurn d l end) (sym split) (next, turn, rest))
+    (made : StepMakes d x next) where
+  pub made_on : ((end : Disk) → StepsMake d (drop i steps) end → StepsMake start steps end) → (end : Disk)
+      → StepsMake next (drop (i + 1) steps) end → StepsMake start steps end
+  made_on before end rest = before end (subst (λ (l : List Step). StepsMake d l end) (sym split) (next, made, rest))
 
   pub stops_on : ((end : Disk) (fault : TraceFault) → StepsStop d (drop i steps) end fault
       → StepsStop start steps end fault) → (end : Disk) (fault : TraceFault)
       → StepsStop next (drop (i + 1) steps) end fault → StepsStop start steps end fault
   stops_on before end fault rest = before end fault (subst (λ (l : List Step). StepsStop d l end fault) (sym split)
-      (inr (next, turn, rest)))
+      (inr (next, made, rest)))
 
 -- ---- a step that is no operation
 

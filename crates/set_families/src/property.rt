@@ -1,13 +1,13 @@
-//! Questions about whole families.
+//! Properties of closed sets, asked of whole families.
 ghost use Rattle.std.specs.Prelude.{ℕ, List};
 ghost use Rattle.set_families.specs.Families.{IsFamily};
-ghost use Rattle.set_families.specs.Questions.{IsAnswer};
+ghost use Rattle.set_families.specs.Properties.{IsAnswer};
 
 use crate::closed_sets::ClosedSets;
 use crate::family::Family;
 
 /// A property of closed sets that can be asked of whole families.
-pub trait Question {
+pub trait SetProperty {
     /// The graphs, by the dependencies of each id, that it may be asked about.
     ghost is_about: { Self → List ℕ → Type 0 };
 
