@@ -40,6 +40,7 @@ use Rattle.crash_text.specs.Searching.{IsPoolRefusal, IsSearchOf}
 use Rattle.crash_text.specs.SearchingRules.{IsRuleSearchOf}
 use Rattle.promise_laws.specs.Waited.{RiskNoPromise}
 use Rattle.crash_text.specs.Traced.{IsTraced, IsTraceRefusal, IsReportOn, RisksNothing}
+use Rattle.crash_text.specs.Traced.{BreakAtRiskAlone, FindsRisksAlone}
 use Rattle.crash_text.specs.declared.traced_script.TracedScript.{TracedScript}
 use Rattle.crash_text.proofs.Limit.{all_steps}
 
@@ -63,6 +64,24 @@ module _ (bytes : List ℕ) (settings : Settings) where
       → RisksNothing Decide bytes settings → RiskNoPromise (asked_by settings seen) seen
   nothing_at_risk base steps seen start same nothing =
       subst (λ (s : List Step). RiskNoPromise (asked_by settings s) s) (sym same) (nothing base steps start)
+
+  -- a script has one base, and one list of steps after it
+  base_one : (base other : Disk) (steps more : List Step) → HasBase bytes settings base steps
+      → HasBase bytes settings other more → (base ≡ other) × (steps ≡ more)
+  base_one base other steps more start begun =
+      let same = script_one bytes start.before steps begun.before more start.read begun.read in
+      let built : base_from formatted start.before ≡ Ok other =
+      subst (λ (before : List Step). base_from formatted before ≡ Ok other) (sym same.0) begun.built in
+      let one : base ≡ other = let a = start.built in cc in
+      (one, same.1)
+
+  -- so what is found of its steps is found of the script
+  pub finds_risks : (base : Disk) (steps seen : List Step) → HasBase bytes settings base steps → seen ≡ steps
+      → BreakAtRiskAlone settings base seen → FindsRisksAlone Decide bytes settings
+  finds_risks base steps seen start same alone other more begun =
+      let one = base_one base other steps more start begun in
+      subst (λ (d : Disk). BreakAtRiskAlone settings d more) one.0
+      (subst (BreakAtRiskAlone settings base) (same ∙ one.1) alone)
 
   -- there is no base, so no step after the start line is asked about
   abbrev HasNone : Type 0

@@ -1,9 +1,12 @@
 -- Traced scripts, and the reports on them.
 use Rattle.std.specs.Prelude.{◌≡◌, ℕ, List, Ok, Err}
 use Rattle.report_model.specs.ScriptGraph.{HasBase, asked_by, ordering_rules}
-use Rattle.crash_model.specs.Checker.{Demands, AreDemands, IsFailingUnder}
+use Rattle.patch_sets.specs.Closed.{IsClosed}
+use Rattle.crash_model.specs.Checker.{Demands, AreDemands, IsFailingUnder, all_faults}
 use Rattle.crash_model.specs.Disk.{Disk}
+use Rattle.crash_model.specs.Patches.{deps_of, image_of}
 use Rattle.crash_model.specs.Refusals.{run_of_trace}
+use Rattle.crash_model.specs.Replay.{image_after_replay}
 use Rattle.crash_model.specs.Trace.{trace_from, IsGraphOf}
 use Rattle.crash_model.specs.Tracing.{Tracing, trace_start}
 use Rattle.crash_model.specs.declared.orderings.Ordering.{Ordering}
@@ -14,7 +17,7 @@ use Rattle.crash_model.specs.declared.settings.Asked.{Asked}
 use Rattle.crash_model.specs.declared.settings.Settings.{Settings}
 use Rattle.crash_model.specs.declared.steps.Step.{Step}
 use Rattle.traced_patches.specs.Traced.{TracedPatches}
-use Rattle.promise_laws.specs.Waited.{RiskNoPromise}
+use Rattle.promise_laws.specs.Waited.{RiskNoPromise, AreAtRisk}
 use Rattle.question_model.specs.declared.question.Question.{Question}
 use Rattle.question_model.specs.declared.question.Question.TheVariants.{Search, SearchRules}
 use Rattle.crash_text.specs.declared.traced_script.TracedScript.{TracedScript}
@@ -70,6 +73,23 @@ RisksNothing (SearchRules longest) bytes settings = Unit {0}
 RisksNothing _ bytes settings =
     (base : Disk) (steps : List Step) → HasBase bytes settings base steps
     → RiskNoPromise (asked_by settings steps) steps
+
+-- Whatever a crash leaves of these steps, each fault of its image after replay is a broken promise that is at risk,
+-- whether it counts or not.
+abbrev pub BreakAtRiskAlone : Settings → Disk → List Step → Type 0
+BreakAtRiskAlone settings base steps =
+    (last : Tracing) (patches : List Patch) (demands : Demands)
+    → trace_from settings.module (trace_start settings.whole_blocks base) steps ≡ Ok last
+    → IsGraphOf (ordering_rules settings) base last patches → AreDemands (asked_by settings steps) base steps demands
+    → (set : ℕ) → IsClosed (deps_of patches) set
+    → AreAtRisk steps (all_faults demands set (image_after_replay (image_of base patches set)))
+
+-- so of the steps behind the start line; in a search no promise is at risk
+abbrev pub FindsRisksAlone : Question → List ℕ → Settings → Type 0
+FindsRisksAlone (Search longest) bytes settings = Unit {0}
+FindsRisksAlone (SearchRules longest) bytes settings = Unit {0}
+FindsRisksAlone _ bytes settings =
+    (base : Disk) (steps : List Step) → HasBase bytes settings base steps → BreakAtRiskAlone settings base steps
 
 -- the text and the number are those of such a report on a traced script, whatever state traced its patches
 abbrev pub IsReportOn : {A : Type 0} → (Demands → Disk → Tracing → List Patch → List ℕ → ℕ → Type 0) → Settings

@@ -10,7 +10,7 @@ ghost use Rattle.report_model.specs.Answer.{Reported, Refused};
 ghost use Rattle.question_model.specs.Answers.{IsAnswerTo};
 ghost use Rattle.question_model.specs.Asked.{CanBeAsked};
 ghost use Rattle.crash_text.specs.BaseRefusal.{IsBaseRefusal};
-ghost use Rattle.crash_text.specs.Traced.{RisksNothing};
+ghost use Rattle.crash_text.specs.Traced.{RisksNothing, FindsRisksAlone};
 
 use crate::deciding::decided;
 use crate::enough::enough;
@@ -52,6 +52,8 @@ pub struct Outcome<A: Allocator> {
 /// reports. Under the full journal with no rule taken out no set fails and no fault is found, if no promise is at risk:
 /// whatever the script and the rules put in, whatever else is demanded of images, and also with whole blocks. At risk are
 /// the promise of a `hold`, and that of a `keep` unless a script without groups has waited for it; in a search none is.
+/// If a promise is at risk, nothing else is broken: no crash leaves another fault, and each promise for which the script
+/// has waited is kept.
 pub fn run<R, A, G>(
     host: &Host<'_, R, A>,
     script: &[u8],
@@ -71,6 +73,8 @@ where
     ensures full { request.now.settings.module ≡ Full → request.now.settings.without.items ≡ []
         → RisksNothing request.now.question script.now request.now.settings
         → IfOk result (λ outcome. outcome.number ≡ 0) }
+    ensures at_risk { request.now.settings.module ≡ Full → request.now.settings.without.items ≡ []
+        → IfOk result (λ _. FindsRisksAlone request.now.question script.now request.now.settings) }
 {
     let read = read_script(host.alloc, script)?;
     let settings = &request.settings;

@@ -7,6 +7,7 @@ ghost use Rattle.promise_laws.specs.Waited.{RiskNoPromise};
 ghost use Rattle.report_model.specs.ScriptGraph.{asked_by};
 ghost use Rattle.report_sections.specs.Bodies.{AreOnBase};
 ghost use Rattle.crash_text.specs.Traced.{asks_of, IsOrderingOf, IsTraced, IsTraceRefusal, NoneFails};
+ghost use Rattle.crash_text.specs.Traced.{BreakAtRiskAlone};
 
 use crash_model::orderings::Ordering;
 use crash_model::refusals::RunFault;
@@ -28,7 +29,8 @@ pub(crate) struct TracedScript<'steps, A: Allocator + Copy> {
 
 /// Traces the steps over the base, under the ordering that the settings ask for.
 ///
-/// Under the full journal with no rule taken out no set that a crash can leave fails, if no promise is at risk.
+/// Under the full journal with no rule taken out no set that a crash can leave fails, if no promise is at risk. If one is,
+/// nothing else is broken.
 pub(crate) fn trace_script<'steps, A: Allocator + Copy>(
     alloc: A,
     base: &'steps Image<A>,
@@ -44,6 +46,8 @@ pub(crate) fn trace_script<'steps, A: Allocator + Copy>(
         → IsTraceRefusal settings.now base.now steps.now fault) }
     ensures full { settings.now.module ≡ Full → settings.now.without.items ≡ []
         → RiskNoPromise (asked_by settings.now steps.now) steps.now → IfOk result NoneFails }
+    ensures at_risk { settings.now.module ≡ Full → settings.now.without.items ≡ []
+        → IfOk result (λ _. BreakAtRiskAlone settings.now base.now steps.now) }
 {
     // For the proof: what holds of every image.
     let _blocks = base.blocks();

@@ -2,9 +2,12 @@
 use Rattle.std.proofs.Common.{◌≡◌, ℕ, zero, suc, inl, inr, List, [], ◌∷◌, ◌++◌, Bool, true, false, ◌&&◌, ◌||◌, Option}
 use Rattle.std.proofs.Common.{Some, None, Result, Ok, Err, append_assoc, refl, sym, ◌∙◌, ap, subst}
 use Rattle.std.specs.Prelude.{All, option_to_list, ◌==◌}
+use Rattle.std.specs.List.{Contains}
+use Rattle.std.proofs.lemmas.List.Elements.{Contains-append_cases}
 use Rattle.std.proofs.lemmas.List.Folds.{list_any-append}
 use Rattle.patch_sets.specs.Closed.{IsClosed}
 use Rattle.patch_sets.proofs.Ids.{eq_from_true}
+use Rattle.patch_sets.proofs.Lists.{front_or_rest, in_none}
 use Rattle.crash_model.specs.Checker.{Asked, Demands, AreDemands, IsFailingUnder, counted_among, promised, all_faults}
 use Rattle.crash_model.specs.Disk.{Disk, IsDisk}
 use Rattle.crash_model.specs.Lists.{when, some_below}
@@ -18,6 +21,7 @@ use Rattle.crash_model.specs.RuleFacts.{AreAmong}
 use Rattle.crash_model.specs.Sound.{IsSound, HasZeroJournal}
 use Rattle.crash_model.specs.Trace.{trace_from, step, IsGraphOf}
 use Rattle.crash_model.specs.Tracing.{Tracing, trace_start}
+use Rattle.crash_model.specs.declared.fault.Fault.{Fault}
 use Rattle.crash_model.specs.declared.fault.Fault.TheVariants.{BrokenPromise}
 use Rattle.crash_model.specs.declared.modules.Module.{Module}
 use Rattle.crash_model.specs.declared.modules.Module.TheVariants.{Full}
@@ -38,7 +42,7 @@ use Rattle.full_journal_laws.proofs.Failing.{only_broken, none_fails}
 use Rattle.full_journal_laws.proofs.Final.{recovered}
 use Rattle.full_journal_laws.proofs.Safe.{steps_give, traced_is_safe}
 use Rattle.promise_laws.specs.Waited.{HasNoOperation, HasNoGroups, EndBehind, IsWaitedFor, IsSure, IsSureAt, AreSure}
-use Rattle.promise_laws.specs.Waited.{RiskNoPromise}
+use Rattle.promise_laws.specs.Waited.{RiskNoPromise, AreAtRisk}
 use Rattle.promise_laws.proofs.Kept.{waited_kept, durable_kept}
 use Rattle.promise_laws.proofs.Steps.{first_step, joined, ops_of-append}
 
@@ -170,6 +174,39 @@ pub none_broken : (promises : List Promise) (set : ℕ) (d : Disk)
 unfolding broken_lines
 none_broken promises set d none = no_lines (breaks_line promises set d) (lines_end promises) none
 
+-- ---- what is listed
+
+broken_if : (line : ℕ) (test : Bool) (fault : Fault)
+    → Contains (option_to_list (when test (BrokenPromise line))) fault → (test ≡ true) × (fault ≡ BrokenPromise line)
+broken_if line true fault is = elim (front_or_rest (BrokenPromise line) [] fault is) [
+  | inl e ↦ (refl, sym e)
+  | inr rest ↦ absurd (in_none fault rest)
+]
+broken_if line false fault is = absurd (in_none fault is)
+
+of_lines : (test : ℕ → Bool) (n : ℕ) (fault : Fault)
+    → Contains (some_below n (λ line. when (test line) (BrokenPromise line))) fault
+    → (line : ℕ) × (test line ≡ true) × (fault ≡ BrokenPromise line)
+unfolding some_below
+of_lines test zero fault is = absurd (in_none fault is)
+of_lines test (suc n) fault is = elim (Contains-append_cases
+    (some_below n (λ line. when (test line) (BrokenPromise line)))
+    (option_to_list (when (test n) (BrokenPromise n))) fault is) [
+      | inl before ↦ of_lines test n fault before
+      | inr last ↦ let both = broken_if n (test n) fault last in (n, both.0, both.1)
+    ]
+
+-- the line of a broken promise
+broken_line : (promises : List Promise) (set : ℕ) (d : Disk) (fault : Fault)
+    → Contains (broken_lines promises set d) fault
+    → (line : ℕ) × (breaks_line promises set d line ≡ true) × (fault ≡ BrokenPromise line)
+unfolding broken_lines
+broken_line promises set d fault found = of_lines (breaks_line promises set d) (lines_end promises) fault found
+
+not_both : (b : Bool) → b ≡ true → b ≡ false → ⊥
+not_both true holds fails = absurd (cc)
+not_both false holds fails = absurd (cc)
+
 -- ---- so nothing fails
 
 module _ (rules : List Rule) (whole : Bool) (asked : Asked) (base : Disk) (steps : List Step) (s : Tracing)
@@ -188,15 +225,20 @@ module _ (rules : List Rule) (whole : Bool) (asked : Asked) (base : Disk) (steps
   listed_none sure closed false =
       none_broken [] set (image_after_replay (image_of base patches set)) (λ line. refl)
 
-  faultless : AreSure steps → IsClosed (deps_of patches) set
-      → all_faults demands set (image_after_replay (image_of base patches set)) ≡ []
-  faultless sure closed =
+  broken_alone : IsClosed (deps_of patches) set
+      → all_faults demands set (image_after_replay (image_of base patches set))
+      ≡ broken_lines (promised (when asked.promising (promises_of Full asked.durable base steps))) set
+      (image_after_replay (image_of base patches set))
+  broken_alone closed =
       only_broken asked base steps s patches set disk
       (recovered rules whole base steps s patches set disk sound zeros (steps_give steps names) is_traced among graph closed) demands are
-      ∙ (ap (λ (ps : Option (List Promise)). broken_lines (promised ps) set
+      ∙ ap (λ (ps : Option (List Promise)). broken_lines (promised ps) set
       (image_after_replay (image_of base patches set))) (are.promises
       ∙ ap (λ (kind : Module). when asked.promising (promises_of kind asked.durable base steps)) full)
-      ∙ listed_none sure closed asked.promising)
+
+  faultless : AreSure steps → IsClosed (deps_of patches) set
+      → all_faults demands set (image_after_replay (image_of base patches set)) ≡ []
+  faultless sure closed = broken_alone closed ∙ listed_none sure closed asked.promising
 
   pub none_at_risk : RiskNoPromise asked steps → ¬ (IsFailingUnder demands base patches set)
   none_at_risk (inl sure) failing = failing.unclean (record {
@@ -210,3 +252,25 @@ module _ (rules : List Rule) (whole : Bool) (asked : Asked) (base : Disk) (steps
       none_fails asked whole demands base steps patches disk are (inr (counted, are.counted ∙ is, without))
       (traced_is_safe Full rules whole base steps s patches refl among disk sound zeros names is_traced graph) set
       failing
+
+  -- ---- and what is found is at risk
+
+  found_at_risk : (closed : IsClosed (deps_of patches) set) (promising : Bool)
+      → AreAtRisk steps (broken_lines (promised (when promising (promises_of Full asked.durable base steps))) set
+      (image_after_replay (image_of base patches set)))
+  found_at_risk closed true fault found =
+      let it = broken_line (promises_of Full asked.durable base steps) set
+      (image_after_replay (image_of base patches set)) fault found in (
+        it.0,
+        it.2,
+        λ sure. not_both _ it.1 (line_kept rules whole asked.durable base steps s patches set it.0 disk
+            sound zeros (steps_give steps names) is_traced among graph closed sure),
+      )
+  found_at_risk closed false fault found =
+      let it = broken_line [] set (image_after_replay (image_of base patches set)) fault found in
+      absurd (not_both _ it.1 refl)
+
+  pub at_risk_alone : IsClosed (deps_of patches) set
+      → AreAtRisk steps (all_faults demands set (image_after_replay (image_of base patches set)))
+  at_risk_alone closed =
+      subst (AreAtRisk steps) (sym (broken_alone closed)) (found_at_risk closed asked.promising)

@@ -1,8 +1,10 @@
 -- Which promises a script has waited for.
 use Rattle.std.specs.Prelude.{◌≡◌, ◌⊎◌, ℕ, List, [], ◌∷◌, ◌++◌, Bool, true, false, Some}
-use Rattle.std.specs.List.{list_any}
+use Rattle.std.specs.List.{list_any, Contains}
 use Rattle.patch_sets.specs.Sets.{has}
 use Rattle.crash_model.specs.Checker.{Asked}
+use Rattle.crash_model.specs.declared.fault.Fault.{Fault}
+use Rattle.crash_model.specs.declared.fault.Fault.TheVariants.{BrokenPromise}
 use Rattle.crash_model.specs.declared.names.Path.{Path}
 use Rattle.crash_model.specs.declared.steps.Act.{Act}
 use Rattle.crash_model.specs.declared.steps.Act.TheVariants.{Group, End, Depend, Sync, Fsync, Keep, Hold}
@@ -63,3 +65,8 @@ AreSure steps = (line : ℕ) → IsSureAt line steps
 abbrev pub RiskNoPromise : Asked → List Step → Type 0
 RiskNoPromise asked steps =
     AreSure steps ⊎ ((counted : ℕ) × (asked.counted ≡ Some counted) × (has counted 10 ≡ false))
+
+-- each of the faults is a broken promise that is at risk: one of a line that is not sure
+abbrev pub AreAtRisk : List Step → List Fault → Type 0
+AreAtRisk steps faults =
+    (fault : Fault) → Contains faults fault → (line : ℕ) × (fault ≡ BrokenPromise line) × ¬ (IsSureAt line steps)

@@ -5,7 +5,7 @@ ghost use Rattle.patch_sets.specs.Closed.{IsClosed};
 ghost use Rattle.crash_model.specs.Disk.{Disk, IsDisk};
 ghost use Rattle.crash_model.specs.Sound.{IsSound, HasZeroJournal};
 ghost use Rattle.crash_model.specs.Patches.{deps_of, image_of};
-ghost use Rattle.crash_model.specs.Checker.{Asked, Demands, AreDemands, IsFailingUnder};
+ghost use Rattle.crash_model.specs.Checker.{Asked, Demands, AreDemands, IsFailingUnder, all_faults};
 ghost use Rattle.crash_model.specs.Promises.{kept, durable, is_broken, breaks_line, promises_of};
 ghost use Rattle.crash_model.specs.Replay.{image_after_replay};
 ghost use Rattle.crash_model.specs.Rules.{rules_of};
@@ -22,6 +22,7 @@ ghost use Rattle.crash_model.specs.declared.steps.Target.TheVariants.{At};
 ghost use Rattle.inode_fs.specs.Inside.{GivesName};
 ghost use Rattle.full_journal_laws.specs.Full.{ops_of, GivesNames};
 ghost use Rattle.promise_laws.specs.Waited.{HasNoGroups, EndBehind, IsWaitedFor, IsSureAt, RiskNoPromise};
+ghost use Rattle.promise_laws.specs.Waited.{AreAtRisk};
 
 /// In a script without groups no set that a crash can leave breaks the promise of a line `keep` for which the script has
 /// waited: the line stands before the first operation; or a `sync` stands before it, with no operation between; or it
@@ -74,4 +75,16 @@ pub fn nothing_fails_where_no_promise_is_at_risk()
         → IsGraphOf rules base s patches → asked.kind ≡ Full → AreDemands asked base steps demands
         → RiskNoPromise asked steps
         → ¬ (IsFailingUnder demands base patches set) }
+{}
+
+/// And whatever is demanded, each fault that a crash leaves is a broken promise of a line that is not sure. So none of the
+/// nine other faults is left, and the promises that the script has waited for are kept beside those that are at risk.
+pub fn only_promises_at_risk_are_broken()
+    ensures { (rules : List Rule) → (whole : Bool) → (asked : Asked) → (base : Disk) → (steps : List Step)
+        → (s : Tracing) → (patches : List Patch) → (set : ℕ) → (demands : Demands)
+        → IsDisk base → IsSound base → HasZeroJournal base → All GivesNames steps
+        → trace_from Full (trace_start whole base) steps ≡ Ok s → AreAmong (rules_of Full) rules
+        → IsGraphOf rules base s patches → asked.kind ≡ Full → AreDemands asked base steps demands
+        → IsClosed (deps_of patches) set
+        → AreAtRisk steps (all_faults demands set (image_after_replay (image_of base patches set))) }
 {}

@@ -1,4 +1,4 @@
-use Rattle.std.proofs.Common.{rules, ◌≡◌, ◌≢◌, List, Err, IfOk, IfErr, ap, subst, sym, ◌∙◌}
+use Rattle.std.proofs.Common.{rules, ◌≡◌, ◌≢◌, List, Result, Ok, Err, IfOk, IfErr, ap, subst, sym, ◌∙◌}
 use Rattle.std.specs.Prelude.{All, string_bytes}
 use Rattle.std.proofs.lemmas.Result.{IfErr-weaker, IfOk-weaker}
 use Rattle.report_model.specs.Answer.{Refused, Reported, untraced}
@@ -16,12 +16,16 @@ use Rattle.question_model.specs.declared.question.TheConstants.{MAX_SYNCS}
 use Rattle.crash_text.specs.BaseRefusal.{IsBaseRefusal}
 use Rattle.crash_text.specs.Searching.{IsPoolRefusal, IsSearchOf}
 use Rattle.crash_text.specs.SearchingRules.{IsRuleSearchOf}
-use Rattle.crash_text.specs.Traced.{IsTraced, IsTraceRefusal, RisksNothing}
-use Rattle.crash_text.proofs.Answering.{has_base, nothing_at_risk, refused_script, refused_base, refused_steps}
+use Rattle.crash_text.specs.Traced.{IsTraced, IsTraceRefusal, RisksNothing, FindsRisksAlone}
+use Rattle.crash_text.proofs.Answering.{has_base, nothing_at_risk, finds_risks, refused_script, refused_base, refused_steps}
 use Rattle.crash_text.proofs.Answering.{reported_on, reported_visit, refused_visit, refused_pool, reported_pool}
 use Rattle.crash_text.proofs.Answering.{reported_rules, refused_lines, refused_waits, whole_steps}
 use Rattle.crash_text.proofs.Pools.{are_acts}
 use Rattle.crash_text.proofs.run.run.Goals as goal
+
+always : {T E P : Type 0} (r : Result T E) → P → IfOk r (λ _. P)
+always (Ok x) p = p
+always (Err e) p = tt
 
 pub returns-in_err-read-clause-refused : goal.returns-in_err-read-clause-refused
 returns-in_err-read-clause-refused g c =
@@ -113,6 +117,18 @@ returns-in-Visit-clause-full g c = λ full none nothing.
     (nothing_at_risk c.args.script.now asked.settings base read.traced.items _ start c.deref-in-Visit.ensures.value
     (subst (λ q. RisksNothing q c.args.script.now asked.settings) c.in-Visit.is nothing)))
 
+pub returns-in-Visit-clause-at_risk : goal.returns-in-Visit-clause-at_risk
+returns-in-Visit-clause-at_risk g c = λ full none.
+    let asked = c.args.request.now in
+    let read = c.in_ok-read.read in
+    let base = c.in_ok-built.built in
+    let start = has_base c.args.script.now asked.settings read.base.items _ read.traced.items base
+    c.in_ok-read.ensures.ok c.in_ok-built.ensures.lawful c.deref.ensures.value c.in_ok-built.ensures.built in
+    always c.visited-answer.result
+    (subst (λ q. FindsRisksAlone q c.args.script.now asked.settings) (sym c.in-Visit.is)
+    (finds_risks c.args.script.now asked.settings base read.traced.items _ start c.deref-in-Visit.ensures.value
+    (c.in_ok-script-in-Visit.ensures.at_risk full none)))
+
 -- ---- a decision
 
 pub returns-in_err-script-in-Decide-clause-refused : goal.returns-in_err-script-in-Decide-clause-refused
@@ -158,6 +174,17 @@ returns-in-Decide-clause-full g c = λ full none nothing.
     (nothing_at_risk c.args.script.now asked.settings base read.traced.items _ start c.deref-in-Decide.ensures.value
     (subst (λ q. RisksNothing q c.args.script.now asked.settings) c.in-Decide.is nothing)))
 
+pub returns-in-Decide-clause-at_risk : goal.returns-in-Decide-clause-at_risk
+returns-in-Decide-clause-at_risk g c = λ full none.
+    let asked = c.args.request.now in
+    let read = c.in_ok-read.read in
+    let base = c.in_ok-built.built in
+    let start = has_base c.args.script.now asked.settings read.base.items _ read.traced.items base
+    c.in_ok-read.ensures.ok c.in_ok-built.ensures.lawful c.deref.ensures.value c.in_ok-built.ensures.built in
+    subst (λ q. FindsRisksAlone q c.args.script.now asked.settings) (sym c.in-Decide.is)
+    (finds_risks c.args.script.now asked.settings base read.traced.items _ start c.deref-in-Decide.ensures.value
+    (c.in_ok-script-in-Decide.ensures.at_risk full none))
+
 -- ---- the rules that are enough
 
 pub returns-in_err-script-in-Enough-clause-refused : goal.returns-in_err-script-in-Enough-clause-refused
@@ -202,6 +229,17 @@ returns-in-Enough-clause-full g c = λ full none nothing.
     c.in_ok-enough-in-Enough.ensures.safe (c.in_ok-script-in-Enough.ensures.full full none
     (nothing_at_risk c.args.script.now asked.settings base read.traced.items _ start c.deref-in-Enough.ensures.value
     (subst (λ q. RisksNothing q c.args.script.now asked.settings) c.in-Enough.is nothing)))
+
+pub returns-in-Enough-clause-at_risk : goal.returns-in-Enough-clause-at_risk
+returns-in-Enough-clause-at_risk g c = λ full none.
+    let asked = c.args.request.now in
+    let read = c.in_ok-read.read in
+    let base = c.in_ok-built.built in
+    let start = has_base c.args.script.now asked.settings read.base.items _ read.traced.items base
+    c.in_ok-read.ensures.ok c.in_ok-built.ensures.lawful c.deref.ensures.value c.in_ok-built.ensures.built in
+    subst (λ q. FindsRisksAlone q c.args.script.now asked.settings) (sym c.in-Enough.is)
+    (finds_risks c.args.script.now asked.settings base read.traced.items _ start c.deref-in-Enough.ensures.value
+    (c.in_ok-script-in-Enough.ensures.at_risk full none))
 
 -- ---- the lines that are enough
 
@@ -277,6 +315,22 @@ returns-in-EnoughLines-clause-full g c = λ full none nothing.
     (nothing_at_risk c.args.script.now asked.settings base read.traced.items _ start whole
     (subst (λ q. RisksNothing q c.args.script.now asked.settings) c.in-EnoughLines.is nothing)))
 
+pub returns-in-EnoughLines-clause-at_risk : goal.returns-in-EnoughLines-clause-at_risk
+returns-in-EnoughLines-clause-at_risk g c = λ full none.
+    let asked = c.args.request.now in
+    let read = c.in_ok-read.read in
+    let base = c.in_ok-built.built in
+    let start = has_base c.args.script.now asked.settings read.base.items _ read.traced.items base
+    c.in_ok-read.ensures.ok c.in_ok-built.ensures.lawful c.deref.ensures.value c.in_ok-built.ensures.built in
+    let script = c.in_ok-script-in-EnoughLines.script in
+    let cut = c.up_to_limit-steps in
+    let first = cut.ensures ∙ ap (up_to_wait MAX_SYNCS) c.deref-in-EnoughLines.ensures.value in
+    let whole = whole_steps c.args.script.now asked.settings base read.traced.items cut.result.now script first
+    c.in_ok-script-in-EnoughLines.ensures.traced c.in_ok-check_waits-in-EnoughLines.ensures.few in
+    subst (λ q. FindsRisksAlone q c.args.script.now asked.settings) (sym c.in-EnoughLines.is)
+    (finds_risks c.args.script.now asked.settings base read.traced.items _ start whole
+    (c.in_ok-script-in-EnoughLines.ensures.at_risk full none))
+
 -- ---- a search, and one for rules
 
 pub searched-requires-clause-acts : goal.searched-requires-clause-acts
@@ -320,6 +374,10 @@ returns-in-Search-clause-refused g c =
 pub returns-in-Search-clause-full : goal.returns-in-Search-clause-full
 returns-in-Search-clause-full g c = λ full none nothing. c.searched.ensures.full full none
 
+pub returns-in-Search-clause-at_risk : goal.returns-in-Search-clause-at_risk
+returns-in-Search-clause-at_risk g c = λ full none. always c.searched.result
+    (subst (λ q. FindsRisksAlone q c.args.script.now c.args.request.now.settings) (sym c.in-Search.is) tt)
+
 pub searched_for_rules-requires-clause-acts : goal.searched_for_rules-requires-clause-acts
 searched_for_rules-requires-clause-acts g c κs within =
     let read = c.in_ok-read.read in
@@ -360,3 +418,7 @@ returns-clause-refused g c =
 
 pub returns-clause-full : goal.returns-clause-full
 returns-clause-full g c = λ full none nothing. c.searched_for_rules.ensures.full full none
+
+pub returns-clause-at_risk : goal.returns-clause-at_risk
+returns-clause-at_risk g c = λ full none. always c.searched_for_rules.result
+    (subst (λ q. FindsRisksAlone q c.args.script.now c.args.request.now.settings) (sym c.in-SearchRules.is) tt)

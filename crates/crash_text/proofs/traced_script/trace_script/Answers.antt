@@ -11,6 +11,7 @@ use Rattle.crash_model.specs.declared.settings.Settings.{Settings}
 use Rattle.crash_model.specs.declared.steps.Step.{Step}
 use Rattle.crash_model.specs.declared.modules.Module.{Module}
 use Rattle.kept_promises.specs.Asking.{asked_of}
+use Rattle.promise_laws.proofs.Lines.{at_risk_alone}
 use Rattle.crash_text.specs.Traced.{asks_of, IsTraceOf}
 use Rattle.crash_text.proofs.Safe.{full_rules}
 use Rattle.crash_text.proofs.traced_script.trace_script.Goals as goal
@@ -49,6 +50,17 @@ returns-clause-full g c = λ full none risk.
     c.in_ok-demands.ensures in
     c.in_ok-traced.ensures.safe (record { full = same.kind ∙ full; all = all }) (asked_by settings steps) demands full are
     risk
+
+pub returns-clause-at_risk : goal.returns-clause-at_risk
+returns-clause-at_risk g c = λ full none last patches demands run graph are set closed.
+    let settings = c.args.settings.now in
+    let base = c.args.base.now in
+    let steps = c.args.steps.now in
+    let among = full_rules settings (ordering_rules settings) full none refl in
+    let traced = subst (λ (m : Module). trace_from m (trace_start settings.whole_blocks base) steps ≡ Ok last) full run in
+    at_risk_alone (ordering_rules settings) settings.whole_blocks (asked_by settings steps) base steps last patches set
+    demands c.blocks-blocks.ensures.disk c.requires.sound.0 c.requires.sound.1 c.in_ok-traced.ensures.names traced among
+    graph full are closed
 
 pub returns-clause-traced : goal.returns-clause-traced
 returns-clause-traced g c =
