@@ -85,7 +85,7 @@ ASKED_FOR = {
     "report_model/FaultLines": "shows_text",
     "report_model/Report": "broken_shown ReplayedBlock changed_blocks replayed_text",
     "report_model/OptionTexts": "Promise Explanation wait_text promise_text counted_numbers explained_text",
-    "report_model/Whole": "Explanation explanation Promise CountedFault ListedRule",
+    "report_model/Whole": "Explanation Promise CountedFault ListedRule",
     "report_model/WholeText": "counted_fault_text listed_rule_text json_report",
     "report_model/Answer": "explanation AreCountedFaults AreListedRules",
     "question_model/Answers": "IsDecision IsEnoughReport IsLinesReport IsLinesRefusal IsSearchReport IsSearchRefusal "
