@@ -5,6 +5,7 @@ use Rattle.crash_model.specs.Generations.{new_disk}
 use Rattle.crash_model.specs.Trace.{base_from, trace_from}
 use Rattle.crash_model.specs.Tracing.{Tracing, trace_start}
 use Rattle.crash_model.specs.declared.modules.Module.{Module}
+use Rattle.crash_model.specs.declared.settings.Settings.{Settings}
 use Rattle.crash_model.specs.declared.steps.Step.{Step}
 use Rattle.hints.specs.declared.room.Enough.{Enough}
 
@@ -15,6 +16,7 @@ FitsOn kind whole generations blocks journal before after =
     × ((last : Tracing) × (trace_from kind (trace_start whole base) after ≡ Ok last))
 
 -- a disk that is called enough for all of a script fits it
-abbrev pub IsEnough : Module → Bool → Bool → List Step → List Step → Enough → Type 0
-IsEnough kind whole generations before after enough =
-    enough.before ≡ None → FitsOn kind whole generations enough.disk.blocks enough.disk.journal before after
+abbrev pub IsEnough : Settings → List Step → List Step → Enough → Type 0
+IsEnough settings before after enough =
+    enough.before ≡ None → FitsOn settings.«module» settings.whole_blocks settings.generations enough.disk.blocks
+    enough.disk.journal before after

@@ -1,152 +1,91 @@
 //! Hints on lines that wait and on promises.
 
-use crate::edge::Answer;
-use crate::quoted::{Quoted, line_at};
+use crate::Answer;
+use crate::words::Word::{self, Number, Quoted};
+use crate::words::{Says, line_at, says};
 use crash_model::names::Path;
 use crash_model::operations::Op;
 use crash_model::steps::{Act, Step, Target};
-use std::io::{self, Write};
+use std::io::{Stderr, Write};
 
 /// Writes what is likely to be meant otherwise of the lines that wait or promise, in the order of the script.
-pub(crate) fn write_promises<E: Write>(
-    answer: Answer<'_>,
-    steps: &[Step],
-    err: &mut E,
-) -> io::Result<()> {
+pub(crate) fn write_promises(answer: Answer<'_>, steps: &[Step], err: &mut Stderr) {
     for place in 0..steps.len() {
         let (before, step, after) = (&steps[..place], &steps[place], &steps[place + 1..]);
-        match &step.act {
-            Act::Fsync(_) => write_idle(answer, step.line, err)?,
-            Act::Keep(_) => {
-                write_early(answer, before, step.line, err)?;
-                write_absent(answer, step.line, err)?;
-            }
-            Act::Hold(path) => {
-                write_early(answer, before, step.line, err)?;
-                write_changed(answer, (step.line, path), after, err)?;
-            }
-            Act::Spare(path, _) => write_unpromised(answer, before, (step.line, path), err)?,
-            _ => {}
-        }
+        let early = early_promise(before, &step.act);
+        let idle = idle_line(answer, before, step, after);
+        write_at(answer, step.line, early, err);
+        write_at(answer, step.line, idle, err);
     }
-    Ok(())
 }
 
-/// Writes that an fsync forces nothing, if so.
-fn write_idle<E: Write>(answer: Answer<'_>, line: usize, err: &mut E) -> io::Result<()> {
-    if !answer.idle.contains(&line) {
-        return Ok(());
+/// Writes what is said of the line of this number, if anything is.
+fn write_at(answer: Answer<'_>, number: usize, says: Option<Says<'_>>, err: &mut Stderr) {
+    if let Some(says) = says {
+        let line = Quoted(line_at(answer.script, number));
+        let _ = write!(err, "hint: line {number}: {line}{says}\n");
     }
-    let text = Quoted(line_at(answer.script, line));
-    write!(
-        err,
-        "hint: line {line}: {text} forces nothing: no patch before it is of this path\n"
-    )
 }
 
-/// Writes that nothing has waited for an operation before a promise, if so.
-fn write_early<E: Write>(
-    answer: Answer<'_>,
-    before: &[Step],
-    line: usize,
-    err: &mut E,
-) -> io::Result<()> {
-    let Some(operation) = not_waited_for(before) else {
-        return Ok(());
-    };
-    let text = Quoted(line_at(answer.script, line));
-    write!(
-        err,
-        "hint: line {line}: {text}: nothing has waited for line {operation}, so an older crash breaks the promise; \
-         wait by `sync` or `fsync`, then promise\n"
-    )
+/// That nothing has waited for an operation before a promise.
+fn early_promise(before: &[Step], act: &Act) -> Option<Says<'static>> {
+    if !matches!(act, Act::Keep(_) | Act::Hold(_)) {
+        return None;
+    }
+    let text = ": nothing has waited for line {}, so an older crash breaks the promise; \
+                wait by `sync` or `fsync`, then promise";
+    not_waited_for(before).map(|operation| says!(text; Number(operation)))
 }
 
 /// The line of the last operation, if no line behind it waits.
 fn not_waited_for(before: &[Step]) -> Option<usize> {
-    let mut found = None;
-    for step in before {
-        match &step.act {
-            Act::Do(_) => found = Some(step.line),
-            Act::Sync | Act::Fsync(_) => found = None,
-            _ => {}
-        }
-    }
-    found
+    let mut steps = before.iter();
+    let last = steps.rfind(|step| matches!(step.act, Act::Do(_) | Act::Sync | Act::Fsync(_)))?;
+    matches!(last.act, Act::Do(_)).then_some(last.line)
 }
 
-/// Writes that a path of a promise is never there, if so.
-fn write_absent<E: Write>(answer: Answer<'_>, line: usize, err: &mut E) -> io::Result<()> {
-    if !answer.absent.contains(&line) {
-        return Ok(());
-    }
-    let text = Quoted(line_at(answer.script, line));
-    write!(
-        err,
-        "hint: line {line}: {text}: no file of this path is ever there, so nothing is kept\n"
-    )
-}
-
-/// Writes that a later operation changes what is held, if nothing stands in for it.
-fn write_changed<E: Write>(
-    answer: Answer<'_>,
-    held: (usize, &Path),
+/// That a line between these steps has no effect, or that a later one changes what it holds.
+fn idle_line<'a>(
+    answer: Answer<'a>,
+    before: &[Step],
+    step: &'a Step,
     after: &[Step],
-    err: &mut E,
-) -> io::Result<()> {
-    let (line, path) = held;
-    let Some(change) = changed_at(after, path) else {
-        return Ok(());
-    };
-    let text = Quoted(line_at(answer.script, line));
-    write!(
-        err,
-        "hint: line {line}: {text}: line {change} changes it, and no `spare {path}` stands in: \
-         `keep` also allows what comes later\n"
-    )
+) -> Option<Says<'a>> {
+    let durable = answer.request.settings.durable;
+    Some(match &step.act {
+        Act::Fsync(_) if answer.idle.contains(&step.line) => {
+            says!(" forces nothing: no patch before it is of this path";)
+        }
+        Act::Keep(_) if answer.absent.contains(&step.line) => {
+            says!(": no file of this path is ever there, so nothing is kept";)
+        }
+        Act::Hold(path) => says!(": line {} changes it, and no `spare {}` stands in: \
+            `keep` also allows what comes later"; Number(changed_at(after, path)?), Word::Path(path)),
+        Act::Spare(path, _) if !before.iter().any(|step| promises(&step.act, path, durable)) => {
+            says!(" spares nothing: no line before it promises {} alone"; Word::Path(path))
+        }
+        _ => return None,
+    })
 }
 
 /// The line of the first operation on a path, if no spare of the path follows.
 fn changed_at(after: &[Step], path: &Path) -> Option<usize> {
-    let mut found = None;
-    for step in after {
-        match &step.act {
-            Act::Spare(of, _) if of.is_same(path) => return None,
-            Act::Do(op) if found.is_none() && is_on(op, path) => found = Some(step.line),
-            _ => {}
-        }
+    if after.iter().any(|step| matches!(&step.act, Act::Spare(of, _) if of.is_same(path))) {
+        return None;
     }
-    found
+    let mut steps = after.iter();
+    let change = steps.find(|step| matches!(&step.act, Act::Do(op) if is_on(op, path)))?;
+    Some(change.line)
 }
 
 /// Whether an operation is on a path.
 fn is_on(op: &Op, path: &Path) -> bool {
     match op {
-        Op::Create(at) | Op::Write(at) | Op::Overwrite(at, _) | Op::Truncate(at) => at.is_same(
-            path,
-        ),
-        Op::Unlink(at) | Op::Mkdir(at) | Op::Rmdir(at) | Op::Link(_, at) => at.is_same(path),
+        Op::Create(at) | Op::Mkdir(at) | Op::Link(_, at) => at.is_same(path),
+        Op::Unlink(at) | Op::Rmdir(at) => at.is_same(path),
+        Op::Write(at) | Op::Overwrite(at, _) | Op::Truncate(at) => at.is_same(path),
         Op::Rename(old, new) | Op::Replace(old, new) => old.is_same(path) || new.is_same(path),
     }
-}
-
-/// Writes that no promise of a path stands before a spare of it, if so.
-fn write_unpromised<E: Write>(
-    answer: Answer<'_>,
-    before: &[Step],
-    spare: (usize, &Path),
-    err: &mut E,
-) -> io::Result<()> {
-    let (line, path) = spare;
-    let durable = answer.settings().durable;
-    if before.iter().any(|step| promises(&step.act, path, durable)) {
-        return Ok(());
-    }
-    let text = Quoted(line_at(answer.script, line));
-    write!(
-        err,
-        "hint: line {line}: {text} spares nothing: no line before it promises {path} alone\n"
-    )
 }
 
 /// Whether an act promises a path, and no other with it.

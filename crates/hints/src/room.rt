@@ -1,4 +1,4 @@
-//! Scripts on disks of several sizes: which is enough, and how many closed sets there are.
+//! Which disk is large enough for a script.
 
 ghost use Rattle.std.specs.Prelude.{◌≡◌, ◌≤◌, Ok, IfOk, IfSome, OnOk};
 ghost use Rattle.crash_model.specs.Generations.{new_disk};
@@ -11,7 +11,7 @@ use crash_model::settings::Settings;
 use disk_image::{Image, ImageFault};
 use order_modules::{build_base, trace};
 use script_text::Script;
-use std::alloc::{AllocError, Allocator};
+use std::alloc::{AllocError, Global};
 
 /// The size of a disk: all its blocks, and those of its journal.
 #[derive(Clone, Copy)]
@@ -34,58 +34,42 @@ pub struct Enough {
     pub before: Option<usize>,
 }
 
-/// The disk that is enough for a script on which the one asked for has too few blocks. It has the same journal if that
-/// is possible, otherwise the smallest. `None` if none is enough.
-pub(crate) fn enough_blocks<A: Allocator + Copy>(
-    alloc: A,
-    script: &Script<A>,
+/// The disk that is enough for a script on which the one asked for is too small. It has the same journal if that is
+/// possible, otherwise the smallest. `None` if none is enough.
+pub(crate) fn enough_disk(
+    heap: Global,
+    script: &Script<Global>,
     settings: &Settings,
 ) -> Result<Option<Enough>, AllocError>
     ensures { IfOk result (λ found.
-        IfSome found (IsEnough settings.now.module settings.now.whole_blocks settings.now.generations
-        script.now.base.items script.now.traced.items)) }
+        IfSome found (IsEnough settings.now script.now.base.items script.now.traced.items)) }
 {
-    match least_disk(alloc, script, settings, settings.journal)? {
-        Some(enough) => Ok(Some(enough)),
-        None => enough_journal(alloc, script, settings, 0),
+    if let Some(enough) = least_disk(heap, script, settings, settings.journal)? {
+        return Ok(Some(enough));
     }
-}
-
-/// The disk with the smallest journal, from this size on, that is enough for a script. `None` if none is enough.
-pub(crate) fn enough_journal<A: Allocator + Copy>(
-    alloc: A,
-    script: &Script<A>,
-    settings: &Settings,
-    from: usize,
-) -> Result<Option<Enough>, AllocError>
-    ensures { IfOk result (λ found.
-        IfSome found (IsEnough settings.now.module settings.now.whole_blocks settings.now.generations
-        script.now.base.items script.now.traced.items)) }
-{
     let blocks = MOST_BLOCKS;
-    for journal in from..=MOST_BLOCKS {
-        if let Some(_) = enough_on(alloc, script, settings, DiskSize { blocks, journal })? {
-            return least_disk(alloc, script, settings, journal);
+    for journal in 0..=MOST_BLOCKS {
+        if let Some(_) = enough_on(heap, script, settings, DiskSize { blocks, journal })? {
+            return least_disk(heap, script, settings, journal);
         }
     }
     Ok(None)
 }
 
 /// The smallest disk with this journal, of at least as many blocks as were asked for, that is enough for a script.
-fn least_disk<A: Allocator + Copy>(
-    alloc: A,
-    script: &Script<A>,
+fn least_disk(
+    heap: Global,
+    script: &Script<Global>,
     settings: &Settings,
     journal: usize,
 ) -> Result<Option<Enough>, AllocError>
     ensures enough { IfOk result (λ found.
-        IfSome found (IsEnough settings.now.module settings.now.whole_blocks settings.now.generations
-        script.now.base.items script.now.traced.items)) }
+        IfSome found (IsEnough settings.now script.now.base.items script.now.traced.items)) }
     ensures blocks { IfOk result (λ found. IfSome found (λ enough. settings.now.blocks ≤ enough.disk.blocks)) }
     ensures journal { IfOk result (λ found. IfSome found (λ enough. enough.disk.journal ≡ journal)) }
 {
     for blocks in settings.blocks..=MOST_BLOCKS {
-        if let Some(enough) = enough_on(alloc, script, settings, DiskSize { blocks, journal })? {
+        if let Some(enough) = enough_on(heap, script, settings, DiskSize { blocks, journal })? {
             return Ok(Some(enough));
         }
     }
@@ -93,36 +77,32 @@ fn least_disk<A: Allocator + Copy>(
 }
 
 /// How far a disk of this size is enough for a script. `None` if a line is refused for the size.
-fn enough_on<A: Allocator + Copy>(
-    alloc: A,
-    script: &Script<A>,
+fn enough_on(
+    heap: Global,
+    script: &Script<Global>,
     settings: &Settings,
     disk: DiskSize,
 ) -> Result<Option<Enough>, AllocError>
     ensures enough { IfOk result (λ found.
-        IfSome found (IsEnough settings.now.module settings.now.whole_blocks settings.now.generations
-        script.now.base.items script.now.traced.items)) }
+        IfSome found (IsEnough settings.now script.now.base.items script.now.traced.items)) }
     ensures disk { IfOk result (λ found. IfSome found (λ enough. enough.disk ≡ disk)) }
 {
-    let Err(fault) = trace_on(alloc, script, settings, disk) else {
-        return Ok(Some(Enough { disk, before: None }));
-    };
-    match (fault, fault.line()) {
-        (RunFault::OutOfMemory, _) => Err(AllocError),
-        (RunFault::NoBlock { .. } | RunFault::JournalFull { .. }, _) => Ok(None),
-        (_, Some(line)) => Ok(Some(Enough {
-            disk,
-            before: Some(line),
-        })),
-        // The geometry is bad.
-        (_, None) => Ok(None),
+    match trace_on(heap, script, settings, disk) {
+        Ok(()) => Ok(Some(Enough { disk, before: None })),
+        Err(RunFault::OutOfMemory) => Err(AllocError),
+        Err(RunFault::NoBlock { .. } | RunFault::JournalFull { .. }) => Ok(None),
+        // Without a line the geometry is bad.
+        Err(fault) => match fault.line() {
+            None => Ok(None),
+            before => Ok(Some(Enough { disk, before })),
+        },
     }
 }
 
 /// Traces a script on a disk of this size.
-fn trace_on<A: Allocator + Copy>(
-    alloc: A,
-    script: &Script<A>,
+fn trace_on(
+    heap: Global,
+    script: &Script<Global>,
     settings: &Settings,
     disk: DiskSize,
 ) -> Result<(), RunFault>
@@ -130,23 +110,23 @@ fn trace_on<A: Allocator + Copy>(
         (FitsOn settings.now.module settings.now.whole_blocks settings.now.generations disk.blocks disk.journal
         script.now.base.items script.now.traced.items) }
 {
-    let base = base_on(alloc, script, settings.generations, disk)?;
+    let base = base_on(heap, script, settings.generations, disk)?;
     let ordering = settings.ordering();
-    let _traced = trace(alloc, &base, &script.traced, &ordering)?;
+    let _traced = trace(heap, &base, &script.traced, &ordering)?;
     Ok(())
 }
 
 /// A disk of this size, with generations or without, after the lines before `start`.
-pub(crate) fn base_on<A: Allocator + Copy>(
-    alloc: A,
-    script: &Script<A>,
+pub(crate) fn base_on(
+    heap: Global,
+    script: &Script<Global>,
     generations: bool,
     disk: DiskSize,
-) -> Result<Image<A>, RunFault>
+) -> Result<Image<Global>, RunFault>
     ensures { IfOk result (λ base.
         base_from (new_disk disk.blocks disk.journal generations) script.now.base.items ≡ Ok base) }
 {
-    let mut base = match Image::formatted_with(alloc, disk.blocks, disk.journal, generations) {
+    let mut base = match Image::formatted_with(heap, disk.blocks, disk.journal, generations) {
         Ok(base) => base,
         Err(ImageFault::BadGeometry) => return Err(RunFault::BadGeometry),
         Err(ImageFault::OutOfMemory) => return Err(RunFault::OutOfMemory),
