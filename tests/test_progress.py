@@ -29,7 +29,7 @@ POOL = ROOT / "pools" / "all-operations-on-a-file-and-directory.script"
 SEARCH_WORDS = ("--module", "full", "--blocks", "48", "--journal", "24", "--workers", "1", "--search")
 
 WIPED = b"\r\x1b[K"
-LINE = re.compile(rb"([0-9]+) sets visited, ([0-9]+) failing")
+LINE = re.compile(rb"([0-9]+) of %d sets visited, ([0-9]+) failing" % CLOSED)
 WORKLOADS = re.compile(rb"([0-9]+) workloads judged, ([0-9]+) failing")
 
 

@@ -26,20 +26,3 @@ pub fn build<A: Allocator + Copy>(
     redo(&mut image, graph, set);
     Ok(image)
 }
-
-/// Turns an image with as many blocks as the base into the disk that a set of patches leaves, as [`build`] makes it. It
-/// takes no memory.
-pub fn rebuild<A: Allocator + Copy>(
-    image: &mut Image<A>,
-    base: &Image<A>,
-    graph: &Graph<A>,
-    set: u128,
-)
-    requires size { image.old.blocks ≡ base.now.blocks }
-    requires fits { All (λ patch. patch.block < base.now.blocks) graph.now }
-    requires known { (id : ℕ) → Has set id → id < length graph.now }
-    ensures { image.new ≡ image_of base.now graph.now set }
-{
-    image.copy_from(base);
-    redo(image, graph, set);
-}

@@ -16,7 +16,8 @@ const BETWEEN: u64 = 250;
 /// Clears the terminal's line.
 const WIPED: &str = "\r\x1b[K";
 
-/// Shows how many sets were visited or workloads judged, and how many of them fail, on one line that is rewritten.
+/// Shows how many sets were visited or workloads judged, of how many if that is known, and how many of them fail, on one
+/// line that is rewritten.
 ///
 /// The line comes only on a terminal, once the run has lasted a second, and is gone when the answer comes. Workers are
 /// not held at their claims, and one of them at a time writes.
@@ -28,6 +29,8 @@ pub struct Progress<'a, C: Clock, E: Write + Copy> {
     what: &'static str,
     /// When the run began, if lines are shown.
     start: Option<Instant>,
+    /// How many sets will be visited, or 0 if that is not known.
+    expected: AtomicU64,
     /// How many sets were visited or workloads judged, and how many of them fail.
     done: AtomicU64,
     failing: AtomicU64,
@@ -50,6 +53,7 @@ impl<'a, C: Clock, E: Write + Copy> Progress<'a, C, E> {
             err,
             what: "sets visited",
             start,
+            expected: AtomicU64::new(0),
             done: AtomicU64::new(0),
             failing: AtomicU64::new(0),
             due: AtomicU64::new(FIRST),
@@ -79,8 +83,12 @@ impl<'a, C: Clock, E: Write + Copy> Progress<'a, C, E> {
     /// Writes the line again.
     fn show(&self, now: u64) {
         let (done, failing) = (self.done.load(SeqCst), self.failing.load(SeqCst));
-        let (mut err, what) = (self.err, self.what);
-        let _ = write!(err, "{WIPED}{done} {what}, {failing} failing");
+        let (mut err, what, expected) = (self.err, self.what, self.expected.load(SeqCst));
+        let _ = if expected > 0 {
+            write!(err, "{WIPED}{done} of {expected} {what}, {failing} failing")
+        } else {
+            write!(err, "{WIPED}{done} {what}, {failing} failing")
+        };
         self.is_shown.store(true, SeqCst);
         self.due.store(now.saturating_add(BETWEEN), SeqCst);
     }
@@ -88,6 +96,10 @@ impl<'a, C: Clock, E: Write + Copy> Progress<'a, C, E> {
 
 impl<'a, C: Clock, E: Write + Copy> Gate for Progress<'a, C, E> {
     fn claimed(&self, _worker: usize, _set: u128) {}
+
+    fn expects(&self, sets: usize) {
+        self.expected.fetch_add(sets as u64, SeqCst);
+    }
 
     fn visited(&self, done: usize, failing: usize) {
         self.done.fetch_add(done as u64, SeqCst);

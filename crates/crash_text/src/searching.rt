@@ -1,11 +1,13 @@
 //! A pool of operations, answered by a search for workloads that fail.
 
-ghost use Rattle.std.specs.Prelude.{◌≡◌, ◌≢◌, ◌≤◌, ◌<◌, ◌^◌, [], true, false, length, string_bytes, All, IfOk, IfErr};
-ghost use Rattle.std.specs.Prelude.{OnOk, ◌==◌, if◌then◌else◌};
+ghost use Rattle.std.specs.Prelude.{◌≡◌, ◌≢◌, ◌≤◌, ◌<◌, ◌^◌, [], true, length, map, string_bytes, All, IfOk, IfErr};
+ghost use Rattle.std.specs.Prelude.{◌==◌, if◌then◌else◌};
 ghost use Rattle.crash_model.specs.Script.{IsAct};
 ghost use Rattle.crash_model.specs.Sound.{IsSound, HasZeroJournal};
 ghost use Rattle.crash_model.specs.declared.modules.Module.TheVariants.{Full};
 ghost use Rattle.question_model.specs.SearchCounts.{AreSearchCounts, IsShown};
+ghost use Rattle.workload_search.specs.Passing.{AreAllPassing};
+ghost use Rattle.workload_search.specs.Tries.{items_of};
 ghost use Rattle.pool_judging.specs.Judging.{search_by};
 ghost use Rattle.pool_judging.specs.Pools.{IsPoolOf};
 ghost use Rattle.crash_text.specs.Searching.{IsPoolRefusal, IsSearchOf, IsReportBy, AreListedKinds};
@@ -18,7 +20,6 @@ use crash_model::settings::Settings;
 use crash_model::steps::Step;
 use disk_image::Image;
 use explorers::Gate;
-use failing_sets::GateWatch;
 use first_crashes::kind_section;
 use pool_judging::{PoolJudge, PoolSteps, pool_of};
 use question_model::{Request, SearchCounts, ShownKind, WorkloadLength};
@@ -27,7 +28,7 @@ use set_sweep::Workers;
 use std::alloc::{AllocError, Allocator};
 use std::sync::Wait;
 use std::thread::Threads;
-use workload_search::search;
+use workload_search::{FoundWorkloads, search};
 
 /// The steps of a script as a pool over a base, and how many operations its longest workloads have.
 #[derive(Drop)]
@@ -72,38 +73,42 @@ where
         ordering: &ordering,
         asked: asked_of(&request.settings),
     };
-    let found = search_pool(host.rt, request.workers, gate, &judge)?;
-    let outcome = report_on(host, &request.settings, &judge, &found)?;
+    let searched = search_pool(host.rt, request.workers, gate, &judge, false)?;
+    let outcome = report_on(host, &request.settings, &judge, &searched.found)?;
     Ok(outcome)
 }
 
-/// What workers find of the workloads of a judge's pool. It fails only when out of memory.
-fn search_pool<R, A, G>(
+/// What workers find of the workloads of a judge's pool. If `keeps`, those that do not fail are kept. It fails only when
+/// out of memory.
+pub(crate) fn search_pool<R, A, G>(
     rt: &R,
     number: usize,
     gate: &G,
     judge: &PoolJudge<'_, A>,
-) -> Result<SearchCounts, AllocError>
+    keeps: bool,
+) -> Result<FoundWorkloads<A>, AllocError>
 where
     R: Threads + Sync,
     A: Allocator + Copy + Send + Sync,
     G: Gate + Sync,
     requires workers { (1 ≤ number) × (number ≤ 16) }
     requires few { length judge.now.pool.now < 2 ^ 62 }
-    ensures { IfOk result (AreSearchCounts (search_by judge.now)) }
+    ensures found { IfOk result (λ searched. AreSearchCounts (search_by judge.now) searched.found) }
+    ensures passing { IfOk result (λ searched. keeps ≡ true
+        → AreAllPassing (search_by judge.now) (map items_of searched.passing.items)) }
 {
-    let watch = GateWatch { gate };
     let workers = Workers {
         rt,
         alloc: judge.alloc,
         number,
-        watch: &watch,
+        gate,
     };
     search(
         &workers,
         judge,
         judge.pool.len(),
         judge.longest.operations(),
+        keeps,
     )
 }
 

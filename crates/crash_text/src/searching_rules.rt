@@ -17,12 +17,11 @@ ghost use Rattle.crash_text.specs.SearchingRules.{IsRuleSearchOf, IsRuleReportBy
 
 use crate::host::Host;
 use crate::run::Outcome;
-use crate::searching::{Pool, steps_of};
+use crate::searching::{Pool, search_pool, steps_of};
 use crate::traced_script::asked_of;
 use crash_model::refusals::RunFault;
 use enough_rules::EnoughSets;
 use explorers::Gate;
-use failing_sets::GateWatch;
 use first_crashes::needed_workloads;
 use pool_judging::{PoolJudge, PoolRules};
 use question_model::{Places, Request};
@@ -31,7 +30,7 @@ use set_sweep::Workers;
 use std::alloc::{AllocError, Allocator};
 use std::sync::Wait;
 use std::thread::Threads;
-use workload_search::{FoundWorkloads, enough_for_all, search_passing};
+use workload_search::{FoundWorkloads, enough_for_all};
 
 /// Judges each workload of the pool, finds which rules those that do not fail need, and reports. The first step that is
 /// no operation is refused.
@@ -69,43 +68,10 @@ where
         ordering: &ordering,
         asked: asked_of(&request.settings),
     };
-    let searched = search_pool_passing(host.rt, request.workers, gate, &judge)?;
+    let searched = search_pool(host.rt, request.workers, gate, &judge, true)?;
     host.notes.left_out.set(searched.found.failing);
     let outcome = report_on_rules(host, request, &judge, &searched)?;
     Ok(outcome)
-}
-
-/// What workers find of the workloads of a judge's pool, and those of them that do not fail. It fails only when out of
-/// memory.
-fn search_pool_passing<R, A, G>(
-    rt: &R,
-    number: usize,
-    gate: &G,
-    judge: &PoolJudge<'_, A>,
-) -> Result<FoundWorkloads<A>, AllocError>
-where
-    R: Threads + Sync,
-    A: Allocator + Copy + Send + Sync,
-    G: Gate + Sync,
-    requires workers { (1 ≤ number) × (number ≤ 16) }
-    requires few { length judge.now.pool.now < 2 ^ 62 }
-    ensures found { IfOk result (λ searched. AreSearchCounts (search_by judge.now) searched.found) }
-    ensures passing { IfOk result (λ searched.
-        AreAllPassing (search_by judge.now) (map items_of searched.passing.items)) }
-{
-    let watch = GateWatch { gate };
-    let workers = Workers {
-        rt,
-        alloc: judge.alloc,
-        number,
-        watch: &watch,
-    };
-    search_passing(
-        &workers,
-        judge,
-        judge.pool.len(),
-        judge.longest.operations(),
-    )
 }
 
 /// The report on the rules that the workloads need which do not fail. It fails only when out of memory.
@@ -167,7 +133,7 @@ where
         rt,
         alloc: rules.judge.alloc,
         number,
-        watch: &(),
+        gate: &(),
     };
     enough_for_all(&workers, rules, passing)
 }

@@ -9,13 +9,13 @@ ghost use Rattle.explorers.specs.Ready.{Counts, IsFree, IsReady, Keeps, KnowsOve
 ghost use Rattle.explorers.specs.declared.exploration.Round.TheVariants as round;
 
 use crate::exploration::{Exploration, Round};
-use crate::gate::Gate;
 use crate::tasks::Task;
 use crate::worker::Worker;
 use seen_board::{Place, Put};
 use state_space::Space;
 use std::alloc::{AllocError, Allocator};
 use std::sync::Wait;
+use thread_jobs::Gate;
 
 impl<S: Space, G: Gate, A: Allocator + Copy> Exploration<'_, S, G, A> {
     /// Expands the entry of a task if the worker's seat has seen its place and can claim it. It makes at most one claim.

@@ -14,7 +14,6 @@ ghost use Rattle.explorers.specs.Shares.{MakeWhole};
 
 use crate::answers::{answer, join_all};
 use crate::exploration::Exploration;
-use crate::gate::Gate;
 use crate::recently_seen::RecentlySeen;
 use crate::rows::Room;
 use crate::tasks::{Task, Tasks};
@@ -26,7 +25,7 @@ use state_space::{MAX_BOARD, Space};
 use std::alloc::{AllocError, Allocator};
 use std::sync::Wait;
 use std::thread::Threads;
-use thread_jobs::run_on_threads;
+use thread_jobs::{Gate, run_on_threads};
 
 /// The most words that a worker keeps of those that it has met: 128 KB, which stay in its processor's cache. In a
 /// larger table more words are found, but looking for one costs what asking the board does.

@@ -9,7 +9,6 @@ mod collected;
 mod expanding;
 mod exploration;
 mod exploring;
-mod gate;
 mod primes;
 mod recently_seen;
 mod rows;
@@ -19,8 +18,8 @@ mod tasks;
 mod worker;
 
 pub use exploring::{Exploring, explore, explore_in_room};
-pub use gate::{Gate, OpenGate};
 pub use patch_sets::explored::{ExploreFault, Explored};
 pub use primes::prime_at_least;
 pub use rows::Room;
 pub use seen_board::SHARDS;
+pub use thread_jobs::{Gate, OpenGate};

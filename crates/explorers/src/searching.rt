@@ -5,12 +5,12 @@ ghost use Rattle.seen_board.specs.Clauses.{SeesOn};
 ghost use Rattle.explorers.specs.Ready.{IsIdle, IsReady, Keeps, KnowsOver};
 
 use crate::exploration::{Exploration, Round};
-use crate::gate::Gate;
 use crate::worker::Worker;
 use seen_board::{Board, BoardSeat, Place, SHARDS};
 use state_space::Space;
 use std::alloc::{AllocError, Allocator};
 use std::sync::Wait;
+use thread_jobs::Gate;
 
 impl<S: Space, G: Gate, A: Allocator + Copy> Exploration<'_, S, G, A> {
     /// Looks at each shard once, and expands what the worker claims there.

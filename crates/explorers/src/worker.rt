@@ -3,7 +3,6 @@ ghost use Rattle.std.specs.Prelude.{◌≡◌};
 ghost use Rattle.explorers.specs.Ready.{IsReady, KnowsOver};
 
 use crate::exploration::{Exploration, Round};
-use crate::gate::Gate;
 use crate::recently_seen::RecentlySeen;
 use crate::stealing::learn;
 use crate::tasks::Tasks;
@@ -12,7 +11,7 @@ use state_space::Space;
 use std::alloc::{AllocError, Allocator};
 use std::sync::Wait;
 use std::thread::yield_now;
-use thread_jobs::Job;
+use thread_jobs::{Gate, Job};
 
 /// After this many rounds in a row with all deques empty, a worker searches the rows.
 const EMPTY_ROUNDS: u8 = 64;

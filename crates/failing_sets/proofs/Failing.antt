@@ -1,12 +1,11 @@
 -- The faults of the failing sets of a graph.
-use Rattle.std.proofs.Common.{◌≡◌, ◌≢◌, ℕ, ◌+◌, Bool, true, false, List, [], ◌∷◌, get_or, refl, subst, ap, ◌∙◌}
+use Rattle.std.proofs.Common.{◌≡◌, ◌≢◌, ℕ, List, get_or, subst, ap, ◌∙◌}
 use Rattle.std.proofs.Common.{IsPermutation}
-use Rattle.std.specs.Prelude.{if◌then◌else◌}
 use Rattle.std.specs.List.{AllPairs}
-use Rattle.patch_sets.specs.Sets.{has, IsBefore, AreAllInOrder}
+use Rattle.patch_sets.specs.Sets.{IsBefore, AreAllInOrder}
 use Rattle.patch_sets.proofs.Canonical.{before_self}
-use Rattle.crash_model.specs.Disk.{Disk, with_bytes}
-use Rattle.crash_model.specs.Patches.{Place, places_of, image_from, image_of}
+use Rattle.crash_model.specs.Disk.{Disk}
+use Rattle.crash_model.specs.Patches.{image_of}
 use Rattle.crash_model.specs.Replay.{image_after_replay}
 use Rattle.crash_model.specs.Checker.{Demands, faults_under, IsFailingUnder}
 use Rattle.crash_model.specs.FaultRows.{AreRows}
@@ -20,28 +19,7 @@ use Rattle.failing_sets.specs.Summed.{HasEachOnce, AreSummed, HasAmong, faults_a
 use Rattle.failing_sets.proofs.Sorted.{are_rows}
 use Rattle.failing_sets.proofs.Summed.{same_sums}
 
--- the image of a set has as many blocks as the base
-image_size : (id : ℕ) (d : Disk) (places : List Place) (set : ℕ) → (image_from id d places set).blocks ≡ d.blocks
-image_size id d [] set = refl
-image_size id d (p ∷ ps) set = image_size (id + 1) (if has set id then with_bytes d p.block p.offset p.new else d) ps
-    set ∙ one (has set id)
-  where
-    one : (test : Bool) → (if test then with_bytes d p.block p.offset p.new else d).blocks ≡ d.blocks
-    one true = refl
-    one false = refl
-
-pub still_sized : (base : Disk) (patches : List Patch) (set : ℕ) (built after : Disk)
-    → built ≡ image_of base patches set → after ≡ image_after_replay built → after.blocks ≡ base.blocks
-still_sized base patches set built after made is = ap (λ (d : Disk). d.blocks) is
-    ∙ (ap (λ (d : Disk). d.blocks) made ∙ image_size 0 base (places_of patches) set)
-
-pub found_faults : (demands : Demands) (base : Disk) (patches : List Patch) (set : ℕ) (built after : Disk)
-    (found : List Fault) → built ≡ image_of base patches set → after ≡ image_after_replay built
-    → found ≡ faults_under demands set after → found ≡ faults_after demands base patches set
-found_faults demands base patches set built after found made is listed = listed
-    ∙ ap (faults_under demands set) (is ∙ ap image_after_replay made)
-
--- the same of an image that was moved to the set, by what is demanded of it
+-- the faults of an image that was moved to the set, by what is demanded of it
 pub moved_faults : (tallied demands : Demands) (base : Disk) (patches : List Patch) (before after : Applied) (set : ℕ)
     (image : Disk) → tallied ≡ demands → (before.base ≡ base) × (before.patches ≡ patches)
     → after ≡ record before { set = set } → image ≡ image_after_replay (image_of after.base after.patches after.set)

@@ -1,8 +1,8 @@
 -- Sets whose faults are summed up, one after another or in two parts.
-use Rattle.std.proofs.Common.{◌≡◌, ◌≢◌, ℕ, ◌+◌, ◌-◌, ◌<◌, ◌^◌, List, [], ◌∷◌, ◌++◌, length, get_or, take, arith, refl}
-use Rattle.std.proofs.Common.{sym, subst, ap, ◌∙◌, inl, inr, length-take, length-append}
+use Rattle.std.proofs.Common.{◌≡◌, ◌≢◌, ℕ, ◌+◌, ◌-◌, ◌<◌, ◌^◌, List, [], ◌∷◌, ◌++◌, length, get_or, arith, refl}
+use Rattle.std.proofs.Common.{sym, subst, ap, ◌∙◌, inl, inr, length-append}
 use Rattle.std.specs.List.{AllPairs, Contains}
-use Rattle.std.proofs.lemmas.List.{take_more, get_or-take, get_or_append_left, get_or-append_right}
+use Rattle.std.proofs.lemmas.List.{get_or_append_left, get_or-append_right}
 use Rattle.std.proofs.lemmas.List.Elements.{All-weaker, Contains-append_left, Contains-append_right}
 use Rattle.std.proofs.lemmas.List.Elements.{Contains-append_cases, Contains-push}
 use Rattle.state_space.proofs.Counting.{fits}
@@ -57,26 +57,6 @@ module _ (faults_of : ℕ → List Fault) where
           | inr none ↦ absurd (in_none s none)
         ]
       ]
-
-  -- the sets of a list, one after another
-  pub next_set : (sets : List ℕ) (i : ℕ) (old new : List FaultRow) → AllPairs (λ a b. a ≢ b) sets → length sets < 2 ^ 64
-      → i < length sets
-      → AreSummed (Among (take i sets)) old → AddsFaults old (get_or sets i 0) (faults_of (get_or sets i 0)) new
-      → AreSummed (Among (take (i + 1) sets)) new
-  next_set sets i old new apart short within sums adds =
-      let more : take (i + 1) sets ≡ take i sets ++ get_or sets i 0 ∷ [] = take_more sets i 0 within in
-      subst (λ (ss : List ℕ). AreSummed (Among ss) new) (sym more)
-      (one_more (take i sets) (get_or sets i 0) old new (subst (AllPairs (λ a b. a ≢ b)) more front)
-      (subst (λ (ss : List ℕ). length ss < 2 ^ 64) more few) sums adds)
-    where
-      few : length (take (i + 1) sets) < 2 ^ 64
-      few = omega (arith, length-take (i + 1) sets)
-
-      front : AllPairs (λ a b. a ≢ b) (take (i + 1) sets)
-      front j k d lt inside same =
-          let long = length-take (i + 1) sets in
-          apart j k d lt (omega arith) (sym (get_or-take (i + 1) sets j d (omega arith))
-          ∙ (same ∙ get_or-take (i + 1) sets k d (omega arith)))
 
   -- two lists of sets
   pub more_sets : (xs ys : List ℕ) (old others new : List FaultRow) → ((s : ℕ) → Contains xs s → Contains ys s → ⊥)

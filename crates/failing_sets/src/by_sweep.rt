@@ -15,14 +15,13 @@ ghost use Rattle.failing_sets.specs.Limits.{SaysTooMany};
 
 use crate::crashes::Crashes;
 use crate::finder::Finder;
-use crate::watching::GateWatch;
 use crate::{CountVisitor, FailingCount, FaultVisitor, SweptFaults, sweep_count, sweep_faults};
 use crash_image::PatchSpace;
 use crash_model::refusals::RunFault;
 use explorers::{Explored, Gate};
 use fault_deciding::dependencies::dependencies;
 use patch_graph::Graph;
-use set_sweep::{Watch, Workers};
+use set_sweep::Workers;
 use std::alloc::Allocator;
 use std::sync::Wait;
 use std::thread::Threads;
@@ -34,12 +33,12 @@ where
     G: Gate + Sync,
 {
     /// Its workers, as they sweep.
-    fn sweepers<'s, W: Watch + Sync>(&'s self, watch: &'s W) -> Workers<'s, R, A, W> {
+    fn sweepers(&self) -> Workers<'_, R, A, G> {
         Workers {
             rt: self.rt,
             alloc: self.alloc,
             number: self.workers,
-            watch,
+            gate: self.gate,
         }
     }
 
@@ -57,8 +56,7 @@ where
         }
         let space = PatchSpace::new(crashes.base, crashes.graph, crashes.demands);
         let (deps, limit) = (dependencies(crashes.graph), self.visit.limit);
-        let watch = GateWatch { gate: self.gate };
-        let found = self.sweepers(&watch).sweep(&space, &deps, limit)?;
+        let found = self.sweepers().sweep(&space, &deps, limit)?;
         Ok(found)
     }
 
@@ -82,8 +80,7 @@ where
         }
         let visitor = FaultVisitor::new(self.alloc, crashes.base, crashes.graph, crashes.demands);
         let (deps, limit) = (dependencies(crashes.graph), self.visit.limit);
-        let watch = GateWatch { gate: self.gate };
-        let found = sweep_faults(&self.sweepers(&watch), &visitor, &deps, limit)?;
+        let found = sweep_faults(&self.sweepers(), &visitor, &deps, limit)?;
         Ok(found)
     }
 
@@ -112,8 +109,7 @@ where
         let space = PatchSpace::new(crashes.base, crashes.graph, crashes.demands);
         let visitor = CountVisitor::new(self.alloc, space, other);
         let (deps, limit) = (dependencies(crashes.graph), self.visit.limit);
-        let watch = GateWatch { gate: self.gate };
-        let found = sweep_count(&self.sweepers(&watch), &visitor, &deps, limit)?;
+        let found = sweep_count(&self.sweepers(), &visitor, &deps, limit)?;
         Ok(found)
     }
 }

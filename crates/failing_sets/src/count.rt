@@ -9,10 +9,11 @@ ghost use Rattle.failing_sets.specs.Prevented.{AreCounted, IsAllowed, IsBad, IsE
 ghost use Rattle.failing_sets.specs.Prevented.{IsFirstPrevented, JoinsCounts};
 
 use crash_image::{PatchSpace, Scratch};
+use explorers::Gate;
 use patch_graph::Graph;
 use patch_sets::explored::ExploreFault;
 use patch_sets::order::is_before;
-use set_sweep::{Visitor, Watch, Workers};
+use set_sweep::{Visitor, Workers};
 use state_space::Space;
 use std::alloc::{AllocError, Allocator};
 use std::marker::Model;
@@ -31,8 +32,8 @@ pub struct FailingCount {
 ///
 /// For every number of workers and every schedule, an answer other than out of memory is the one that is defined
 /// without threads. `deps` are the graph's dependencies. The memory that it takes does not grow with the sets.
-pub fn sweep_count<R, A, W>(
-    workers: &Workers<'_, R, A, W>,
+pub fn sweep_count<R, A, G>(
+    workers: &Workers<'_, R, A, G>,
     visitor: &CountVisitor<'_, A>,
     deps: &[u128],
     limit: usize,
@@ -40,7 +41,7 @@ pub fn sweep_count<R, A, W>(
 where
     R: Threads + Sync,
     A: Allocator + Copy + Send + Sync,
-    W: Watch + Sync,
+    G: Gate + Sync,
     requires deps { deps.now ≡ deps_of visitor.now.patches }
     requires few { length deps.now < 127 }
     requires earlier { AreEarlier deps.now }

@@ -94,13 +94,7 @@ where
             });
         }
         let found = self.explored_on_board(crashes)?;
-        let rows = fault_rows(
-            self.alloc,
-            crashes.base,
-            crashes.graph,
-            crashes.demands,
-            &found.broken,
-        )?;
+        let rows = fault_rows(self.alloc, crashes, &found.broken)?;
         Ok(Found {
             closed: found.total,
             failing: found.broken.len(),

@@ -17,7 +17,6 @@ pub mod rows;
 mod safe_scripts;
 pub mod summary;
 pub mod tally;
-mod watching;
 
 pub use count::{Count, CountVisitor, FailingCount, sweep_count};
 pub use crashes::Crashes;
@@ -26,4 +25,3 @@ pub use finding::{Found, Retained};
 pub use rows::fault_rows;
 pub use summary::Summary;
 pub use tally::{FaultScratch, FaultTally, FaultVisitor, SweptFaults, sweep_faults};
-pub use watching::GateWatch;

@@ -47,6 +47,7 @@ where
         let Some(sets) = count_by_remainder(&deps, limit, &mut counts) else {
             return Err(RunFault::TooMany);
         };
+        self.gate.expects(sets);
         let limit = prime_at_least(sets, limit);
         let room = Room::for_fullest(limit, largest(&counts));
         let exploring = explore_in_room(self.rt, self.alloc, &space, room, self.workers, self.gate);

@@ -7,15 +7,16 @@ ghost use Rattle.failing_sets.specs.Safe.{AreSafe, SomeFails};
 use crate::crashes::Crashes;
 use crate::finder::Finder;
 use crash_model::refusals::RunFault;
+use explorers::Gate;
 use fault_deciding::{Decider, closed_number};
 use std::alloc::Allocator;
 
-impl<R, A: Allocator + Copy, G> Finder<'_, R, A, G> {
+impl<R, A: Allocator + Copy, G: Gate> Finder<'_, R, A, G> {
     /// How many sets a crash can leave, if none of them fails, and `None` if one fails.
     ///
     /// No set is visited: families of sets decide whether one fails. The memory that it takes does not grow with the
-    /// number of sets, no thread starts, and the gate is not called. It fails with `TooMany` if a crash can leave more
-    /// sets than the limit, and else only when out of memory.
+    /// number of sets, and no thread starts. If a set fails, all sets are to be visited, and the gate gets their number.
+    /// It fails with `TooMany` if a crash can leave more sets than the limit, and else only when out of memory.
     pub(crate) fn safe_number(&self, crashes: &Crashes<'_, A>) -> Result<Option<usize>, RunFault>
         ensures answer { IfOk result (λ number.
             MatchOption number (SomeFails crashes.now) (AreSafe self.now.visit.limit crashes.now)) }
@@ -32,6 +33,7 @@ impl<R, A: Allocator + Copy, G> Finder<'_, R, A, G> {
             demands: crashes.demands,
         };
         if decider.any_fails()? {
+            self.gate.expects(number as usize);
             return Ok(None);
         }
         Ok(Some(number as usize))

@@ -1,21 +1,24 @@
-//! The faults of the sets of a sweep.
+//! The faults of sets, tallied one after another. A sweep tallies the sets that it visits, and a board those that fail.
 
-ghost use Rattle.std.specs.Prelude.{◌≡◌, ◌<◌, ◌≤◌, length, IfOk, IsErrOf};
+ghost use Rattle.std.specs.Prelude.{◌≡◌, ◌≢◌, ℕ, ◌<◌, ◌≤◌, List, [], ◌∷◌, ◌++◌, length, IfOk, IsErrOf, OnOk};
 ghost use Rattle.std.specs.List.{All};
 ghost use Rattle.patch_sets.specs.Closed.{AreEarlier};
 ghost use Rattle.crash_model.specs.Patches.{CountsClosed, ExceedsLimit, AreUndo, deps_of};
 ghost use Rattle.crash_model.specs.FaultRows.{AreRows};
 ghost use Rattle.crash_model.specs.FirstSets.{HasFault};
 ghost use Rattle.failing_sets.specs.Counted.{CountsFailing};
+ghost use Rattle.failing_sets.specs.Summed.{faults_after};
+ghost use Rattle.failing_sets.specs.Tallied.{IsTallyOf};
 
 use crate::summary::Summary;
 use crash_image::Replayer;
 use crash_model::fault::{Fault, FaultRow};
 use disk_image::{Demands, Image};
+use explorers::Gate;
 use fs_check::{is_clean_under, list_faults_under};
 use patch_graph::Graph;
 use patch_sets::explored::ExploreFault;
-use set_sweep::{Visitor, Watch, Workers};
+use set_sweep::{Visitor, Workers};
 use std::alloc::{AllocError, Allocator};
 use std::marker::Model;
 use std::thread::Threads;
@@ -36,8 +39,8 @@ pub struct SweptFaults<A: Allocator> {
 ///
 /// For every number of workers and every schedule, an answer other than out of memory is the one that is defined
 /// without threads. `deps` are the graph's dependencies. The memory that it takes does not grow with the sets.
-pub fn sweep_faults<R, A, W>(
-    workers: &Workers<'_, R, A, W>,
+pub fn sweep_faults<R, A, G>(
+    workers: &Workers<'_, R, A, G>,
     visitor: &FaultVisitor<'_, A>,
     deps: &[u128],
     limit: usize,
@@ -45,7 +48,7 @@ pub fn sweep_faults<R, A, W>(
 where
     R: Threads + Sync,
     A: Allocator + Copy + Send + Sync,
-    W: Watch + Sync,
+    G: Gate + Sync,
     requires deps { deps.now ≡ deps_of visitor.now.patches }
     requires few { length deps.now < 127 }
     requires earlier { AreEarlier deps.now }
@@ -129,14 +132,39 @@ impl<'a, A: Allocator + Copy> FaultVisitor<'a, A> {
             demands,
         }
     }
+
+    /// Adds a set that fails, to which the image was moved, to a tally. It fails only when out of memory; the tally is
+    /// then unspecified.
+    pub(crate) fn add_failing(
+        &self,
+        scratch: &mut FaultScratch<'a, A>,
+        tally: &mut FaultTally<A>,
+        set: u128,
+    ) -> Result<(), AllocError>
+        requires own { (scratch.old.images.base ≡ self.now.base) × (scratch.old.images.patches ≡ self.now.patches) }
+        requires moved { scratch.old.images.set ≡ set }
+        requires fails { faults_after self.now.demands self.now.base self.now.patches set ≢ [] }
+        ensures still { scratch.new.images ≡ scratch.old.images }
+        ensures tallied { (sets : List ℕ) → IsTallyOf self.now sets tally.old.failing tally.old.summary
+            → OnOk result (IsTallyOf self.now (sets ++ set ∷ []) tally.new.failing tally.new.summary) }
+    {
+        list_faults_under(
+            &mut scratch.found,
+            scratch.images.image(),
+            set,
+            self.demands,
+        )?;
+        tally.failing = tally.failing.wrapping_add(1);
+        tally.summary.add(set, &scratch.found)?;
+        Ok(())
+    }
 }
 
 impl<'a, A: Allocator + Copy> Visitor for FaultVisitor<'a, A> {
     ghost use Rattle.std.specs.Prelude.{◌≡◌};
     ghost use Rattle.crash_model.specs.Patches.{deps_of};
     ghost use Rattle.patch_sets.specs.Closed.{IsClosed};
-    ghost use Rattle.failing_sets.specs.Summed.{faults_after};
-    ghost use Rattle.failing_sets.specs.Tallied.{IsTally};
+    ghost use Rattle.failing_sets.specs.Tallied.{IsTallyOf};
 
     type Scratch = FaultScratch<'a, A>;
 
@@ -146,8 +174,7 @@ impl<'a, A: Allocator + Copy> Visitor for FaultVisitor<'a, A> {
 
     ghost is_own = { λ v scratch. (scratch.images.base ≡ v.base) × (scratch.images.patches ≡ v.patches) };
 
-    ghost tallies = { λ v sets tally.
-        IsTally (faults_after v.demands v.base v.patches) sets tally.failing tally.summary };
+    ghost tallies = { λ v sets tally. IsTallyOf v sets tally.failing tally.summary };
 
     fn scratch(&self) -> Result<FaultScratch<'a, A>, AllocError> {
         Ok(FaultScratch {
@@ -173,15 +200,7 @@ impl<'a, A: Allocator + Copy> Visitor for FaultVisitor<'a, A> {
         if is_clean_under(scratch.images.image(), set, self.demands) {
             return Ok(());
         }
-        list_faults_under(
-            &mut scratch.found,
-            scratch.images.image(),
-            set,
-            self.demands,
-        )?;
-        tally.failing = tally.failing.wrapping_add(1);
-        tally.summary.add(set, &scratch.found)?;
-        Ok(())
+        self.add_failing(scratch, tally, set)
     }
 
     fn join(&self, tally: &mut FaultTally<A>, later: FaultTally<A>) -> Result<(), AllocError> {

@@ -1,3 +1,4 @@
+pub mod Deciding
 pub mod Least
 pub mod Refusals
 pub mod Pools

@@ -161,10 +161,10 @@ impl<'a, A: Allocator + Copy> PoolJudge<'a, A> {
             graph,
             demands,
         };
-        if !decider.any_fails()? {
+        let faults = decider.faults_alone()?;
+        if faults.is_empty() {
             return Ok(Verdict::Passes);
         }
-        let faults = decider.faults_alone()?;
         Ok(Verdict::Fails(firsts(&faults)))
     }
 }

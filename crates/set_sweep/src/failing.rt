@@ -7,18 +7,18 @@ ghost use Rattle.set_sweep.specs.Sweeps.{EachClosed, SaysTooMany};
 
 use crate::ordering::in_canonical_order;
 use crate::visitor::Visitor;
-use crate::watching::Watch;
 use crate::workers::Workers;
 use patch_sets::explored::{ExploreFault, Explored};
 use state_space::Space;
 use std::alloc::{AllocError, Allocator};
 use std::thread::Threads;
+use thread_jobs::Gate;
 
-impl<R, A, W> Workers<'_, R, A, W>
+impl<R, A, G> Workers<'_, R, A, G>
 where
     R: Threads + Sync,
     A: Allocator + Copy + Send + Sync,
-    W: Watch + Sync,
+    G: Gate + Sync,
 {
     /// Counts the closed sets of a graph, and finds those of them that are not good, in canonical order.
     ///

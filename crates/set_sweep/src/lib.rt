@@ -22,5 +22,4 @@ mod workers;
 pub use remainders::{count_by_remainder, largest};
 pub use together::Swept;
 pub use visitor::Visitor;
-pub use watching::Watch;
 pub use workers::Workers;

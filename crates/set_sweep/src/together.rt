@@ -1,5 +1,5 @@
 //! The sweep of many workers.
-ghost use Rattle.std.specs.Prelude.{◌≡◌, ◌<◌, ◌≤◌, ◌^◌, false, length, IfOk, IfSome, OnOk};
+ghost use Rattle.std.specs.Prelude.{◌<◌, ◌≤◌, length, IfOk, IfSome, OnOk};
 ghost use Rattle.std.specs.List.{All};
 ghost use Rattle.patch_sets.specs.Closed.{AreEarlier};
 ghost use Rattle.set_sweep.specs.Sweeps.{EachClosed, SaysTooMany, AreAllParts, IsSweep, IsDone};
@@ -8,14 +8,14 @@ use crate::joining::join_parts;
 use crate::parting::{Parts, parts_of};
 use crate::sweeping::{Sweeper, SweptPart};
 use crate::visitor::Visitor;
-use crate::watching::{Counting, Watch, Watched};
+use crate::watching::Watched;
 use crate::workers::Workers;
 use patch_sets::explored::ExploreFault;
 use set_families::closures;
 use std::alloc::{AllocError, Allocator};
 use std::sync::atomic::{AtomicUsize, Ordering};
 use std::thread::Threads;
-use thread_jobs::{Job, run_on_threads};
+use thread_jobs::{Gate, Job, run_on_threads};
 
 /// How many parts there are for each worker: enough that all are busy to the end.
 const PARTS: usize = 64;
@@ -31,17 +31,17 @@ pub struct Swept<T> {
     pub tally: T,
 }
 
-impl<R, A, W> Workers<'_, R, A, W>
+impl<R, A, G> Workers<'_, R, A, G>
 where
     R: Threads + Sync,
     A: Allocator + Copy + Send + Sync,
-    W: Watch + Sync,
+    G: Gate + Sync,
 {
     /// Visits each closed set of a graph once.
     ///
     /// For every number of workers and every schedule, an answer other than out of memory is the one that is defined
-    /// without threads: the tally of all closed sets in ascending number, or that they are more than the limit. If they
-    /// may be more, they are counted before any is visited.
+    /// without threads: the tally of all closed sets in ascending number, or that they are more than the limit. They are
+    /// not counted first: a caller that knows their number can refuse before any is visited.
     pub fn sweep_with<V>(
         &self,
         visitor: &V,
@@ -62,18 +62,11 @@ where
     {
         let closures = closures(deps);
         let parts = parts_of(self.alloc, deps, &closures, PARTS * self.number)?;
-        let watch = self.watch;
-        if may_outnumber(deps.len(), limit) {
-            let counter = Sweeper {
-                visitor: &Counting { watch },
-                deps,
-                closures: &closures,
-                limit,
-            };
-            self.sweep_all(&counter, &parts)?;
-        }
         let sweeper = Sweeper {
-            visitor: &Watched { visitor, watch },
+            visitor: &Watched {
+                visitor,
+                gate: self.gate,
+            },
             deps,
             closures: &closures,
             limit,
@@ -137,13 +130,6 @@ where
         let outputs = run_on_threads(self.rt, &sweeping, scratches)?;
         sweeping.join_outputs(outputs)
     }
-}
-
-/// Whether the closed sets of `ids` ids may be more than the limit. They are no more than all sets of the ids.
-fn may_outnumber(ids: usize, limit: usize) -> bool
-    ensures { result ≡ false → 2 ^ ids ≤ limit }
-{
-    ids >= 64 || limit < 1 << ids
 }
 
 /// A scratch for each worker.

@@ -49,6 +49,6 @@ pub trait Visitor {
         ensures { (sets others : List ℕ) → tallies self.now sets tally.old → tallies self.now others later
             → OnOk result (tallies self.now (sets ++ others) tally.new) };
 
-    /// How many of its sets a tally keeps. It is only for a watch, so nothing is promised about it.
+    /// How many of its sets a tally keeps. It is only for a gate, so nothing is promised about it.
     fn kept(&self, tally: &Self::Tally) -> usize;
 }

@@ -3,12 +3,12 @@ ghost use Rattle.std.specs.Prelude.{◌≤◌};
 
 use std::alloc::Allocator;
 
-/// Workers that sweep side by side, 1 to 16, on threads by `rt`. The watch gets their progress.
+/// Workers that sweep side by side, 1 to 16, on threads by `rt`. The gate gets their progress.
 #[derive(Drop)]
-pub struct Workers<'a, R, A: Allocator + Copy, W> {
+pub struct Workers<'a, R, A: Allocator + Copy, G> {
     pub rt: &'a R,
     pub alloc: A,
     pub number: usize,
-    pub watch: &'a W,
+    pub gate: &'a G,
     ghost range: { (1 ≤ number) × (number ≤ 16) },
 }

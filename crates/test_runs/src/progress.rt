@@ -90,6 +90,30 @@ fn a_line_after_a_second_and_four_a_second_from_then_on(rt: HostRuntime) -> Resu
 }
 
 #[test]
+fn the_line_says_of_how_many(rt: HostRuntime) -> Result<(), Fail> {
+    let clock = Hand { now: Cell::new(0) };
+    let screen = empty_screen(rt.alloc());
+    let progress = Progress::new(&clock, &screen, true);
+    progress.expects(4000);
+    clock.now.set(1000);
+    progress.visited(1000, 10);
+    expect_written(
+        &rt,
+        &screen,
+        "\r\x1b[K1000 of 4000 sets visited, 10 failing",
+    );
+    progress.expects(500);
+    clock.now.set(2000);
+    progress.visited(1000, 0);
+    expect_written(
+        &rt,
+        &screen,
+        "\r\x1b[K2000 of 4500 sets visited, 10 failing",
+    );
+    Ok(())
+}
+
+#[test]
 fn workloads_are_counted_by_their_name(rt: HostRuntime) -> Result<(), Fail> {
     let clock = Hand { now: Cell::new(0) };
     let screen = empty_screen(rt.alloc());

@@ -7,20 +7,19 @@ use crate::batch::Batch;
 use crate::judge::Judge;
 use crate::trials::Trials;
 use question_model::Places;
-use set_sweep::Watch;
 use std::alloc::{AllocError, Allocator};
 use std::thread::Threads;
-use thread_jobs::{PartJob, do_parts};
+use thread_jobs::{Gate, PartJob, do_parts};
 
 /// About how many parts of a level there are for each worker: enough that all are busy to the end.
 const PARTS: usize = 64;
 
-impl<J, A, W> Trials<'_, J, A, W>
+impl<J, A, G> Trials<'_, J, A, G>
 where
     J: Judge + Sync,
     J::Prefix: Send,
     A: Allocator + Copy + Send + Sync,
-    W: Watch + Sync,
+    G: Gate + Sync,
 {
     /// Tries each beginning, in order, followed by each operation of the pool. Workers draw small parts of the
     /// beginnings, one after another, and what they find is joined in order. One worker starts no thread.
@@ -70,7 +69,7 @@ where
     }
 }
 
-impl<J: Judge, A: Allocator + Copy, W: Watch> Trials<'_, J, A, W> {
+impl<J: Judge, A: Allocator + Copy, G: Gate> Trials<'_, J, A, G> {
     /// What was found of all parts, joined in order.
     fn join_parts(
         &self,
@@ -97,13 +96,13 @@ impl<J: Judge, A: Allocator + Copy, W: Watch> Trials<'_, J, A, W> {
 
 /// The beginnings of a level, in parts of this number of them. The last part may have fewer.
 #[derive(Drop)]
-struct Level<'a, J: Judge, A: Allocator + Copy, W: Watch> {
-    trials: &'a Trials<'a, J, A, W>,
+struct Level<'a, J: Judge, A: Allocator + Copy, G: Gate> {
+    trials: &'a Trials<'a, J, A, G>,
     beginnings: &'a [Places],
     size: usize,
 }
 
-impl<'a, J: Judge, A: Allocator + Copy, W: Watch> PartJob for Level<'a, J, A, W> {
+impl<'a, J: Judge, A: Allocator + Copy, G: Gate> PartJob for Level<'a, J, A, G> {
     type Part = Result<Batch<A>, AllocError>;
 
     ghost use Rattle.std.specs.Prelude.{◌*◌, ◌<◌, ◌^◌, length, map, IfOk};

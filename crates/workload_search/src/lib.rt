@@ -12,7 +12,6 @@ mod found;
 mod judge;
 mod kinds;
 mod levels;
-mod passing;
 pub mod places;
 mod rules;
 mod searching;
@@ -20,6 +19,5 @@ mod tally;
 mod trials;
 
 pub use judge::Judge;
-pub use passing::{FoundWorkloads, search_passing};
 pub use rules::{RuleJudge, enough_for_all, first_without};
-pub use searching::search;
+pub use searching::{FoundWorkloads, search};

@@ -9,21 +9,21 @@ use crate::batch::Batch;
 use crate::judge::Judge;
 use crate::places::extended;
 use question_model::{Places, Verdict};
-use set_sweep::Watch;
 use std::alloc::{AllocError, Allocator};
+use thread_jobs::Gate;
 
 /// A judge of sequences over a pool of this number of operations. Those that pass are kept if they will be made longer.
 #[derive(Drop)]
-pub(crate) struct Trials<'a, J: Judge, A: Allocator + Copy, W: Watch> {
+pub(crate) struct Trials<'a, J: Judge, A: Allocator + Copy, G: Gate> {
     pub judge: &'a J,
     pub alloc: A,
-    pub watch: &'a W,
+    pub gate: &'a G,
     pub pool: usize,
     pub keeps: bool,
     ghost whole: { pool ≡ length (J.search judge.now).pool },
 }
 
-impl<J: Judge, A: Allocator + Copy, W: Watch> Trials<'_, J, A, W> {
+impl<J: Judge, A: Allocator + Copy, G: Gate> Trials<'_, J, A, G> {
     /// Tries each beginning, in order, followed by each operation of the pool.
     pub(crate) fn try_beginnings(&self, beginnings: &[Places]) -> Result<Batch<A>, AllocError>
         requires room { length beginnings.now * self.now.pool < 2 ^ 128 }
@@ -81,12 +81,12 @@ impl<J: Judge, A: Allocator + Copy, W: Watch> Trials<'_, J, A, W> {
         Ok(())
     }
 
-    /// Reports a workload to the watch, and whether it fails.
+    /// Reports a workload to the gate, and whether it fails.
     fn note(&self, verdict: &Verdict) {
         match verdict {
             Verdict::Refused(_) => {}
-            Verdict::Passes => self.watch.visited(1, 0),
-            Verdict::Fails(_) => self.watch.visited(1, 1),
+            Verdict::Passes => self.gate.visited(1, 0),
+            Verdict::Fails(_) => self.gate.visited(1, 1),
         }
     }
 }

@@ -22,13 +22,13 @@ use std::thread::Threads;
 /// groups of which one rule is needed, each in canonical order. `passing` are these workloads, in order, and the
 /// workers share them.
 ///
-/// The answer is the same for each number of workers. It calls no method of the watch.
+/// The answer is the same for each number of workers. It calls no method of the gate.
 ///
 /// # Errors
 ///
 /// There is not enough memory, for the judge or for the lists.
-pub fn enough_for_all<J, R, A, W>(
-    workers: &Workers<'_, R, A, W>,
+pub fn enough_for_all<J, R, A, G>(
+    workers: &Workers<'_, R, A, G>,
     judge: &J,
     passing: &[Places],
 ) -> Result<EnoughSets<A>, AllocError>
@@ -50,8 +50,8 @@ where
 /// Groups of rules such that exactly the sets that have a rule of each group are enough for each of the workloads.
 ///
 /// Each worker finds the groups of its workloads alone, and a set is enough where it is enough for each worker's.
-fn groups_by<J, R, A, W>(
-    workers: &Workers<'_, R, A, W>,
+fn groups_by<J, R, A, G>(
+    workers: &Workers<'_, R, A, G>,
     judge: &J,
     workloads: &[Places],
 ) -> Result<Vec<u128, A>, AllocError>
@@ -74,8 +74,8 @@ where
 
 /// The groups of each worker's workloads, found side by side. The workloads are dealt out in turn, since later ones
 /// are longer. One worker starts no thread.
-fn groups_of_parts<J, R, A, W>(
-    workers: &Workers<'_, R, A, W>,
+fn groups_of_parts<J, R, A, G>(
+    workers: &Workers<'_, R, A, G>,
     judge: &J,
     workloads: &[Places],
 ) -> Result<Vec<Result<Vec<u128, A>, AllocError>, A>, AllocError>

@@ -28,7 +28,7 @@ pub returns-clause-full : goal.returns-clause-full
 returns-clause-full g c = λ full none.
     let settings = c.args.request.now.settings in
     let pool = c.args.pool.now in
-    let found = c.in_ok-found.found in
+    let found = c.in_ok-searched.searched.found in
     let by = c.ordering-ordering in
     let steps = c.in_ok-steps.ensures.pool in
     let same = same_search settings pool.base.now pool.steps.now (operations_of pool.longest) c.asked_of.result
@@ -38,13 +38,13 @@ returns-clause-full g c = λ full none.
     let disk : IsDisk pool.base.now = search rules in
     none_reported settings (operations_of pool.longest) pool.base.now pool.steps.now found c.in_ok-outcome.outcome.number full
     none disk c.requires.sound.0 c.requires.sound.1 c.requires.acts
-    (subst (λ (s : Search). AreSearchCounts s found) same c.in_ok-found.ensures) c.in_ok-outcome.ensures.number
+    (subst (λ (s : Search). AreSearchCounts s found) same c.in_ok-searched.ensures.found) c.in_ok-outcome.ensures.number
 
 pub returns-clause-reported : goal.returns-clause-reported
 returns-clause-reported g c =
     let settings = c.args.request.now.settings in
     let pool = c.args.pool.now in
-    let found = c.in_ok-found.found in
+    let found = c.in_ok-searched.searched.found in
     let by = c.ordering-ordering in
     let steps = c.in_ok-steps.ensures.pool in
     let places = c.deref.ensures.value ∙ steps.places in
@@ -56,7 +56,7 @@ returns-clause-reported g c =
       steps.all,
       record {
         found = found;
-        exactly = subst (λ (s : Search). AreSearchCounts s found) same c.in_ok-found.ensures;
+        exactly = subst (λ (s : Search). AreSearchCounts s found) same c.in_ok-searched.ensures.found;
         listed = report.listed;
         kinds = report.kinds;
         each = subst (λ (s : Search). All (IsListedKind s settings.explain) report.listed) same report.each;

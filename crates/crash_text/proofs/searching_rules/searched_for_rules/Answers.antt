@@ -1,4 +1,4 @@
-use Rattle.std.proofs.Common.{rules, List, ap, length, map, subst, sym, ◌∙◌}
+use Rattle.std.proofs.Common.{rules, List, ap, length, map, refl, subst, sym, ◌∙◌}
 use Rattle.std.specs.Prelude.{All}
 use Rattle.patch_sets.specs.Sets.{AreAllInOrder}
 use Rattle.crash_model.specs.Disk.{IsDisk}
@@ -70,3 +70,6 @@ returns-clause-reported g c =
         number_of = c.in_ok-outcome.ensures.number;
       },
     )
+
+pub report_on_rules-requires-clause-passing : goal.report_on_rules-requires-clause-passing
+report_on_rules-requires-clause-passing g c κs within = c.in_ok-searched.ensures.passing refl
