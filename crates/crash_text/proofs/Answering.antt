@@ -33,6 +33,7 @@ use Rattle.question_model.specs.LinesReport as lines
 use Rattle.question_model.specs.LinesReport.{IsLinesRefusal}
 use Rattle.question_model.specs.declared.length.WorkloadLength.{WorkloadLength}
 use Rattle.question_model.specs.SearchReport.{IsSearchRefusal, before_the_pool, no_operation}
+use Rattle.uniqueness_laws.proofs.FewWaits.{whole_if_cut_traced}
 use Rattle.uniqueness_laws.proofs.Scripts.{read_or_refused, script_one}
 use Rattle.crash_text.specs.BaseRefusal.{IsBaseRefusal}
 use Rattle.crash_text.specs.Lines.{HasTooManyWaits}
@@ -42,7 +43,6 @@ use Rattle.promise_laws.specs.Waited.{RiskNoPromise}
 use Rattle.crash_text.specs.Traced.{IsTraced, IsTraceRefusal, IsReportOn, RisksNothing}
 use Rattle.crash_text.specs.Traced.{BreakAtRiskAlone, FindsRisksAlone}
 use Rattle.crash_text.specs.declared.traced_script.TracedScript.{TracedScript}
-use Rattle.crash_text.proofs.Limit.{all_steps}
 
 module _ (bytes : List ℕ) (settings : Settings) where
   abbrev formatted : Disk
@@ -197,9 +197,9 @@ module _ (bytes : List ℕ) (settings : Settings) where
       → cut ≡ steps
   whole_steps base steps cut s is are few =
       let from = trace_start settings.whole_blocks s.base.now in
-      is ∙ all_steps settings.module MAX_SYNCS steps from are.last
-      (subst (λ (seen : List Step). trace_from settings.module from seen ≡ Ok are.last) is are.run)
+      is ∙ whole_if_cut_traced settings.module settings.whole_blocks s.base.now MAX_SYNCS steps are.last
       (subst (λ (waits : List Wait). length waits ≤ MAX_SYNCS) are.trace.waits few)
+      (subst (λ (seen : List Step). trace_from settings.module from seen ≡ Ok are.last) is are.run)
 
   -- what refuses a search refuses one for rules too
   pub refused_pool : (base : Disk) (steps : List Step) (fault : RunFault) → HasBase bytes settings base steps

@@ -8,6 +8,7 @@ ghost use Rattle.report_sections.specs.Bodies.{AreOnBase};
 ghost use Rattle.crash_text.specs.Lines.{HasTooManyWaits};
 ghost use Rattle.crash_text.specs.Traced.{IsReportOn, NoneFails};
 
+use crate::enough::{Chosen, report_chosen};
 use crate::host::Host;
 use crate::run::Outcome;
 use crate::traced_script::TracedScript;
@@ -15,10 +16,9 @@ use crash_model::refusals::RunFault;
 use crash_model::settings::Settings;
 use crash_model::steps::{Act, Step};
 use enough_deciding::LineOracle;
-use fault_deciding::closed_number;
-use first_crashes::{first_fault, needed_lines};
+use first_crashes::needed_lines;
 use question_model::MAX_SYNCS;
-use question_reports::{Choices, EnoughFindings, enough_report};
+use question_reports::Choices;
 use std::alloc::{AllocError, Allocator};
 
 /// Finds which lines of a traced script have to wait, and reports. It fails only when out of memory.
@@ -43,31 +43,13 @@ pub(crate) fn enough_lines<R, A: Allocator + Copy>(
     };
     let found = oracle.enough_sets()?;
     let needs = needed_lines(&oracle, settings.explain, &found.needed)?;
-    let first = first_fault(
-        host.alloc,
-        script.base,
-        script.traced.graph(),
-        settings.explain,
-        &script.demands,
-    )?;
-    if let Some(first) = &first {
-        host.notes.shown.set(Some(first.decided));
-    }
-    let findings = EnoughFindings {
-        demands: &script.demands,
-        base: script.base,
-        traced: &script.traced,
-        settings,
+    let chosen = Chosen {
         choices: Choices::Lines(script.traced.waits()),
-        closed: closed_number(script.traced.graph()),
         enough: &found.enough,
         needs: &needs,
-        first: &first,
     };
-    Ok(Outcome {
-        text: enough_report(host.heap, host.alloc, &findings)?,
-        number: usize::from(first.is_some()),
-    })
+    let outcome = report_chosen(host, settings, script, &chosen)?;
+    Ok(outcome)
 }
 
 /// The steps up to and with the first line that waits past the limit, or all steps.

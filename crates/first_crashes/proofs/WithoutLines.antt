@@ -1,10 +1,9 @@
 -- Groups of lines that wait of which one is needed, each with the first fault without it.
-use Rattle.std.proofs.Common.{ℕ, List, refl, subst, sym}
+use Rattle.std.proofs.Common.{ℕ, List, subst, sym}
 use Rattle.std.specs.Prelude.{Bool, None}
 use Rattle.patch_sets.specs.Ends.{IsDifference}
 use Rattle.crash_model.specs.ChosenWaits.{tracing_waiting, demands_waiting}
 use Rattle.crash_model.specs.Checker.{Demands}
-use Rattle.crash_model.specs.Disk.{Disk}
 use Rattle.crash_model.specs.Trace.{IsGraphOf}
 use Rattle.crash_model.specs.Tracing.{Tracing}
 use Rattle.crash_model.specs.Waiting.{Wait}
@@ -12,16 +11,13 @@ use Rattle.fault_deciding.proofs.Firsts.{some_fault}
 use Rattle.question_model.specs.EnoughLines.{all_waits, AreEnoughLines}
 use Rattle.question_model.specs.EnoughReport.{IsListedIfAny, IsListedFirst}
 use Rattle.enough_deciding.specs.Lines.{HasWaits, IsScriptWaiting, waits_of}
+use Rattle.enough_deciding.proofs.WaitingLines.{one_waiting}
 use Rattle.enough_deciding.specs.declared.lines.LineOracle.{LineOracle}
 use Rattle.enough_deciding.specs.declared.lines.Waiting.{Waiting}
 use Rattle.question_reports.specs.EnoughFindings.{listed_first}
 use Rattle.question_reports.specs.declared.enough.findings.FirstFault.{FirstFault}
-use Rattle.traced_patches.specs.Traced.{TracedPatches}
 use Rattle.first_crashes.specs.Sparing.{detail_with}
 use Rattle.first_crashes.specs.SparingLines.{IsListedWithout}
-
-pub one_waiting : (base : Disk) (t : TracedPatches) → HasWaits t (waits_of base t)
-one_waiting base t = record { traced = record { emitted = refl; links = refl; whole = refl }; waits = refl }
 
 module _ {A : Type 0} (explain : Bool) (o : LineOracle A) (script : Waiting A) where
   -- the patches if only the lines of a set wait

@@ -17,7 +17,6 @@ pub mod SomeChoices
 pub mod SomeRules
 pub mod SomeEnough
 pub mod SomeLines
-pub mod Cut
 pub mod LinesAnswer
 pub mod SomeSequences
 pub mod Numbered

@@ -23,7 +23,7 @@ use Rattle.question_model.specs.declared.question.TheConstants.{MAX_SYNCS}
 use Rattle.worked_example_laws.specs.Computed.{graph_of}
 use Rattle.worked_example_laws.specs.Spelled.{demands_by}
 use Rattle.worked_example_laws.proofs.Graphs.{graph_is}
-use Rattle.question_laws.proofs.Cut.{whole_if_traced, whole_if_cut_traced}
+use Rattle.uniqueness_laws.proofs.FewWaits.{whole_if_traced, whole_if_cut_traced}
 use Rattle.question_laws.proofs.OneLines.{lines_one}
 use Rattle.question_laws.proofs.OneStart.{base_one, untraced_one, reported_one}
 use Rattle.question_laws.proofs.SomeLines.{some_lines}
@@ -131,7 +131,7 @@ module _ (bytes : List ℕ) (settings : Settings) where
       → IsReported (IsLinesReport settings) bytes settings text number → ⊥
   not_refused fault text number is also =
       let steps = also.graph.steps in
-      let few : length also.last.waits ≤ MAX_SYNCS = also.report.few in
+      let few : length also.last.waits ≤ MAX_SYNCS = also.report.0 in
       let whole : up_to_wait MAX_SYNCS steps ≡ steps =
       whole_if_traced settings.module settings.whole_blocks also.base MAX_SYNCS steps also.last few also.graph.run in
       let it : IsRefusalOf (Ok also.last) fault = subst (λ r. IsRefusalOf r fault)

@@ -17,37 +17,52 @@ use Rattle.crash_model.specs.declared.patches.Patch.{Patch}
 use Rattle.crash_model.specs.declared.settings.Settings.{Settings}
 use Rattle.question_model.specs.ListedFault.{ListedFault}
 use Rattle.question_model.specs.Enough.{IsMinimalEnough, IsNeeded}
-use Rattle.question_model.specs.EnoughReport.{IsEnoughReport, IsListedGroup, rules_report_bytes}
+use Rattle.question_model.specs.EnoughReport.{Choices, ListedGroup, IsChoicesReport, IsEnoughReport, IsListedGroup}
+use Rattle.question_model.specs.EnoughReport.{enough_bytes, rule_choices}
 use Rattle.question_laws.proofs.OneFirst.{listed_any_one, listed_group_one}
 use Rattle.worked_example_laws.proofs.Orders.{same_keyed}
 
-module _ (settings : Settings) where
-  pub enough_one : (demands : Demands) (base : Disk) (last : Tracing) (patches : List Patch) (text other : List ℕ)
-      (number more : ℕ) → IsGraphOf (ordering_rules settings) base last patches
-      → IsEnoughReport settings demands base last patches text number
-      → IsEnoughReport settings demands base last patches other more → (text ≡ other) × (number ≡ more)
-  enough_one demands base last patches text other number more graph is also =
-      let rules = ordering_rules settings in
-      let detail = detail_of settings demands in
-      let total : is.total ≡ also.total = one_number (IsClosed (deps_of patches)) is.total also.total is.counted
-      also.counted in
-      let enough : is.enough ≡ also.enough = one_list (IsMinimalEnough demands base last rules) is.enough also.enough
-      is.exactly also.exactly in
-      let groups : map (λ t. t.group) is.needs ≡ map (λ t. t.group) also.needs =
-      one_list (IsNeeded demands base last rules) (map (λ t. t.group) is.needs)
-      (map (λ t. t.group) also.needs) is.needed
-      also.needed in
-      let needs : is.needs ≡ also.needs = same_keyed (λ t. t.group) (IsListedGroup detail rules base last)
-      (listed_group_one detail rules base last) is.needs also.needs groups is.listed also.listed in
-      let first : is.first ≡ also.first = listed_any_one detail base patches is.first also.first is.any also.any in (
-        is.whole ∙ ((λ i. rules_report_bytes settings (record {
-          patches = length patches;
-          closed = total i;
-          explanation = when settings.explain (explanation rules base last patches);
-          promises = if settings.explain then demands.promises else None;
-          enough = enough i;
-          needs = needs i;
-          first = first i;
-        })) ∙ sym also.whole),
-        is.number_of ∙ (ap (λ (some : Option ListedFault). length (option_to_list some)) first ∙ sym also.number_of),
-      )
+-- of the choices of a report, if there is at most one thing to show of a group
+module _ (IsMinimal IsNeededGroup : ℕ → Type 0) (IsListed : ListedGroup → Type 0)
+    (one : (listed other : ListedGroup) → IsListed listed → IsListed other → listed.group ≡ other.group
+    → listed ≡ other)
+    (choices : Choices) (settings : Settings) (demands : Demands) (base : Disk) (last : Tracing) (patches : List Patch)
+  where
+    pub choices_one : (text other : List ℕ) (number more : ℕ)
+        → IsChoicesReport IsMinimal IsNeededGroup IsListed choices settings demands base last patches text number
+        → IsChoicesReport IsMinimal IsNeededGroup IsListed choices settings demands base last patches other more
+        → (text ≡ other) × (number ≡ more)
+    choices_one text other number more is also =
+        let total : is.shown.total ≡ also.shown.total =
+        one_number (IsClosed (deps_of patches)) is.shown.total also.shown.total is.shown.counted also.shown.counted in
+        let enough : is.enough ≡ also.enough = one_list IsMinimal is.enough also.enough is.exactly also.exactly in
+        let groups : map (λ t. t.group) is.needs ≡ map (λ t. t.group) also.needs =
+        one_list IsNeededGroup (map (λ t. t.group) is.needs) (map (λ t. t.group) also.needs) is.needed also.needed in
+        let needs : is.needs ≡ also.needs =
+        same_keyed (λ t. t.group) IsListed one is.needs also.needs groups is.listed also.listed in
+        let first : is.shown.first ≡ also.shown.first =
+        listed_any_one (detail_of settings demands) base patches is.shown.first also.shown.first is.shown.any
+        also.shown.any in (
+          is.shown.whole ∙ ((λ i. enough_bytes choices settings (record {
+            patches = length patches;
+            closed = total i;
+            explanation = when settings.explain (explanation (ordering_rules settings) base last patches);
+            promises = if settings.explain then demands.promises else None;
+            enough = enough i;
+            needs = needs i;
+            first = first i;
+          })) ∙ sym also.shown.whole),
+          is.shown.number_of
+              ∙ (ap (λ (some : Option ListedFault). length (option_to_list some)) first ∙ sym also.shown.number_of),
+        )
+
+pub enough_one : (settings : Settings) (demands : Demands) (base : Disk) (last : Tracing) (patches : List Patch)
+    (text other : List ℕ) (number more : ℕ) → IsGraphOf (ordering_rules settings) base last patches
+    → IsEnoughReport settings demands base last patches text number
+    → IsEnoughReport settings demands base last patches other more → (text ≡ other) × (number ≡ more)
+enough_one settings demands base last patches text other number more graph is also =
+    let rules = ordering_rules settings in
+    let detail = detail_of settings demands in
+    choices_one (IsMinimalEnough demands base last rules) (IsNeeded demands base last rules)
+    (IsListedGroup detail rules base last) (listed_group_one detail rules base last) (rule_choices rules) settings
+    demands base last patches text other number more is also

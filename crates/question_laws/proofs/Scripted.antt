@@ -7,7 +7,7 @@ use Rattle.std.proofs.lemmas.List.{length-map}
 use Rattle.std.proofs.lemmas.List.Elements.{All-nil, All-cons}
 use Rattle.patch_sets.specs.Sets.{AreAllInOrder}
 use Rattle.patch_sets.proofs.Lists.{in_front, in_none}
-use Rattle.report_model.specs.Answer.{Reported}
+use Rattle.report_model.specs.Answer.{Reported, IsReported}
 use Rattle.report_model.specs.ScriptGraph.{ordering_rules}
 use Rattle.report_model.specs.Report.{Detail}
 use Rattle.crash_model.specs.Disk.{Disk}
@@ -22,10 +22,11 @@ use Rattle.crash_model.specs.declared.rules.Rule.{Rule}
 use Rattle.crash_model.specs.declared.settings.Settings.{Settings}
 use Rattle.crash_model.specs.declared.steps.Act.{Act}
 use Rattle.question_model.specs.Answers.{IsAnswerTo}
-use Rattle.question_model.specs.Decision.{decision_bytes}
+use Rattle.question_model.specs.Decision.{IsDecision, decision_bytes}
 use Rattle.question_model.specs.Enough.{rules_but, AreEnough, IsMinimalEnough, IsNeeded}
 use Rattle.question_model.specs.MinimalRules.{IsMinimalFor, IsNeededFor}
-use Rattle.question_model.specs.EnoughReport.{ListedGroup, IsListedFirst, IsListedGroup, rules_report_bytes}
+use Rattle.question_model.specs.EnoughReport.{Choices, ListedGroup, IsListedFirst, IsListedGroup, rule_choices}
+use Rattle.question_model.specs.EnoughReport.{IsChoicesReport, IsEnoughReport, enough_bytes}
 use Rattle.question_model.specs.declared.decided_fault.DecidedFault.{DecidedFault}
 use Rattle.question_model.specs.declared.question.Question.TheVariants.{Decide, Enough}
 use Rattle.uniqueness_laws.proofs.OneGraph.{graph_one}
@@ -119,19 +120,35 @@ group_if detail rules base s g e = first_if detail (rules_but rules g.group) bas
 -- what is listed of groups that pass a test
 module _ (IsListed : ListedGroup → Type 0) (passes : Group → Bool) (listed_as : Group → ListedGroup)
     (listed : (g : Group) → passes g ≡ true → IsListed (listed_as g)) where
-  pub groups_if : (groups : List Group) → list_all passes groups ≡ true → All IsListed (map listed_as groups)
+  groups_if : (groups : List Group) → list_all passes groups ≡ true → All IsListed (map listed_as groups)
   groups_if [] e = All-nil IsListed
   groups_if (g ∷ groups) e =
       let parts = and_parts (passes g) (list_all passes groups) e in
       All-cons IsListed (listed_as g) (map listed_as groups) (listed g parts.0) (groups_if groups parts.1)
 
-pub same_groups : (listed_as : Group → ListedGroup) → ((g : Group) → g.group ≡ (listed_as g).group)
+same_groups : (listed_as : Group → ListedGroup) → ((g : Group) → g.group ≡ (listed_as g).group)
     → (groups : List Group)
     → map (λ g. g.group) groups ≡ map (λ t. t.group) (map listed_as groups)
 same_groups listed_as same [] = refl
 same_groups listed_as same (g ∷ groups) = λ i. same g i ∷ same_groups listed_as same groups i
 
 -- ---- a script
+
+module _ (settings : Settings) (before after : List Act) (traced : is_traced settings before after ≡ true) where
+  -- what is reported on its patches is an answer
+  pub reported : (IsOn : Demands → Disk → Tracing → List Patch → List ℕ → ℕ → Type 0) (text : List ℕ) (number : ℕ)
+      → IsOn (demanded settings before after) (base_of settings before) (last_of settings before after)
+      (graph settings before after) text number
+      → IsReported IsOn (script before after) settings text number
+  reported IsOn text number report = record {
+    demands = demanded settings before after;
+    base = base_of settings before;
+    last = last_of settings before after;
+    patches = graph settings before after;
+    graph = has_graph settings before after traced;
+    demanded = are_demanded settings before after traced;
+    report = report;
+  }
 
 module _ (settings : Settings) (before after : List Act) (closed : ℕ) (text : List ℕ)
     (traced : is_traced settings before after ≡ true)
@@ -168,23 +185,55 @@ module _ (settings : Settings) (before after : List Act) (closed : ℕ) (text : 
             (graph settings before after) fs;
       })
       → IsAnswerTo Decide (script before after) settings (Reported text (length fs))
-  decided sets fs passes whole = record {
-    demands = demands;
-    base = base;
-    last = last;
-    patches = patches;
-    graph = has_graph settings before after traced;
-    demanded = are_demanded settings before after traced;
-    report = record {
-      total = closed;
-      counted = counted settings before after closed many;
-      listed = listed_all detail base patches fs;
-      are = listed_if detail base patches (earlier rules base last) sets fs passes;
-      led = led_if detail base patches (earlier rules base last) sets fs passes;
-      number_of = sym (length-map fs (listed_one detail base patches));
-      whole = whole;
-    };
-  }
+  decided sets fs passes whole = reported settings before after traced (IsDecision settings) text (length fs) (record {
+    total = closed;
+    counted = counted settings before after closed many;
+    listed = listed_all detail base patches fs;
+    are = listed_if detail base patches (earlier rules base last) sets fs passes;
+    led = led_if detail base patches (earlier rules base last) sets fs passes;
+    number_of = sym (length-map fs (listed_one detail base patches));
+    whole = whole;
+  })
+
+  -- what is reported of choices, where no set fails by all of them
+  module _ (IsMinimal IsNeededGroup : ℕ → Type 0) (IsListed : ListedGroup → Type 0) (passes : Group → Bool)
+      (listed_as : Group → ListedGroup) (listed : (g : Group) → passes g ≡ true → IsListed (listed_as g))
+      (same : (g : Group) → g.group ≡ (listed_as g).group) (choices : Choices) where
+    pub choices_if : (sets : List ℕ) (groups : List Group)
+        → is_decided (reported_detail settings before after) (base_of settings before) (graph settings before after)
+        [] []
+        ≡ true
+        → AreAllInOrder IsMinimal sets → AreAllInOrder IsNeededGroup (map (λ g. g.group) groups)
+        → list_all passes groups ≡ true
+        → text ≡ enough_bytes choices settings (record {
+          patches = length (graph settings before after);
+          closed = closed;
+          explanation = when settings.explain (explanation (ordering_rules settings) (base_of settings before)
+              (last_of settings before after) (graph settings before after));
+          promises = if settings.explain then (demanded settings before after).promises else None;
+          enough = sets;
+          needs = map listed_as groups;
+          first = None;
+        })
+        → IsChoicesReport IsMinimal IsNeededGroup IsListed choices settings (demanded settings before after)
+        (base_of settings before) (last_of settings before after) (graph settings before after) text 0
+    choices_if sets groups none exactly needed each whole =
+        let failing = failing_if detail base patches (earlier rules base last) [] [] none in record {
+          enough = sets;
+          exactly = exactly;
+          needs = map listed_as groups;
+          needed = subst (λ (some : List ℕ). AreAllInOrder IsNeededGroup some) (same_groups listed_as same groups)
+              needed;
+          listed = groups_if IsListed passes listed_as listed groups each;
+          shown = record {
+            total = closed;
+            counted = counted settings before after closed many;
+            first = None;
+            any = λ f s has. in_none s ((failing.exactly s).1 has.failing);
+            number_of = refl;
+            whole = whole;
+          };
+        }
 
   -- where no set fails by all rules
   pub needed : (sets : List ℕ) (groups : List Group)
@@ -198,7 +247,7 @@ module _ (settings : Settings) (before after : List Act) (closed : ℕ) (text : 
       (ordering_rules settings) (map (λ g. g.group) groups) ≡ true
       → list_all (is_group (reported_detail settings before after) (ordering_rules settings) (base_of settings before)
       (last_of settings before after)) groups ≡ true
-      → text ≡ rules_report_bytes settings (record {
+      → text ≡ enough_bytes (rule_choices (ordering_rules settings)) settings (record {
         patches = length (graph settings before after);
         closed = closed;
         explanation = when settings.explain (explanation (ordering_rules settings) (base_of settings before)
@@ -212,37 +261,18 @@ module _ (settings : Settings) (before after : List Act) (closed : ℕ) (text : 
       })
       → IsAnswerTo Enough (script before after) settings (Reported text 0)
   needed sets groups none minimal need each whole =
-      let failing = failing_if detail base patches (earlier rules base last) [] [] none in record {
-        demands = demands;
-        base = base;
-        last = last;
-        patches = patches;
-        graph = has_graph settings before after traced;
-        demanded = are_demanded settings before after traced;
-        report = record {
-          total = closed;
-          counted = counted settings before after closed many;
-          enough = sets;
-          exactly = all_like (IsMinimalFor (AreEnough demands base last) rules)
-              (IsMinimalEnough demands base last rules)
-              (λ s is. record { places = is.places; enough = is.enough; minimal = is.minimal })
-              (λ s is. record { places = is.places; enough = is.enough; minimal = is.minimal }) sets
-              (all_minimal (AreEnough demands base last) (are_enough demands base last) (enough_if demands base last)
-              (not_enough_if demands base last) rules sets minimal);
-          needs = map (listed_group detail rules base last) groups;
-          needed = subst (λ (some : List ℕ). AreAllInOrder (IsNeeded demands base last rules) some)
-              (same_groups (listed_group detail rules base last) (λ g. refl) groups)
-              (all_like (IsNeededFor (AreEnough demands base last) rules) (IsNeeded demands base last rules)
-              (λ s is. record { places = is.places; some = is.some; needed = is.needed; minimal = is.minimal })
-              (λ s is. record { places = is.places; some = is.some; needed = is.needed; minimal = is.minimal })
-              (map (λ g. g.group) groups)
-              (all_needed (AreEnough demands base last) (are_enough demands base last) (enough_if demands base last)
-              (not_enough_if demands base last) rules (map (λ g. g.group) groups) need));
-          listed = groups_if (IsListedGroup detail rules base last) (is_group detail rules base last)
-              (listed_group detail rules base last) (group_if detail rules base last) groups each;
-          first = None;
-          any = λ f s has. in_none s ((failing.exactly s).1 has.failing);
-          number_of = refl;
-          whole = whole;
-        };
-      }
+      reported settings before after traced (IsEnoughReport settings) text 0
+      (choices_if (IsMinimalEnough demands base last rules) (IsNeeded demands base last rules)
+      (IsListedGroup detail rules base last) (is_group detail rules base last) (listed_group detail rules base last)
+      (group_if detail rules base last) (λ g. refl) (rule_choices rules) sets groups none
+      (all_like (IsMinimalFor (AreEnough demands base last) rules) (IsMinimalEnough demands base last rules)
+      (λ s is. record { places = is.places; enough = is.enough; minimal = is.minimal })
+      (λ s is. record { places = is.places; enough = is.enough; minimal = is.minimal }) sets
+      (all_minimal (AreEnough demands base last) (are_enough demands base last) (enough_if demands base last)
+      (not_enough_if demands base last) rules sets minimal))
+      (all_like (IsNeededFor (AreEnough demands base last) rules) (IsNeeded demands base last rules)
+      (λ s is. record { places = is.places; some = is.some; needed = is.needed; minimal = is.minimal })
+      (λ s is. record { places = is.places; some = is.some; needed = is.needed; minimal = is.minimal })
+      (map (λ g. g.group) groups)
+      (all_needed (AreEnough demands base last) (are_enough demands base last) (enough_if demands base last)
+      (not_enough_if demands base last) rules (map (λ g. g.group) groups) need)) each whole)

@@ -7,10 +7,9 @@ use Rattle.std.specs.List.{list_all}
 use Rattle.std.proofs.lemmas.Bool.{leb-true}
 use Rattle.std.proofs.lemmas.Nat.Bits.{bit_at_ones}
 use Rattle.patch_sets.specs.Ends.{IsDifference}
-use Rattle.patch_sets.specs.Sets.{has, IsSubset, AreAllInOrder}
+use Rattle.patch_sets.specs.Sets.{has, IsSubset}
 use Rattle.patch_sets.proofs.Bits.{below_from_small}
 use Rattle.patch_sets.proofs.Ids.{false_from_ne, ne_from_false}
-use Rattle.patch_sets.proofs.Lists.{in_none}
 use Rattle.enough_rules.proofs.Groups.{difference_of}
 use Rattle.report_model.specs.Answer.{Reported, detail_of}
 use Rattle.report_model.specs.ScriptGraph.{ordering_rules}
@@ -28,22 +27,22 @@ use Rattle.crash_model.specs.declared.rules.Rule.{Rule}
 use Rattle.crash_model.specs.declared.settings.Settings.{Settings}
 use Rattle.crash_model.specs.declared.steps.Act.{Act}
 use Rattle.question_model.specs.Answers.{IsAnswerTo}
-use Rattle.question_model.specs.EnoughLines.{all_waits, AreEnoughLines, IsNeededLines}
+use Rattle.question_model.specs.EnoughLines.{all_waits, AreEnoughLines, IsMinimalLines, IsNeededLines}
 use Rattle.question_model.specs.EnoughReport.{ListedGroup, IsListedFirst, enough_bytes}
-use Rattle.question_model.specs.LinesReport.{IsListedLines, line_choices}
+use Rattle.question_model.specs.LinesReport.{IsListedLines, IsLinesReport, line_choices}
 use Rattle.question_model.specs.declared.question.Question.TheVariants.{EnoughLines}
 use Rattle.question_model.specs.declared.question.TheConstants.{MAX_SYNCS}
 use Rattle.worked_example_laws.specs.Computed.{closed_sets, graph_of, set_below}
 use Rattle.worked_example_laws.specs.Spelled.{script, base_of, graph}
 use Rattle.worked_example_laws.proofs.Answering.{reported_detail}
-use Rattle.worked_example_laws.proofs.Graphs.{earlier, from_set_below, to_set_below}
+use Rattle.worked_example_laws.proofs.Graphs.{from_set_below, to_set_below}
 use Rattle.question_laws.proofs.ChoicesIf.{are_minimal, are_needed, all_minimal, all_needed}
-use Rattle.question_laws.proofs.DecidedIf.{is_decided, listed_one, failing_if}
-use Rattle.question_laws.proofs.Scripted.{Group, are_enough, enough_if, not_enough_if, first_if, groups_if, same_groups}
+use Rattle.question_laws.proofs.DecidedIf.{is_decided, listed_one}
+use Rattle.question_laws.proofs.Scripted.{Group, are_enough, enough_if, not_enough_if, first_if, reported, choices_if}
 use Rattle.question_laws.proofs.SomeLines.{difference_one, small_part, AreLines, IsEnoughBut, minimal_lines}
 use Rattle.question_laws.proofs.SomeLines.{needed_lines, one_less}
 use Rattle.question_laws.proofs.Testing.{not_true}
-use Rattle.question_laws.proofs.Listed.{last_of, demanded, is_traced, has_graph, are_demanded, counted}
+use Rattle.question_laws.proofs.Listed.{last_of, demanded, is_traced}
 
 -- ---- which lines are enough, as a test
 
@@ -119,21 +118,6 @@ group_if settings demands base s g e rest apart =
 module _ (settings : Settings) (before after : List Act) (closed : ℕ) (text : List ℕ)
     (traced : is_traced settings before after ≡ true)
     (many : (length (closed_sets (deps_of (graph settings before after))) == closed) ≡ true) where
-  abbrev base : Disk
-  base = base_of settings before
-
-  abbrev last : Tracing
-  last = last_of settings before after
-
-  abbrev patches : List Patch
-  patches = graph settings before after
-
-  abbrev demands : Demands
-  demands = demanded settings before after
-
-  abbrev rules : List Rule
-  rules = ordering_rules settings
-
   -- where no set fails if all lines wait
   pub lines_needed : (sets : List ℕ) (groups : List Group)
       → is_decided (reported_detail settings before after) (base_of settings before) (graph settings before after) [] []
@@ -161,43 +145,29 @@ module _ (settings : Settings) (before after : List Act) (closed : ℕ) (text : 
       })
       → IsAnswerTo EnoughLines (script before after) settings (Reported text 0)
   lines_needed sets groups none few minimal need each whole =
-      let detail = reported_detail settings before after in
-      let failing = failing_if detail base patches (earlier rules base last) [] [] none in
+      let base = base_of settings before in
+      let last = last_of settings before after in
+      let demands = demanded settings before after in
+      let rules = ordering_rules settings in
+      let number = length last.waits in
       let enough = enough_lines_if demands base rules last in
       let lacking = not_enough_lines_if demands base rules last in
-      let places = all_small (length last.waits) in
-      let parts = small_part (length last.waits) in
-      let test = are_enough_lines demands base rules last in record {
-        demands = demands;
-        base = base;
-        last = last;
-        patches = patches;
-        graph = has_graph settings before after traced;
-        demanded = are_demanded settings before after traced;
-        report = record {
-          few = leb-true (length last.waits) MAX_SYNCS few;
-          total = closed;
-          counted = counted settings before after closed many;
-          enough = sets;
-          exactly = minimal_lines demands base rules last sets
-              (all_minimal (length last.waits) (AreLines demands base rules last) places parts
-              (AreEnoughLines demands base rules last) test enough lacking sets minimal);
-          needs = map (listed_group settings demands base last) groups;
-          needed = subst (λ (some : List ℕ). AreAllInOrder (IsNeededLines demands base rules last) some)
-              (same_groups (listed_group settings demands base last) (λ g. refl) groups)
-              (needed_lines demands base rules last (map (λ g. g.group) groups)
-              (all_needed (length last.waits) (AreLines demands base rules last) places parts
-              (IsEnoughBut demands base rules last) (λ group. test (lines_but last group))
-              (λ group e. subst (AreEnoughLines demands base rules last) (but_one last group)
-              (enough (lines_but last group) e))
-              (λ group e is. lacking (lines_but last group) e
-              (subst (AreEnoughLines demands base rules last) (sym (but_one last group)) is))
-              (map (λ g. g.group) groups) need));
-          listed = groups_if (IsListedLines settings demands base last) (is_group settings demands base last)
-              (listed_group settings demands base last) (group_if settings demands base last) groups each;
-          first = None;
-          any = λ f s has. in_none s ((failing.exactly s).1 has.failing);
-          number_of = refl;
-          whole = whole;
-        };
-      }
+      let test = are_enough_lines demands base rules last in
+      reported settings before after traced (IsLinesReport settings) text 0 (
+        leb-true number MAX_SYNCS few,
+        choices_if settings before after closed text traced many (IsMinimalLines demands base rules last)
+            (IsNeededLines demands base rules last) (IsListedLines settings demands base last)
+            (is_group settings demands base last) (listed_group settings demands base last)
+            (group_if settings demands base last) (λ g. refl) (line_choices last.waits) sets groups none
+            (minimal_lines demands base rules last sets
+            (all_minimal number (AreLines demands base rules last) (all_small number) (small_part number)
+            (AreEnoughLines demands base rules last) test enough lacking sets minimal))
+            (needed_lines demands base rules last (map (λ g. g.group) groups)
+            (all_needed number (AreLines demands base rules last) (all_small number) (small_part number)
+            (IsEnoughBut demands base rules last) (λ group. test (lines_but last group))
+            (λ group e. subst (AreEnoughLines demands base rules last) (but_one last group)
+            (enough (lines_but last group) e))
+            (λ group e is. lacking (lines_but last group) e
+            (subst (AreEnoughLines demands base rules last) (sym (but_one last group)) is))
+            (map (λ g. g.group) groups) need)) each whole,
+      )

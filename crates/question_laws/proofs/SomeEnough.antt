@@ -1,17 +1,16 @@
 -- There is a report of the rules that a script needs.
 use Rattle.std.proofs.Common.{◌≡◌, ℕ, List, [], ◌∷◌, length, map, All, refl, sym, subst, inl, inr}
-use Rattle.std.specs.Prelude.{◌⊎◌, None, option_to_list, if◌then◌else◌}
+use Rattle.std.specs.Prelude.{◌⊎◌}
 use Rattle.std.specs.List.{Contains}
 use Rattle.std.proofs.lemmas.List.Elements.{All-nil, All-cons}
+use Rattle.patch_sets.specs.Closed.{AreEarlier}
 use Rattle.patch_sets.specs.Sets.{AreAllInOrder}
 use Rattle.patch_sets.proofs.Lists.{in_front, in_rest}
 use Rattle.report_model.specs.Answer.{detail_of}
 use Rattle.report_model.specs.ScriptGraph.{ordering_rules}
 use Rattle.crash_model.specs.Disk.{Disk}
 use Rattle.crash_model.specs.Checker.{Demands, IsFailingUnder}
-use Rattle.crash_model.specs.Lists.{when}
 use Rattle.crash_model.specs.Patches.{deps_of}
-use Rattle.crash_model.specs.Reasons.{explanation}
 use Rattle.crash_model.specs.OtherRules.{HasGraphBy}
 use Rattle.crash_model.specs.Trace.{IsGraphOf}
 use Rattle.crash_model.specs.Tracing.{Tracing}
@@ -21,9 +20,8 @@ use Rattle.crash_model.specs.declared.settings.Settings.{Settings}
 use Rattle.question_model.specs.Enough.{rules_but, AreEnough, IsMinimalEnough, IsNeeded}
 use Rattle.question_model.specs.MinimalRules.{IsMinimalFor, IsNeededFor}
 use Rattle.question_model.specs.ListedFault.{ListedFault}
-use Rattle.question_model.specs.EnoughReport.{ListedGroup, IsListedFirst, IsListedGroup, EnoughFound}
-use Rattle.question_model.specs.EnoughReport.{rules_report_bytes}
-use Rattle.question_model.specs.EnoughReport.{IsEnoughReport}
+use Rattle.question_model.specs.EnoughReport.{Choices, ListedGroup, IsListedFirst, IsListedGroup, rule_choices}
+use Rattle.question_model.specs.EnoughReport.{IsChoicesReport, IsEnoughReport}
 use Rattle.uniqueness_laws.proofs.OneGraph.{graph_one}
 use Rattle.worked_example_laws.specs.Computed.{closed_sets, graph_of}
 use Rattle.worked_example_laws.proofs.FailingSets.{counts_closed}
@@ -107,40 +105,44 @@ module _ (settings : Settings) (demands : Demands) (base : Disk) (s : Tracing) w
         let listed = listed_by (rules_but rules group) is.needed in
         (record { group = group; fault = listed.0 }, listed.1, refl)
 
+-- a report of choices, where all minimal sets and groups are known, and what it shows of each group
+module _ (IsMinimal IsNeededGroup : ℕ → Type 0) (IsListed : ListedGroup → Type 0)
+    (listed_as : (group : ℕ) → IsNeededGroup group → (listed : ListedGroup) × IsListed listed
+    × (listed.group ≡ group))
+    (choices : Choices) (settings : Settings) (demands : Demands) (base : Disk) (last : Tracing) (patches : List Patch)
+    (earlier : AreEarlier (deps_of patches)) where
+  pub some_choices : (enough : (sets : List ℕ) × AreAllInOrder IsMinimal sets)
+      → (groups : (groups : List ℕ) × AreAllInOrder IsNeededGroup groups) → (text : List ℕ) × (number : ℕ)
+      × IsChoicesReport IsMinimal IsNeededGroup IsListed choices settings demands base last patches text number
+  some_choices enough groups =
+      let needs = listed_groups IsNeededGroup IsListed listed_as groups.0 (λ group is. (groups.1.exactly group).0 is) in
+      let first = listed_any settings demands base patches earlier in
+      let total = length (closed_sets (deps_of patches)) in (
+        _,
+        _,
+        record {
+          enough = enough.0;
+          exactly = enough.1;
+          needs = needs.0;
+          needed = subst (λ (some : List ℕ). AreAllInOrder IsNeededGroup some) needs.2 groups.1;
+          listed = needs.1;
+          shown = record {
+            total = total;
+            counted = counts_closed patches total earlier refl;
+            first = first.0;
+            any = first.1;
+            number_of = refl;
+            whole = refl;
+          };
+        },
+      )
+
 pub some_enough : (settings : Settings) (demands : Demands) (base : Disk) (last : Tracing) (patches : List Patch)
     → IsGraphOf (ordering_rules settings) base last patches → (text : List ℕ) × (number : ℕ)
     × IsEnoughReport settings demands base last patches text number
 some_enough settings demands base last patches graph =
     let rules = ordering_rules settings in
-    let enough = all_minimal settings demands base last rules in
-    let groups = all_needed settings demands base last rules in
-    let needs = listed_groups (IsNeeded demands base last rules)
-    (IsListedGroup (detail_of settings demands) rules base last)
-    (listed_group settings demands base last rules) groups.0
-    (λ group is. (groups.1.exactly group).0 is) in
-    let first = listed_any settings demands base patches graph.earlier in
-    let report : EnoughFound = record {
-      patches = length patches;
-      closed = length (closed_sets (deps_of patches));
-      explanation = when settings.explain (explanation rules base last patches);
-      promises = if settings.explain then demands.promises else None;
-      enough = enough.0;
-      needs = needs.0;
-      first = first.0;
-    } in (
-      rules_report_bytes settings report,
-      length (option_to_list first.0),
-      record {
-        total = length (closed_sets (deps_of patches));
-        counted = counts_closed patches (length (closed_sets (deps_of patches))) graph.earlier refl;
-        enough = enough.0;
-        exactly = enough.1;
-        needs = needs.0;
-        needed = subst (λ (some : List ℕ). AreAllInOrder (IsNeeded demands base last rules) some) needs.2 groups.1;
-        listed = needs.1;
-        first = first.0;
-        any = first.1;
-        number_of = refl;
-        whole = refl;
-      },
-    )
+    some_choices (IsMinimalEnough demands base last rules) (IsNeeded demands base last rules)
+    (IsListedGroup (detail_of settings demands) rules base last) (listed_group settings demands base last rules)
+    (rule_choices rules) settings demands base last patches graph.earlier
+    (all_minimal settings demands base last rules) (all_needed settings demands base last rules)

@@ -1,6 +1,5 @@
 -- There is a report of a script's lines that have to wait.
 use Rattle.std.proofs.Common.{◌≡◌, ℕ, zero, suc, ◌-◌, ◌^◌, ◌<◌, ◌≤◌, List, length, arith, refl, subst}
-use Rattle.std.specs.Prelude.{None, option_to_list, if◌then◌else◌}
 use Rattle.patch_sets.specs.Ends.{IsDifference}
 use Rattle.patch_sets.specs.Sets.{IsSubset, AreAllInOrder}
 use Rattle.patch_sets.proofs.Bits.{below_from_small, small_from_below, same_set}
@@ -10,9 +9,6 @@ use Rattle.report_model.specs.ScriptGraph.{ordering_rules}
 use Rattle.crash_model.specs.ChosenWaits.{tracing_waiting, demands_waiting}
 use Rattle.crash_model.specs.Disk.{Disk}
 use Rattle.crash_model.specs.Checker.{Demands}
-use Rattle.crash_model.specs.Lists.{when}
-use Rattle.crash_model.specs.Patches.{deps_of}
-use Rattle.crash_model.specs.Reasons.{explanation}
 use Rattle.crash_model.specs.OtherRules.{HasGraphBy}
 use Rattle.crash_model.specs.Trace.{IsGraphOf}
 use Rattle.crash_model.specs.Tracing.{Tracing}
@@ -20,14 +16,11 @@ use Rattle.crash_model.specs.declared.patches.Patch.{Patch}
 use Rattle.crash_model.specs.declared.rules.Rule.{Rule}
 use Rattle.crash_model.specs.declared.settings.Settings.{Settings}
 use Rattle.question_model.specs.EnoughLines.{all_waits, AreEnoughLines, IsMinimalLines, IsNeededLines}
-use Rattle.question_model.specs.EnoughReport.{ListedGroup, IsListedFirst, EnoughFound, enough_bytes}
+use Rattle.question_model.specs.EnoughReport.{ListedGroup, IsListedFirst}
 use Rattle.question_model.specs.LinesReport.{IsListedLines, line_choices, IsLinesReport}
 use Rattle.question_model.specs.declared.question.TheConstants.{MAX_SYNCS}
-use Rattle.worked_example_laws.specs.Computed.{closed_sets}
-use Rattle.worked_example_laws.proofs.FailingSets.{counts_closed}
 use Rattle.question_laws.proofs.SomeChoices.{IsMinimalSet, IsNeededGroup, minimal_sets, needed_groups}
-use Rattle.question_laws.proofs.SomeEnough.{are_enough, listed_by, listed_groups}
-use Rattle.question_laws.proofs.SomeFirst.{listed_any}
+use Rattle.question_laws.proofs.SomeEnough.{are_enough, listed_by, some_choices}
 use Rattle.question_laws.proofs.SomeSets.{all_like, is_subset}
 
 -- ---- sets of lines
@@ -143,35 +136,8 @@ pub some_lines : (settings : Settings) (demands : Demands) (base : Disk) (last :
     × (number : ℕ) × IsLinesReport settings demands base last patches text number
 some_lines settings demands base last patches graph few =
     let rules = ordering_rules settings in
-    let enough = all_minimal settings demands base last in
-    let groups = all_needed settings demands base last in
-    let needs = listed_groups (IsNeededLines demands base rules last) (IsListedLines settings demands base last)
-    (listed_lines settings demands base last) groups.0 (λ group is. (groups.1.exactly group).0 is) in
-    let first = listed_any settings demands base patches graph.earlier in
-    let report : EnoughFound = record {
-      patches = length patches;
-      closed = length (closed_sets (deps_of patches));
-      explanation = when settings.explain (explanation rules base last patches);
-      promises = if settings.explain then demands.promises else None;
-      enough = enough.0;
-      needs = needs.0;
-      first = first.0;
-    } in (
-      enough_bytes (line_choices last.waits) settings report,
-      length (option_to_list first.0),
-      record {
-        few = few;
-        total = length (closed_sets (deps_of patches));
-        counted = counts_closed patches (length (closed_sets (deps_of patches))) graph.earlier refl;
-        enough = enough.0;
-        exactly = enough.1;
-        needs = needs.0;
-        needed = subst (λ (some : List ℕ). AreAllInOrder (IsNeededLines demands base rules last) some) needs.2
-            groups.1;
-        listed = needs.1;
-        first = first.0;
-        any = first.1;
-        number_of = refl;
-        whole = refl;
-      },
-    )
+    let report = some_choices (IsMinimalLines demands base rules last) (IsNeededLines demands base rules last)
+    (IsListedLines settings demands base last) (listed_lines settings demands base last) (line_choices last.waits)
+    settings demands base last patches graph.earlier (all_minimal settings demands base last)
+    (all_needed settings demands base last) in
+    (report.0, report.1, (few, report.2))

@@ -162,27 +162,18 @@ abbrev pub enough_bytes : Choices → Settings → EnoughFound → List ℕ
 enough_bytes choices settings r =
     if settings.json then json_enough choices settings r else text_enough choices settings r
 
--- where the choices are rules
-abbrev pub rules_report_bytes : Settings → EnoughFound → List ℕ
-rules_report_bytes settings r = enough_bytes (rule_choices (ordering_rules settings)) settings r
-
 -- ---- the answer
 
--- the report on a graph: exactly the minimal sets of rules that are enough, and exactly the minimal groups of which one
--- is needed; `number` is 1 if the whole ordering is not enough, otherwise 0
-pub record IsEnoughReport (settings : Settings) (demands : Demands) (base : Disk) (last : Tracing)
-    (patches : List Patch) (text : List ℕ) (number : ℕ) : Type 0 where
+-- a report on a graph that shows these sets and groups of choices; `number` is 1 if all choices are not enough, otherwise 0
+pub record ShowsChoices (choices : Choices) (enough : List ℕ) (needs : List ListedGroup) (settings : Settings)
+    (demands : Demands) (base : Disk) (last : Tracing) (patches : List Patch) (text : List ℕ) (number : ℕ)
+    : Type 0 where
   pub total : ℕ
   pub counted : CountsClosed patches total
-  pub enough : List ℕ
-  pub exactly : AreAllInOrder (IsMinimalEnough demands base last (ordering_rules settings)) enough
-  pub needs : List ListedGroup
-  pub needed : AreAllInOrder (IsNeeded demands base last (ordering_rules settings)) (map (λ t. t.group) needs)
-  pub listed : All (IsListedGroup (detail_of settings demands) (ordering_rules settings) base last) needs
   pub first : Option ListedFault
   pub any : IsListedIfAny (detail_of settings demands) base patches first
   pub number_of : number ≡ length (option_to_list first)
-  pub whole : text ≡ rules_report_bytes settings (record {
+  pub whole : text ≡ enough_bytes choices settings (record {
     patches = length patches;
     closed = total;
     explanation = when settings.explain (explanation (ordering_rules settings) base last patches);
@@ -191,3 +182,23 @@ pub record IsEnoughReport (settings : Settings) (demands : Demands) (base : Disk
     needs = needs;
     first = first;
   })
+
+-- the report shows exactly the minimal sets of choices that are enough, and exactly the minimal groups of which one is
+-- needed
+pub record IsChoicesReport (IsMinimal IsNeededGroup : ℕ → Type 0) (IsListed : ListedGroup → Type 0) (choices : Choices)
+    (settings : Settings) (demands : Demands) (base : Disk) (last : Tracing) (patches : List Patch) (text : List ℕ)
+    (number : ℕ) : Type 0 where
+  pub enough : List ℕ
+  pub exactly : AreAllInOrder IsMinimal enough
+  pub needs : List ListedGroup
+  pub needed : AreAllInOrder IsNeededGroup (map (λ t. t.group) needs)
+  pub listed : All IsListed needs
+  pub shown : ShowsChoices choices enough needs settings demands base last patches text number
+
+-- where the choices are the rules of the ordering
+abbrev pub IsEnoughReport : Settings → Demands → Disk → Tracing → List Patch → List ℕ → ℕ → Type 0
+IsEnoughReport settings demands base last =
+    IsChoicesReport (IsMinimalEnough demands base last (ordering_rules settings))
+    (IsNeeded demands base last (ordering_rules settings))
+    (IsListedGroup (detail_of settings demands) (ordering_rules settings) base last)
+    (rule_choices (ordering_rules settings)) settings demands base last

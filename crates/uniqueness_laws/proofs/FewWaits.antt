@@ -128,7 +128,7 @@ traced_waits kind (x ∷ xs) s last run =
 -- ---- what is cut off
 
 -- what is left behind a step
-abbrev behind : ℕ → Bool → List Step → List Step
+abbrev pub behind : ℕ → Bool → List Step → List Step
 behind n b xs = if b then elim n [ zero ↦ [] | suc m ↦ up_to_wait m xs ] else up_to_wait n xs
 
 -- if few of all steps wait, or few of those that are left
