@@ -1,7 +1,7 @@
 pub mod Bytes
 pub mod Commas
 pub mod HeadPieces
-pub mod Ids
+pub mod IdRuns
 pub mod ListedValues
 pub mod PatchBytes
 pub mod RuleTexts

@@ -3,6 +3,7 @@
 ghost use Rattle.std.specs.Prelude.{◌≡◌, ◌++◌, decimal, map, string_bytes, OnOk};
 ghost use Rattle.crash_model.specs.Lists.{join_of};
 ghost use Rattle.hex.specs.Hex.{encode_lower};
+ghost use Rattle.patch_sets.specs.Iter.{most_ids};
 ghost use Rattle.patch_sets.specs.Sets.{ids_of};
 ghost use Rattle.report_model.specs.JsonParts.{ids_json, json_string};
 ghost use Rattle.report_model.specs.SectionJson.{replay_json, section_json, write_json, writes_json, shows_json};
@@ -10,6 +11,7 @@ ghost use Rattle.report_model.specs.Replayed.{replayed_json};
 ghost use Rattle.report_model.specs.Shows.{together};
 ghost use Rattle.json_values.specs.Known.{fault_json};
 ghost use Rattle.json_values.specs.Items.{bar_before, crash_json, fault_shows_json, leading_json, last_json};
+ghost use Rattle.report_sections.specs.Numbers.{marked};
 ghost use Rattle.report_sections.specs.Replay.{listed_block, listed_replay};
 ghost use Rattle.report_sections.specs.Sections.{section_of};
 ghost use Rattle.report_sections.specs.Showing.{shown_once};
@@ -20,8 +22,9 @@ use crash_model::fault::Fault;
 use crash_model::promises::Shows;
 use crash_model::separators::COMMA;
 use crash_model::showing::Shown;
-use patch_sets::iter::Ids;
+use patch_sets::leading::{below, first_run};
 use patch_sets::write::BlockWrite;
+use report_sections::numbers::numbers_after_commas;
 use report_sections::{ReplayedBlock, Section};
 use std::alloc::{AllocError, Allocator};
 
@@ -237,15 +240,30 @@ pub fn push_set<B: Allocator>(
     out.push_str("]")
 }
 
-/// The ids of the set below `patches`, ascending, with a comma between two.
+/// The ids of the set below `patches`, ascending, with a comma between two. A run of consecutive ids is written at
+/// once.
 fn push_ids<B: Allocator>(out: &mut String<B>, patches: usize, set: u128) -> Result<(), AllocError>
     ensures { OnOk result (string_bytes out.new
         ≡ string_bytes out.old ++ join_of COMMA (map decimal (ids_of patches set))) }
 {
-    let mut comma = "";
-    for id in Ids::below(set, patches) {
-        write!(out, "{comma}{id}")?;
-        comma = ",";
+    let Some(run) = first_run(below(set, patches)) else {
+        return Ok(());
+    };
+    let first = run.from;
+    write!(out, "{first}")?;
+    out.push_str(numbers_after_commas(first + 1, run.end))?;
+    push_later_ids(out, run.rest)
+}
+
+/// The ids of the set, ascending, each after a comma.
+fn push_later_ids<B: Allocator>(out: &mut String<B>, set: u128) -> Result<(), AllocError>
+    ensures { OnOk result (string_bytes out.new
+        ≡ string_bytes out.old ++ marked COMMA (ids_of most_ids set)) }
+{
+    let mut left = set;
+    while let Some(run) = first_run(left) {
+        out.push_str(numbers_after_commas(run.from, run.end))?;
+        left = run.rest;
     }
     Ok(())
 }

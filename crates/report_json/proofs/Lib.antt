@@ -1,4 +1,5 @@
 pub mod Below
+pub mod Ids
 pub mod Counted
 pub mod JoinedParts
 pub mod Keys

@@ -4,3 +4,5 @@ pub mod Firsts
 pub mod Joined
 pub mod Shown
 pub mod Items
+pub mod NumberTables
+pub mod MarkedRuns

@@ -3,3 +3,4 @@ pub mod Replay
 pub mod Sections
 pub mod Showing
 pub mod ListedRules
+pub mod Numbers

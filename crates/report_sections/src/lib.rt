@@ -1,6 +1,7 @@
 //! The data of a report on each failing set.
 #![tactic(auto)]
 
+pub mod numbers;
 pub mod places;
 pub mod promises;
 pub mod replayed;

@@ -1,4 +1,3 @@
 pub mod Cache
-pub mod Numbers
 pub mod Runs
 pub mod Shows

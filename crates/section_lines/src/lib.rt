@@ -3,7 +3,6 @@
 
 pub mod cache;
 pub mod lines;
-mod numbers;
 mod tables;
 
 pub use cache::LineCache;

@@ -14,12 +14,12 @@ ghost use Rattle.report_model.specs.FaultLines.{faults_text, shows_if};
 ghost use Rattle.section_lines.specs.Cache.{fault_line};
 ghost use Rattle.section_lines.specs.Shows.{bar_before};
 
-use crate::numbers::numbers_between;
 use crash_model::fault::Fault;
 use crash_model::promises::Shows;
 use crash_model::showing::Shown;
 use patch_sets::leading::{below, first_run};
 use patch_sets::write::BlockWrite;
+use report_sections::numbers::numbers_between;
 use report_sections::{ReplayedBlock, Section};
 use std::alloc::{AllocError, Allocator};
 

@@ -1,25 +1,26 @@
-use Rattle.std.proofs.Common.{string_bytes, ap, ◌∙◌}
-use Rattle.patch_sets.specs.Iter.{ids_left}
+use Rattle.std.proofs.Common.{string_bytes}
+use Rattle.std.proofs.lemmas.Result.{on_ok_weaker}
+use Rattle.std.proofs.Common.{◌≡◌, ◌++◌, map, decimal}
+use Rattle.crash_model.specs.Lists.{join_of}
+use Rattle.patch_sets.specs.Iter.{most_ids}
 use Rattle.patch_sets.specs.Sets.{ids_of}
-use Rattle.patch_sets.proofs.Stepped.{next_id, no_next_id}
-use Rattle.json_values.proofs.Ids.{no_id_written, id_written, all_written}
+use Rattle.patch_sets.proofs.Stepped.{left_none}
+use Rattle.report_sections.specs.Numbers.{marked}
+use Rattle.json_values.proofs.IdRuns.{first_run_written, no_id_written}
 use Rattle.json_values.proofs.sections.push_ids.Goals as goal
 
-pub loop-id-init : goal.loop-id-init
-loop-id-init g c =
-    no_id_written (ids_of c.args.patches c.args.set) (ids_left c.into_iter-id-iterator.result)
-    (string_bytes c.args.out.now) (ap ids_left c.into_iter-id-iterator.ensures.into_iter_gives ∙ c.below-id-items.ensures)
-
-pub loop-id-preserved : goal.loop-id-preserved
-loop-id-preserved g c =
-    id_written (ids_of c.args.patches c.args.set) (ids_left c.loop-id.id-iterator) (ids_left c.next.new.self)
-    c.in-Some.id (string_bytes c.args.out.now) (string_bytes c.loop-id.out) (string_bytes c.write.new.self)
-    c.loop-id.comma.now c.loop-id.invariant
-    (next_id c.loop-id.id-iterator c.next.new.self c.next.result c.in-Some.id c.in-Some.is c.next.ensures.steps)
-    c.in_ok-write.ensures.bytes
+pub returns-in_default : goal.returns-in_default
+returns-in_default g c = no_id_written c.args.set c.below.result c.args.patches (string_bytes c.args.out.now)
+    c.below.ensures (left_none c.below.result c.in_default.ensures)
 
 pub returns : goal.returns
 returns g c =
-    all_written (ids_of c.args.patches c.args.set) (ids_left c.loop-id.id-iterator) (string_bytes c.args.out.now)
-    (string_bytes c.loop-id.out) c.loop-id.comma.now c.loop-id.invariant
-    (no_next_id c.loop-id.id-iterator c.next.new.self c.next.result c.in-None.is c.next.ensures.steps)
+    let before = string_bytes c.args.out.now in
+    on_ok_weaker {P = string_bytes c.push_later_ids.new.out ≡ string_bytes c.push_str.new.self
+    ++ marked 44 (ids_of most_ids c.in-Some.run'.rest)}
+    {Q = string_bytes c.push_later_ids.new.out ≡ before ++ join_of 44 (map decimal (ids_of c.args.patches c.args.set))}
+    c.push_later_ids.result
+    (λ wrote. first_run_written c.args.set c.below.result c.args.patches c.in-Some.run' before _ _ _
+    c.below.ensures c.in-Some.ensures c.in_ok-write.ensures.bytes
+    c.in_ok-push_str.ensures.bytes wrote)
+    c.push_later_ids.ensures

@@ -3,7 +3,7 @@ use Rattle.patch_sets.specs.Sets.{has}
 use Rattle.patch_sets.proofs.Ids.{has_true, has_false}
 use Rattle.std.proofs.lemmas.Bool.{false≢true}
 use Rattle.report_model.specs.Shows.{counted_numbers}
-use Rattle.json_values.proofs.Ids.{no_id_written, id_written, all_written, none_written}
+use Rattle.report_json.proofs.Ids.{no_id_written, id_written, all_written, none_written}
 use Rattle.report_json.proofs.Counted.{numbers_from, number_counts, number_passes, no_number}
 use Rattle.report_json.proofs.head.write_counted_numbers.Goals as goal
 use Rattle.report_json.proofs.head.write_counted_numbers.Goals.{then-has+in_ok-write, else-has}

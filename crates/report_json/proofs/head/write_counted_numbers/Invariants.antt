@@ -1,6 +1,6 @@
 use Rattle.std.proofs.Common.{string_bytes}
 use Rattle.report_model.specs.Shows.{counted_numbers}
-use Rattle.json_values.proofs.Ids.{WritesIds}
+use Rattle.report_json.proofs.Ids.{WritesIds}
 use Rattle.report_json.proofs.Counted.{numbers_from}
 use Rattle.report_json.proofs.head.write_counted_numbers.Given as goal
 
