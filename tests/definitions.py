@@ -54,14 +54,14 @@ ROWS = {
                     "report_model/Summary"],
     "`--needs`": ["crash_model/RuleUse", "crash_model/OtherRules", "report_model/Needs"],
     "`--decide`": ["crash_model/FaultOrder", "crash_model/FirstSets", "question_model/Decided",
-                   "question_model/OrderingText", "question_model/ListedFault", "question_model/Decision"],
+                   "question_model/ListedFault", "question_model/Decision"],
     "`--enough`": ["crash_model/FaultOrder", "crash_model/FirstSets", "crash_model/OtherRules",
-                   "question_model/OrderingText", "question_model/ListedFault", "question_model/Enough",
+                   "question_model/ListedFault", "question_model/Enough",
                    "question_model/EnoughReport"],
     "`--enough` with `--syncs`": ["patch_sets/Ends", "crash_model/ChosenWaits", "question_model/EnoughLines",
                                   "question_model/LinesReport"],
     "`--search`": ["crash_model/FirstSets"] + ["question_model/" + name for name in
-                   ("OrderingText", "Kinds", "Lengths", "Refused", "Sequences", "Workloads", "SearchCounts",
+                   ("Kinds", "Lengths", "Refused", "Sequences", "Workloads", "SearchCounts",
                     "SearchReport", "PoolAnswer")],
     "`--search` with `--enough`": ["question_model/" + name for name in
                                    ("MinimalRules", "EnoughFor", "SearchRulesReport")],

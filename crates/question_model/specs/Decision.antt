@@ -1,19 +1,17 @@
 -- What a decision reports: how many closed sets there are, and each fault that one of them has.
-use Rattle.std.specs.Prelude.{◌≡◌, ℕ, List, [], ◌++◌, length, map, flat_map, if◌then◌else◌, Option, None, codes}
+use Rattle.std.specs.Prelude.{◌≡◌, ℕ, List, ◌++◌, length, map, flat_map, if◌then◌else◌, Option, None, codes}
 use Rattle.std.specs.Prelude.{decimal}
 use Rattle.std.specs.List.{All}
 use Rattle.report_model.specs.Answer.{detail_of}
 use Rattle.report_model.specs.ScriptGraph.{ordering_rules}
 use Rattle.crash_model.specs.Disk.{Disk}
 use Rattle.crash_model.specs.Reasons.{Explanation, explanation}
-use Rattle.report_model.specs.OptionTexts.{explanation_text, promises_text, listed_without, listed_with}
-use Rattle.report_model.specs.OptionKeys.{trace_json, listed_waits_json, promises_json, counted_json, durable_json}
-use Rattle.report_model.specs.OptionKeys.{first_json, rules_json, before_module}
+use Rattle.report_model.specs.OptionTexts.{ordering_text, explanation_text, promises_text}
+use Rattle.report_model.specs.OptionKeys.{keys_to_closed, module_keys, promises_json, keys_from_strict}
 use Rattle.crash_model.specs.Promises.{Promise}
 use Rattle.crash_model.specs.Lists.{when}
 use Rattle.crash_model.specs.Patches.{CountsClosed}
 use Rattle.report_model.specs.Report.{Detail, AreSections, IsLed, line}
-use Rattle.crash_model.specs.Texts.{module_text}
 use Rattle.report_model.specs.JsonParts.{json_string, json_array}
 use Rattle.crash_model.specs.Checker.{Demands}
 use Rattle.crash_model.specs.FirstSets.{HasFault}
@@ -23,7 +21,6 @@ use Rattle.crash_model.specs.declared.patches.Patch.{Patch}
 use Rattle.crash_model.specs.declared.settings.Settings.{Settings}
 use Rattle.question_model.specs.Decided.{AreDecided}
 use Rattle.question_model.specs.ListedFault.{ListedFault, decided_text, decided_json}
-use Rattle.question_model.specs.OrderingText.{ordering_text}
 
 -- each fault that a failing set of the patches has
 pub record AreListedFaults (detail : Detail) (base : Disk) (patches : List Patch)
@@ -56,20 +53,11 @@ text_decision settings d =
 -- `closed` is a text, since it can be more than a JSON number holds
 unfoldable pub json_decision : Settings → Decision → List ℕ
 json_decision settings d =
-    codes "{" ++ first_json settings d.explanation
-    ++ codes "\"closed\":" ++ json_string (decimal d.closed)
-    ++ counted_json settings.counted
-    ++ durable_json settings.durable
+    keys_to_closed settings d.explanation (json_string (decimal d.closed))
     ++ codes ",\"faults\":" ++ json_array (map (decided_json (form_of settings d.patches)) d.faults)
-    ++ before_module settings ++ json_string (module_text settings.module)
-    ++ codes ",\"patches\":" ++ decimal d.patches
+    ++ module_keys settings d.patches
     ++ promises_json d.patches d.promises
-    ++ (if settings.strict then codes ",\"strict\":true" else [])
-    ++ trace_json d.explanation
-    ++ listed_waits_json d.patches d.explanation d.promises
-    ++ (if settings.whole_blocks then codes ",\"whole_blocks\":true" else [])
-    ++ rules_json (codes "with") (listed_with settings)
-    ++ rules_json (codes "without") (listed_without settings)
+    ++ keys_from_strict settings d.patches d.explanation d.promises
     ++ codes "}\n"
 
 -- the report's bytes

@@ -7,9 +7,8 @@ use Rattle.report_model.specs.Answer.{detail_of}
 use Rattle.report_model.specs.ScriptGraph.{ordering_rules}
 use Rattle.crash_model.specs.Disk.{Disk}
 use Rattle.crash_model.specs.Reasons.{Explanation, explanation}
-use Rattle.report_model.specs.OptionTexts.{explanation_text, promises_text, listed_without, listed_with}
-use Rattle.report_model.specs.OptionKeys.{trace_json, listed_waits_json, promises_json, counted_json, durable_json}
-use Rattle.report_model.specs.OptionKeys.{first_json, rules_json, before_module}
+use Rattle.report_model.specs.OptionTexts.{ordering_text, explanation_text, promises_text}
+use Rattle.report_model.specs.OptionKeys.{keys_to_closed, before_module, promises_json, keys_from_strict}
 use Rattle.report_model.specs.SectionJson.{shows_json, replay_json, writes_json}
 use Rattle.crash_model.specs.Promises.{Promise}
 use Rattle.crash_model.specs.Lists.{when}
@@ -30,7 +29,6 @@ use Rattle.crash_model.specs.declared.patches.Patch.{Patch}
 use Rattle.crash_model.specs.declared.rules.Rule.{Rule}
 use Rattle.crash_model.specs.declared.settings.Settings.{Settings}
 use Rattle.question_model.specs.ListedFault.{ListedFault, decided_shows, decided_text, decided_json}
-use Rattle.question_model.specs.OrderingText.{ordering_text}
 use Rattle.question_model.specs.declared.decided_fault.DecidedFault.{DecidedFault}
 use Rattle.question_model.specs.Enough.{rules_in, rules_but, IsMinimalEnough, IsNeeded}
 
@@ -139,22 +137,14 @@ first_fault_json form (Some listed) = codes ",\"first\":" ++ decided_json form l
 -- `closed` is a text, since it can be more than a JSON number holds
 unfoldable pub json_enough : Choices → Settings → EnoughFound → List ℕ
 json_enough choices settings r =
-    codes "{" ++ first_json settings r.explanation
-    ++ codes "\"closed\":" ++ json_string (decimal r.closed)
-    ++ counted_json settings.counted
-    ++ durable_json settings.durable
+    keys_to_closed settings r.explanation (json_string (decimal r.closed))
     ++ codes ",\"enough\":" ++ json_array (map choices.json r.enough)
     ++ first_fault_json (form_of settings r.patches) r.first
     ++ before_module settings ++ json_string (module_text settings.module)
     ++ codes ",\"needs\":" ++ json_array (map (group_json choices (form_of settings r.patches)) r.needs)
     ++ codes ",\"patches\":" ++ decimal r.patches
     ++ promises_json r.patches r.promises
-    ++ (if settings.strict then codes ",\"strict\":true" else [])
-    ++ trace_json r.explanation
-    ++ listed_waits_json r.patches r.explanation r.promises
-    ++ (if settings.whole_blocks then codes ",\"whole_blocks\":true" else [])
-    ++ rules_json (codes "with") (listed_with settings)
-    ++ rules_json (codes "without") (listed_without settings)
+    ++ keys_from_strict settings r.patches r.explanation r.promises
     ++ codes "}\n"
 
 -- the report's bytes

@@ -1,5 +1,4 @@
 pub mod Decided
-pub mod OrderingText
 pub mod ListedFault
 pub mod Decision
 pub mod Enough

@@ -16,14 +16,13 @@ use Rattle.report_model.specs.Report.{Section, AreSections, IsLed, line, section
 use Rattle.crash_model.specs.Texts.{module_text}
 use Rattle.report_model.specs.JsonParts.{json_string, json_array, ids_json}
 use Rattle.crash_model.specs.Script.{words_of}
-use Rattle.report_model.specs.OptionTexts.{listed_without, listed_with}
-use Rattle.report_model.specs.OptionKeys.{atomic_json, rules_json, disk_json}
+use Rattle.report_model.specs.OptionTexts.{ordering_text, listed_without, listed_with}
+use Rattle.report_model.specs.OptionKeys.{atomic_json, rules_json, disk_json, strict_key, whole_key}
 use Rattle.crash_model.specs.declared.patches.Patch.{Patch}
 use Rattle.crash_model.specs.declared.refusals.RunFault.{RunFault}
 use Rattle.crash_model.specs.declared.refusals.RunFault.TheVariants.{GroupFault}
 use Rattle.crash_model.specs.declared.settings.Settings.{Settings}
 use Rattle.crash_model.specs.declared.steps.Step.{Step}
-use Rattle.question_model.specs.OrderingText.{ordering_text}
 use Rattle.question_model.specs.Kinds.{kind_number, kind_name}
 use Rattle.question_model.specs.Refused.{refusal_number, refusal_text}
 use Rattle.question_model.specs.SearchCounts.{AreSearchCounts}
@@ -113,21 +112,31 @@ first_promise_keys settings =
 abbrev pub before_kinds : Settings → List ℕ
 before_kinds settings = disk_json settings ++ codes ",\"kinds\":"
 
+-- the keys that say that the run is strict, that blocks are written whole, and which rules are put in and taken out
+abbrev pub ordering_keys : Settings → List ℕ
+ordering_keys settings =
+    strict_key settings.strict
+    ++ whole_key settings.whole_blocks
+    ++ rules_json (codes "with") (listed_with settings)
+    ++ rules_json (codes "without") (listed_without settings)
+
+-- the keys from `pool` on that each report of a search has, the object's end and a line feed
+abbrev pub last_keys : Settings → ℕ → ℕ → SearchCounts → List ℕ
+last_keys settings most pool found =
+    codes ",\"pool\":" ++ decimal pool
+    ++ codes ",\"refused\":" ++ json_array (map refused_json found.refused.items)
+    ++ codes ",\"search\":" ++ decimal most
+    ++ ordering_keys settings
+    ++ codes ",\"workloads\":" ++ decimal found.workloads
+    ++ codes "}\n"
+
 unfoldable pub json_search : Settings → ℕ → ℕ → SearchCounts → List ListedKind → List ℕ
 json_search settings most pool found kinds =
     codes "{" ++ atomic_json settings.atomic ++ first_promise_keys settings
     ++ codes "\"failing\":" ++ decimal found.failing
     ++ before_kinds settings ++ json_array (map (kind_json settings.numbers) kinds)
     ++ codes ",\"module\":" ++ json_string (module_text settings.module)
-    ++ codes ",\"pool\":" ++ decimal pool
-    ++ codes ",\"refused\":" ++ json_array (map refused_json found.refused.items)
-    ++ codes ",\"search\":" ++ decimal most
-    ++ (if settings.strict then codes ",\"strict\":true" else [])
-    ++ (if settings.whole_blocks then codes ",\"whole_blocks\":true" else [])
-    ++ rules_json (codes "with") (listed_with settings)
-    ++ rules_json (codes "without") (listed_without settings)
-    ++ codes ",\"workloads\":" ++ decimal found.workloads
-    ++ codes "}\n"
+    ++ last_keys settings most pool found
 
 -- the report's bytes
 abbrev pub search_bytes : Settings → ℕ → ℕ → SearchCounts → List ListedKind → List ℕ

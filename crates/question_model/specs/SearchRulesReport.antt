@@ -11,8 +11,7 @@ use Rattle.report_model.specs.FaultKeys.{fault_head}
 use Rattle.report_model.specs.Report.{line}
 use Rattle.report_model.specs.JsonParts.{json_string, json_array, ids_json}
 use Rattle.report_model.specs.SectionJson.{replay_json, writes_json, shows_json}
-use Rattle.report_model.specs.OptionTexts.{listed_without, listed_with}
-use Rattle.report_model.specs.OptionKeys.{atomic_json, rules_json, before_module}
+use Rattle.report_model.specs.OptionKeys.{atomic_json, before_module}
 use Rattle.crash_model.specs.declared.patches.Patch.{Patch}
 use Rattle.crash_model.specs.declared.rules.Rule.{Rule}
 use Rattle.crash_model.specs.declared.settings.Settings.{Settings}
@@ -21,7 +20,7 @@ use Rattle.question_model.specs.ListedFault.{ListedFault, decided_shows, decided
 use Rattle.question_model.specs.Enough.{rules_but}
 use Rattle.question_model.specs.EnoughReport.{IsListedFirst, rules_text, set_json}
 use Rattle.question_model.specs.SearchCounts.{AreSearchCounts}
-use Rattle.question_model.specs.SearchReport.{refused_json, search_of, search_text, step_text, first_promise_keys}
+use Rattle.question_model.specs.SearchReport.{search_of, search_text, step_text, first_promise_keys, last_keys}
 use Rattle.question_model.specs.Sequences.{IsFirstSequence}
 use Rattle.question_model.specs.Workloads.{Search, HasPatches, steps_at, places_of}
 use Rattle.question_model.specs.declared.found.SearchCounts.{SearchCounts}
@@ -86,15 +85,7 @@ json_search_rules settings most pool found enough needs =
     ++ codes ",\"failing\":" ++ decimal found.failing
     ++ before_module settings ++ json_string (module_text settings.module)
     ++ codes ",\"needs\":" ++ json_array (map (need_json settings.numbers rules) needs)
-    ++ codes ",\"pool\":" ++ decimal pool
-    ++ codes ",\"refused\":" ++ json_array (map refused_json found.refused.items)
-    ++ codes ",\"search\":" ++ decimal most
-    ++ (if settings.strict then codes ",\"strict\":true" else [])
-    ++ (if settings.whole_blocks then codes ",\"whole_blocks\":true" else [])
-    ++ rules_json (codes "with") (listed_with settings)
-    ++ rules_json (codes "without") (listed_without settings)
-    ++ codes ",\"workloads\":" ++ decimal found.workloads
-    ++ codes "}\n"
+    ++ last_keys settings most pool found
 
 -- the report's bytes
 abbrev pub search_rules_bytes : Settings → ℕ → ℕ → SearchCounts → List ℕ → List ListedNeed → List ℕ

@@ -4,23 +4,21 @@ use Rattle.std.proofs.Common.{append_assoc}
 use Rattle.std.specs.Prelude.{if◌then◌else◌}
 use Rattle.std.specs.List.{flat_map}
 use Rattle.crash_model.specs.Disk.{Disk}
-use Rattle.report_model.specs.OptionKeys.{trace_json, listed_waits_json, counted_json, durable_json, promises_json}
-use Rattle.report_model.specs.OptionKeys.{first_json, rules_json, before_module}
-use Rattle.report_model.specs.OptionTexts.{explanation_text, promises_text, listed_with, listed_without}
+use Rattle.report_model.specs.OptionKeys.{counted_json, durable_json, promises_json, first_json, module_keys}
+use Rattle.report_model.specs.OptionKeys.{keys_from_strict}
+use Rattle.report_model.specs.OptionTexts.{ordering_text, explanation_text, promises_text}
 use Rattle.crash_model.specs.Lists.{when}
 use Rattle.crash_model.specs.Promises.{Promise}
 use Rattle.report_model.specs.FaultKeys.{fault_head}
 use Rattle.report_model.specs.Report.{Section}
 use Rattle.report_model.specs.JsonParts.{Form, ids_json}
 use Rattle.report_model.specs.SectionJson.{replay_json, writes_json}
-use Rattle.crash_model.specs.Texts.{module_text}
 use Rattle.crash_model.specs.declared.settings.Settings.{Settings}
 use Rattle.question_model.specs.Decision.{text_decision, json_decision, decision_bytes}
 use Rattle.question_model.specs.ListedFault.{ListedFault, decided_text, decided_json}
-use Rattle.question_model.specs.OrderingText.{ordering_text}
 use Rattle.question_model.specs.declared.decided_fault.DecidedFault.{DecidedFault}
 use Rattle.json_values.specs.Items.{crash_json, fault_shows_json}
-use Rattle.report_json.specs.JsonReport.{module_key, promise_keys, strict_key, listed_promises, whole_key, from_strict}
+use Rattle.report_json.specs.JsonReport.{promise_keys, listed_promises}
 use Rattle.report_sections.specs.Bodies.{explanation_by}
 use Rattle.traced_patches.specs.Traced.{TracedPatches}
 use Rattle.question_reports.specs.declared.decision.findings.Decision.{Decision}
@@ -115,10 +113,11 @@ pub json_pieces : {A : Type 0} (decision : Decision A) (n : ℕ) (listed : List 
     → five ≡ four ++ codes ",\"faults\":["
     → six ≡ five ++ fault_items (form_by decision) listed
     → seven ≡ six ++ codes "]"
-    → eight ≡ seven ++ module_key decision.settings.now n
+    → eight ≡ seven ++ module_keys decision.settings.now n
     → nine ≡ eight ++ promises_json n (listed_promises decision.settings.now decision.demands.now)
-    → ten ≡ nine ++ from_strict decision.settings.now (length decision.traced.now.patches)
-    (explanation_by decision.base.now decision.traced.now) (listed_promises decision.settings.now decision.demands.now)
+    → ten ≡ nine ++ keys_from_strict decision.settings.now (length decision.traced.now.patches)
+    (when decision.settings.now.explain (explanation_by decision.base.now decision.traced.now))
+    (listed_promises decision.settings.now decision.demands.now)
     → last ≡ ten ++ codes "}\n"
     → last ≡ json_decision decision.settings.now (decision_of decision listed)
 unfolding json_decision
@@ -126,15 +125,15 @@ json_pieces decision n listed empty one two three four five six seven eight nine
     fourth fifth sixth seventh eighth ninth tenth eleventh =
     let settings = decision.settings.now in
     let patches = length decision.traced.now.patches in
-    let explained = explanation_by decision.base.now decision.traced.now in
+    let explained = when settings.explain (explanation_by decision.base.now decision.traced.now) in
     let promises = listed_promises settings decision.demands.now in
-    let base = first_json settings (when settings.explain explained) in
+    let base = first_json settings explained in
     let closed = codes "\"closed\":\"" ++ decimal decision.closed ++ codes "\"" in
     let keys = promise_keys settings in
     let items = fault_items (form_by decision) listed in
-    let key = module_key settings in
+    let key = module_keys settings in
     let listed_key = promises_json patches promises in
-    let rest = from_strict settings patches explained promises in
+    let rest = keys_from_strict settings patches explained promises in
     let start : five ≡ codes "{" ++ base ++ closed ++ keys ++ codes ",\"faults\":[" =
     fifth ∙ ap (λ (t : List ℕ). t ++ codes ",\"faults\":[") (fourth ∙ ap (λ (t : List ℕ). t ++ keys)
     (third ∙ ap (λ (t : List ℕ). t ++ closed) (second ∙ ap (λ (t : List ℕ). t ++ base)
@@ -147,15 +146,9 @@ json_pieces decision n listed empty one two three four five six seven eight nine
     (middle ∙ ap (λ (t : List ℕ). t ++ items ++ codes "]" ++ key patches ++ listed_key) start))
     ∙ regroup (codes "{") base (codes "\"closed\":") (codes "\"") (decimal decision.closed)
     (counted_json settings.counted) (durable_json settings.durable) (codes ",\"faults\":") (codes "[") items (codes "]")
-    (before_module settings) (module_text settings.module) (codes ",\"patches\":") (decimal patches)
-    listed_key (strict_key settings.strict) (trace_json (when settings.explain explained))
-    (listed_waits_json patches (when settings.explain explained) promises) (whole_key settings.whole_blocks)
-    (rules_json (codes "with") (listed_with settings)) (rules_json (codes "without") (listed_without settings))
-    (codes "}\n"))
+    (key patches) listed_key rest (codes "}\n"))
   where
-    regroup : (a b c d e f g h i j k l m n o p q r s t u v w : List ℕ)
-        → a ++ b ++ ((c ++ d) ++ e ++ d) ++ (f ++ g) ++ (h ++ i) ++ j ++ k ++ ((l ++ d) ++ m ++ (d ++ n) ++ o) ++ p
-        ++ (q ++ r ++ s ++ t ++ u ++ v) ++ w
-        ≡ a ++ b ++ c ++ (d ++ e ++ d) ++ f ++ g ++ h ++ (i ++ j ++ k) ++ l ++ (d ++ m ++ d) ++ n ++ o ++ p ++ q ++ r
-        ++ s ++ t ++ u ++ v ++ w
-    regroup a b c d e f g h i j k l m n o p q r s t u v w = simp append_assoc
+    regroup : (a b c d e f g h i j k l m n o : List ℕ)
+        → a ++ b ++ ((c ++ d) ++ e ++ d) ++ (f ++ g) ++ (h ++ i) ++ j ++ k ++ l ++ m ++ n ++ o
+        ≡ a ++ b ++ c ++ (d ++ e ++ d) ++ f ++ g ++ h ++ (i ++ j ++ k) ++ l ++ m ++ n ++ o
+    regroup a b c d e f g h i j k l m n o = simp append_assoc

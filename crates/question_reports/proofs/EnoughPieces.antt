@@ -5,22 +5,21 @@ use Rattle.std.specs.Prelude.{if◌then◌else◌, option_map, option_to_list}
 use Rattle.std.specs.List.{flat_map}
 use Rattle.std.proofs.lemmas.List.Folds.{flat_map-map}
 use Rattle.std.proofs.lemmas.Simd.{map-map}
-use Rattle.report_model.specs.OptionKeys.{trace_json, listed_waits_json, counted_json, durable_json, promises_json}
-use Rattle.report_model.specs.OptionKeys.{first_json, rules_json, before_module}
+use Rattle.report_model.specs.OptionKeys.{counted_json, durable_json, promises_json, first_json, before_module}
+use Rattle.report_model.specs.OptionKeys.{keys_from_strict}
 use Rattle.crash_model.specs.Lists.{join_of, when}
 use Rattle.crash_model.specs.Texts.{module_text}
 use Rattle.report_model.specs.Report.{line}
 use Rattle.report_model.specs.JsonParts.{Form, ids_json, json_string}
 use Rattle.report_model.specs.SectionJson.{write_json}
 use Rattle.report_model.specs.WholeJson.{form_of}
-use Rattle.report_model.specs.OptionTexts.{listed_with, listed_without}
 use Rattle.question_model.specs.ListedFault.{decided_text}
 use Rattle.question_reports.specs.Chosen.{choices_of}
 use Rattle.question_reports.specs.DecisionParts.{head_lines}
 use Rattle.question_model.specs.EnoughReport.{Choices, ListedGroup, first_fault_json, group_json, group_text}
 use Rattle.question_model.specs.EnoughReport.{enough_bytes, json_enough, text_enough}
 use Rattle.json_values.specs.Items.{fault_shows_json}
-use Rattle.report_json.specs.JsonReport.{promise_keys, strict_key, listed_promises, whole_key, from_strict}
+use Rattle.report_json.specs.JsonReport.{promise_keys, listed_promises}
 use Rattle.report_sections.specs.Bodies.{explanation_by}
 use Rattle.question_reports.specs.EnoughFindings.{group_head, group_items, group_lines, report_of, set_items}
 use Rattle.question_reports.specs.EnoughFindings.{listed_first}
@@ -138,8 +137,9 @@ pub json_pieces : {A : Type 0} (found : EnoughFindings A) (choices : Choices) (n
     → eleven ≡ ten ++ group_items choices m found.needs.now
     → twelve ≡ eleven ++ (codes "],\"patches\":" ++ decimal n)
     → thirteen ≡ twelve ++ promises_json n (listed_promises found.settings.now found.demands.now)
-    → fourteen ≡ thirteen ++ from_strict found.settings.now (length found.traced.now.patches)
-    (explanation_by found.base.now found.traced.now) (listed_promises found.settings.now found.demands.now)
+    → fourteen ≡ thirteen ++ keys_from_strict found.settings.now (length found.traced.now.patches)
+    (when found.settings.now.explain (explanation_by found.base.now found.traced.now))
+    (listed_promises found.settings.now found.demands.now)
     → last ≡ fourteen ++ codes "}\n"
     → last ≡ json_enough choices found.settings.now (report_of found)
 unfolding json_enough
@@ -149,9 +149,9 @@ json_pieces {A = A} found choices n k m empty one two three four five six seven 
     let settings = found.settings.now in
     let patches = length found.traced.now.patches in
     let form = form_of settings patches in
-    let explained = explanation_by found.base.now found.traced.now in
+    let explained = when settings.explain (explanation_by found.base.now found.traced.now) in
     let promises = listed_promises settings found.demands.now in
-    let base = first_json settings (when settings.explain explained) in
+    let base = first_json settings explained in
     let closed = codes "\"closed\":\"" ++ decimal found.closed ++ codes "\"" in
     let keys = promise_keys settings in
     let sets = set_items choices found.enough.now in
@@ -160,7 +160,7 @@ json_pieces {A = A} found choices n k m empty one two three four five six seven 
     let groups = join_of 44 (map (group_json choices form) (map listed_group found.needs.now)) in
     let number = codes "],\"patches\":" ++ decimal patches in
     let promised = promises_json patches promises in
-    let rest = from_strict settings patches explained promises in
+    let rest = keys_from_strict settings patches explained promises in
     let start : seven ≡ codes "{" ++ base ++ closed ++ keys ++ codes ",\"enough\":[" ++ sets ++ codes "]" =
     json_start base (decimal found.closed) keys sets empty one two three four five six seven none first second third
     fourth fifth sixth seventh in
@@ -180,15 +180,11 @@ json_pieces {A = A} found choices n k m empty one two three four five six seven 
     ∙ regroup (codes "{") base (codes "\"closed\":") (codes "\"") (decimal found.closed)
     (counted_json settings.counted) (durable_json settings.durable) (codes ",\"enough\":")
     (codes "[") sets (codes "]") fault (before_module settings) (json_string (module_text settings.module))
-    (codes ",\"needs\":") groups (codes ",\"patches\":") (decimal patches) promised (strict_key settings.strict)
-    (trace_json (when settings.explain explained))
-    (listed_waits_json patches (when settings.explain explained) promises)
-    (whole_key settings.whole_blocks) (rules_json (codes "with") (listed_with settings))
-    (rules_json (codes "without") (listed_without settings)) (codes "}\n"))
+    (codes ",\"needs\":") groups (codes ",\"patches\":") (decimal patches) promised rest (codes "}\n"))
   where
-    regroup : (a b c d e x y f g h i j k m n o p q z r s aa w t u v : List ℕ)
+    regroup : (a b c d e x y f g h i j k m n o p q z r v : List ℕ)
         → a ++ b ++ ((c ++ d) ++ e ++ d) ++ (x ++ y) ++ (f ++ g) ++ h ++ i ++ j ++ (k ++ m) ++ (n ++ g) ++ o
-        ++ ((i ++ p) ++ q) ++ z ++ (r ++ s ++ aa ++ w ++ t ++ u) ++ v
+        ++ ((i ++ p) ++ q) ++ z ++ r ++ v
         ≡ a ++ b ++ c ++ (d ++ e ++ d) ++ x ++ y ++ f ++ (g ++ h ++ i) ++ j ++ k ++ m ++ n ++ (g ++ o ++ i) ++ p ++ q
-        ++ z ++ r ++ s ++ aa ++ w ++ t ++ u ++ v
-    regroup a b c d e x y f g h i j k m n o p q z r s aa w t u v = simp append_assoc
+        ++ z ++ r ++ v
+    regroup a b c d e x y f g h i j k m n o p q z r v = simp append_assoc

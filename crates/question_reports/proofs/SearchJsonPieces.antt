@@ -4,22 +4,20 @@ use Rattle.std.proofs.lemmas.Simd.{map-map}
 use Rattle.crash_model.specs.Lists.{join_of}
 use Rattle.crash_model.specs.Texts.{module_text}
 use Rattle.report_model.specs.FaultKeys.{faults_head}
-use Rattle.report_model.specs.JsonParts.{ids_json, json_array, json_string}
+use Rattle.report_model.specs.JsonParts.{ids_json, json_string}
 use Rattle.report_model.specs.SectionJson.{replay_json, write_json, shows_json}
-use Rattle.report_model.specs.OptionKeys.{atomic_json, rules_json}
-use Rattle.report_model.specs.OptionTexts.{listed_with, listed_without}
+use Rattle.report_model.specs.OptionKeys.{atomic_json}
 use Rattle.crash_model.specs.declared.settings.Settings.{Settings}
 use Rattle.crash_model.specs.declared.steps.Step.{Step}
-use Rattle.report_json.specs.JsonReport.{strict_key, whole_key}
 use Rattle.report_sections.specs.Replay.{listed_replay}
 use Rattle.report_sections.specs.Sections.{section_of}
 use Rattle.question_model.specs.Kinds.{kind_number, kind_name}
 use Rattle.question_model.specs.Refused.{refusal_number, refusal_text}
 use Rattle.question_model.specs.SearchReport.{first_promise_keys, json_search, kind_json, refused_json, step_text}
-use Rattle.question_model.specs.SearchReport.{before_kinds}
+use Rattle.question_model.specs.SearchReport.{before_kinds, last_keys, ordering_keys}
 use Rattle.question_model.specs.declared.found.SearchCounts.{SearchCounts}
 use Rattle.question_model.specs.declared.found.RefusedCount.{RefusedCount}
-use Rattle.question_reports.specs.SearchFindings.{kind_head, kind_items, last_keys, ordering_keys}
+use Rattle.question_reports.specs.SearchFindings.{kind_head, kind_items}
 use Rattle.question_reports.specs.SearchFindings.{listed_kind, failing_keys}
 use Rattle.question_reports.specs.SearchFindings.{listed_kinds}
 use Rattle.question_reports.specs.declared.search.findings.KindCrash.{KindCrash}
@@ -162,17 +160,9 @@ json_pieces {A = A} f empty zero half keyed one two three four last none opened 
     (keys_are ∙ ap (λ (t : List ℕ). t ++ keys)
     (atomic_is ∙ ap (λ (t : List ℕ). t ++ atomic) (opened ∙ ap (λ (t : List ℕ). t ++ codes "{") none))))))))
     ∙ regroup (codes "{") atomic keys (codes "\"failing\":") (decimal found.failing) (before_kinds settings)
-    (codes "[") kinds (codes "]")
-    (codes ",\"module\":") (json_string (module_text settings.module)) (codes ",\"pool\":") (decimal pool)
-    (codes ",\"refused\":") (json_array (map refused_json found.refused.items)) (codes ",\"search\":")
-    (decimal f.most) (strict_key settings.strict) (whole_key settings.whole_blocks)
-    (rules_json (codes "with") (listed_with settings)) (rules_json (codes "without") (listed_without settings))
-    (codes ",\"workloads\":") (decimal found.workloads) (codes "}\n"))
+    (codes "[") kinds (codes "]") (codes ",\"module\":") (json_string (module_text settings.module)) end)
   where
-    regroup : (j u l a b c o k p d m e n f r g s x v y z h w i : List ℕ)
-        → ((j ++ u ++ l) ++ (a ++ (b ++ (c ++ o)))) ++ k ++ p ++ (d ++ m)
-        ++ (e ++ n ++ f ++ r ++ g ++ s ++ (x ++ v ++ y ++ z) ++ h ++ w ++ i)
-        ≡ j ++ u ++ l ++ a ++ b ++ c ++ (o ++ k ++ p) ++ d ++ m ++ e ++ n ++ f ++ r ++ g ++ s ++ x ++ v ++ y ++ z
-        ++ h ++ w
-        ++ i
-    regroup j u l a b c o k p d m e n f r g s x v y z h w i = simp append_assoc
+    regroup : (j u l a b c o k p d m e : List ℕ)
+        → ((j ++ u ++ l) ++ (a ++ (b ++ (c ++ o)))) ++ k ++ p ++ (d ++ m) ++ e
+        ≡ j ++ u ++ l ++ a ++ b ++ c ++ (o ++ k ++ p) ++ d ++ m ++ e
+    regroup j u l a b c o k p d m e = simp append_assoc

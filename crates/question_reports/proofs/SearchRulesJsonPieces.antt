@@ -3,22 +3,19 @@ use Rattle.std.proofs.Common.{◌≡◌, ℕ, List, [], ◌++◌, length, map, c
 use Rattle.std.proofs.lemmas.Simd.{map-map}
 use Rattle.report_model.specs.ScriptGraph.{ordering_rules}
 use Rattle.crash_model.specs.Lists.{join_of}
-use Rattle.report_model.specs.JsonParts.{ids_json, json_array, json_string}
+use Rattle.report_model.specs.JsonParts.{ids_json, json_string}
 use Rattle.report_model.specs.SectionJson.{replay_json, write_json}
 use Rattle.crash_model.specs.Texts.{module_text}
 use Rattle.report_model.specs.FaultKeys.{fault_head}
-use Rattle.report_model.specs.OptionKeys.{atomic_json, rules_json, before_module}
-use Rattle.report_model.specs.OptionTexts.{listed_with, listed_without}
+use Rattle.report_model.specs.OptionKeys.{atomic_json, before_module}
 use Rattle.crash_model.specs.declared.rules.Rule.{Rule}
 use Rattle.crash_model.specs.declared.steps.Step.{Step}
 use Rattle.question_reports.specs.EnoughFindings.{group_head, set_items, listed_first}
 use Rattle.json_values.specs.Items.{fault_shows_json}
-use Rattle.report_json.specs.JsonReport.{strict_key, whole_key}
 use Rattle.report_sections.specs.Sections.{section_of}
 use Rattle.question_model.specs.EnoughReport.{rule_choices, set_json}
-use Rattle.question_model.specs.SearchReport.{first_promise_keys, refused_json, step_text}
+use Rattle.question_model.specs.SearchReport.{first_promise_keys, last_keys, step_text}
 use Rattle.question_model.specs.Workloads.{steps_at}
-use Rattle.question_reports.specs.SearchFindings.{last_keys}
 use Rattle.question_model.specs.SearchRulesReport.{json_search_rules, need_json}
 use Rattle.question_reports.specs.SearchRulesFindings.{need_items, listed_need, listed_needs}
 use Rattle.question_reports.specs.declared.search_rules.findings.NeededWorkload.{NeededWorkload}
@@ -106,17 +103,9 @@ json_pieces {A = A} f rules empty zero half keyed one two three four five six se
     (groups ∙ ap (λ (t : List ℕ). t ++ needs) (fifth ∙ ap (λ (t : List ℕ). t ++ codes ",\"needs\":[") start)))
     ∙ regroup (codes "{") atomic keys (codes "\"enough\":") (codes "[") sets (codes "]") (codes ",\"failing\":")
     (decimal found.failing)
-    (before_module settings) (json_string (module_text settings.module)) (codes ",\"needs\":") needs
-    (codes ",\"pool\":") (decimal pool) (codes ",\"refused\":")
-    (json_array (map refused_json found.refused.items)) (codes ",\"search\":") (decimal f.most)
-    (strict_key settings.strict) (whole_key settings.whole_blocks) (rules_json (codes "with") (listed_with settings))
-    (rules_json (codes "without") (listed_without settings)) (codes ",\"workloads\":") (decimal found.workloads)
-    (codes "}\n"))
+    (before_module settings) (json_string (module_text settings.module)) (codes ",\"needs\":") needs end)
   where
-    regroup : (t u q a o s p b c d m e n f g h r j k x v y z l w i : List ℕ)
-        → (t ++ u ++ q ++ (a ++ o)) ++ s ++ ((p ++ b) ++ c) ++ (d ++ m) ++ (e ++ o) ++ n ++ p
-        ++ (f ++ g ++ h ++ r ++ j ++ k ++ (x ++ v ++ y ++ z) ++ l ++ w ++ i)
-        ≡ t ++ u ++ q ++ a ++ (o ++ s ++ p) ++ b ++ c ++ d ++ m ++ e ++ (o ++ n ++ p) ++ f ++ g ++ h ++ r ++ j ++ k
-        ++ x ++ v
-        ++ y ++ z ++ l ++ w ++ i
-    regroup t u q a o s p b c d m e n f g h r j k x v y z l w i = simp append_assoc
+    regroup : (t u q a o s p b c d m e n f : List ℕ)
+        → (t ++ u ++ q ++ (a ++ o)) ++ s ++ ((p ++ b) ++ c) ++ (d ++ m) ++ (e ++ o) ++ n ++ p ++ f
+        ≡ t ++ u ++ q ++ a ++ (o ++ s ++ p) ++ b ++ c ++ d ++ m ++ e ++ (o ++ n ++ p) ++ f
+    regroup t u q a o s p b c d m e n f = simp append_assoc

@@ -3,7 +3,7 @@ use Rattle.std.specs.Prelude.{◌≡◌, ℕ, List, ◌++◌, length, map, Optio
 use Rattle.crash_model.specs.declared.separators.TheConstants.{COMMA}
 use Rattle.report_model.specs.Answer.{detail_of}
 use Rattle.crash_model.specs.Disk.{Disk}
-use Rattle.report_model.specs.OptionTexts.{explanation_text, promises_text}
+use Rattle.report_model.specs.OptionTexts.{ordering_text, explanation_text, promises_text}
 use Rattle.crash_model.specs.Lists.{join_of, when}
 use Rattle.crash_model.specs.Promises.{Promise}
 use Rattle.report_model.specs.Report.{Detail, AreSections, line}
@@ -13,7 +13,6 @@ use Rattle.crash_model.specs.declared.patches.Patch.{Patch}
 use Rattle.crash_model.specs.declared.settings.Settings.{Settings}
 use Rattle.question_model.specs.Decision as model
 use Rattle.question_model.specs.ListedFault.{ListedFault, decided_json}
-use Rattle.question_model.specs.OrderingText.{ordering_text}
 use Rattle.question_model.specs.declared.decided_fault.DecidedFault.{DecidedFault}
 use Rattle.traced_patches.specs.Traced.{TracedPatches}
 use Rattle.report_json.specs.JsonReport.{listed_promises}

@@ -1,22 +1,18 @@
 -- What a search finds, as the definition of the report sees it.
-use Rattle.std.specs.Prelude.{ℕ, List, [], ◌++◌, map, flat_map, if◌then◌else◌, codes, decimal, Bool}
+use Rattle.std.specs.Prelude.{ℕ, List, ◌++◌, map, flat_map, codes, decimal, Bool}
 use Rattle.crash_model.specs.declared.separators.TheConstants.{COMMA}
 use Rattle.crash_model.specs.Lists.{join_of}
 use Rattle.report_model.specs.FaultKeys.{faults_head}
-use Rattle.report_model.specs.JsonParts.{json_array, json_string}
+use Rattle.report_model.specs.JsonParts.{json_string}
 use Rattle.report_model.specs.SectionJson.{replay_json}
-use Rattle.report_model.specs.OptionTexts.{listed_with, listed_without}
-use Rattle.report_model.specs.OptionKeys.{rules_json}
 use Rattle.crash_model.specs.declared.settings.Settings.{Settings}
 use Rattle.crash_model.specs.declared.steps.Act.{Act}
 use Rattle.crash_model.specs.declared.steps.Step.{Step}
-use Rattle.report_json.specs.JsonReport.{strict_key, whole_key}
 use Rattle.report_sections.specs.Replay.{listed_replay}
 use Rattle.report_sections.specs.Sections.{section_of}
 use Rattle.question_model.specs.Kinds.{kind_number, kind_name}
-use Rattle.question_model.specs.SearchReport.{ListedKind, kind_json, kind_text, refused_json, before_kinds}
+use Rattle.question_model.specs.SearchReport.{ListedKind, kind_json, kind_text, before_kinds}
 use Rattle.question_model.specs.Workloads.{steps_at}
-use Rattle.question_model.specs.declared.found.SearchCounts.{SearchCounts}
 use Rattle.question_reports.specs.declared.search.findings.KindCrash.{KindCrash}
 use Rattle.question_reports.specs.declared.search.findings.SearchFindings.{SearchFindings}
 
@@ -56,21 +52,3 @@ kind_head numbers k =
 abbrev pub failing_keys : ℕ → Settings → List ℕ
 failing_keys failing settings =
     codes "\"failing\":" ++ (decimal failing ++ (before_kinds settings ++ codes "["))
-
--- the keys that say that the run is strict, that blocks are written whole, and which rules are put in and taken out
-abbrev pub ordering_keys : Settings → List ℕ
-ordering_keys settings =
-    strict_key settings.strict
-    ++ whole_key settings.whole_blocks
-    ++ rules_json (codes "with") (listed_with settings)
-    ++ rules_json (codes "without") (listed_without settings)
-
--- the keys after the module's, the object's end and a line feed; a pool has so many operations
-abbrev pub last_keys : Settings → ℕ → ℕ → SearchCounts → List ℕ
-last_keys settings most pool found =
-    codes ",\"pool\":" ++ decimal pool
-    ++ codes ",\"refused\":" ++ json_array (map refused_json found.refused.items)
-    ++ codes ",\"search\":" ++ decimal most
-    ++ ordering_keys settings
-    ++ codes ",\"workloads\":" ++ decimal found.workloads
-    ++ codes "}\n"

@@ -3,16 +3,14 @@ use Rattle.std.proofs.Common.{◌≡◌, ℕ, ◌+◌, ◌<◌, List, [], ◌∷
 use Rattle.std.proofs.Common.{decimal, refl, sym, ap, ◌∙◌, arith, append_assoc, length-take}
 use Rattle.std.proofs.lemmas.List.{length-map, map-append}
 use Rattle.crash_model.specs.Lists.{when}
-use Rattle.report_model.specs.OptionKeys.{trace_json, listed_waits_json, counted_json, durable_json, promises_json}
-use Rattle.report_model.specs.OptionKeys.{first_json, rules_json, before_module}
+use Rattle.report_model.specs.OptionKeys.{counted_json, durable_json, promises_json, first_json, module_keys}
+use Rattle.report_model.specs.OptionKeys.{keys_from_strict}
 use Rattle.crash_model.specs.Disk.{Disk}
 use Rattle.report_model.specs.Report.{Detail}
 use Rattle.report_model.specs.JsonParts.{Form}
 use Rattle.report_model.specs.SectionJson.{section_json}
-use Rattle.crash_model.specs.Texts.{module_text}
 use Rattle.report_model.specs.Summary.{CountedFault, counted_fault_json}
 use Rattle.report_model.specs.Whole.{Body}
-use Rattle.report_model.specs.OptionTexts.{listed_with, listed_without}
 use Rattle.report_model.specs.WholeJson.{early_json, late_json, json_report}
 use Rattle.crash_model.specs.declared.fault.FaultRow.{FaultRow}
 use Rattle.crash_model.specs.declared.patches.Patch.{Patch}
@@ -23,8 +21,8 @@ use Rattle.report_sections.specs.Sections.{section_of, IsSection}
 use Rattle.report_sections.proofs.Joined.{rows_more, firsts_more}
 use Rattle.report_sections.proofs.Pieces.{four_pieces}
 use Rattle.report_sections.proofs.Pushed.{sections_more, length-sections}
-use Rattle.report_json.specs.JsonReport.{WritesSections, WritesFaults, items_from, module_key, strict_key, whole_key}
-use Rattle.report_json.specs.JsonReport.{form_by, from_module, from_strict, promise_keys, listed_promises}
+use Rattle.report_json.specs.JsonReport.{WritesSections, WritesFaults, items_from, form_by, from_module}
+use Rattle.report_json.specs.JsonReport.{promise_keys, listed_promises}
 use Rattle.report_json.proofs.JoinedParts.{placed_more}
 use Rattle.json_values.specs.Items.{comma_before}
 use Rattle.json_values.proofs.Commas.{mapped_more}
@@ -86,16 +84,17 @@ fault_more form detail base patches rows i d old so_far after text s within list
 -- the keys from the module on, one after another
 pub keys_from_module : {A : Type 0} (report : Report A) (n : ℕ) (body : Body) (before one two three last : List ℕ)
     → n ≡ length report.traced.now.patches
-    → one ≡ before ++ module_key report.settings.now n
+    → one ≡ before ++ module_keys report.settings.now n
     → two ≡ one ++ promises_json n (listed_promises report.settings.now report.demands.now)
     → three ≡ two ++ late_json (form_by report) report.failing body
-    → last ≡ three ++ from_strict report.settings.now (length report.traced.now.patches)
-    (explanation_by report.base.now report.traced.now) (listed_promises report.settings.now report.demands.now)
+    → last ≡ three ++ keys_from_strict report.settings.now (length report.traced.now.patches)
+    (when report.settings.now.explain (explanation_by report.base.now report.traced.now))
+    (listed_promises report.settings.now report.demands.now)
     → last ≡ before ++ from_module report body
 keys_from_module report n body before one two three last number first second third fourth =
     let promises = listed_promises report.settings.now report.demands.now in
     four_pieces before one two three last _ _ _ _
-    (first ∙ ap (λ (k : ℕ). before ++ module_key report.settings.now k) number)
+    (first ∙ ap (λ (k : ℕ). before ++ module_keys report.settings.now k) number)
     (second ∙ ap (λ (k : ℕ). one ++ promises_json k promises) number) third fourth
 
 -- the pieces of the whole, one after another
@@ -112,14 +111,15 @@ pub whole_text : {A : Type 0} (report : Report A) (body : Body) (empty one two t
     → last ≡ json_report report.settings.now (whole_of report body)
 unfolding json_report
 whole_text report body empty one two three four five six last none first second third fourth fifth sixth seventh =
-    let listed = when report.settings.now.explain (explanation_by report.base.now report.traced.now) in
+    let settings = report.settings.now in
+    let listed = when settings.explain (explanation_by report.base.now report.traced.now) in
     let patches = length report.traced.now.patches in
-    let base = first_json report.settings.now listed in
-    let keys = promise_keys report.settings.now in
+    let base = first_json settings listed in
+    let keys = promise_keys settings in
     let form = form_by report in
     let early = early_json form report.failing body in
     let rest = from_module report body in
-    let promises = listed_promises report.settings.now report.demands.now in
+    let promises = listed_promises settings report.demands.now in
     let start : four ≡ codes "{" ++ base ++ (codes "\"closed\":" ++ decimal report.closed) ++ keys =
     fourth ∙ ap (λ (t : List ℕ). t ++ keys) (third
     ∙ ap (λ (t : List ℕ). t ++ (codes "\"closed\":" ++ decimal report.closed))
@@ -127,24 +127,11 @@ whole_text report body empty one two three four five six last none first second 
     let end : last ≡ four ++ early ++ rest ++ codes "}\n" = seventh
     ∙ ap (λ (t : List ℕ). t ++ codes "}\n") (sixth ∙ ap (λ (t : List ℕ). t ++ rest) fifth) in
     end ∙ (ap (λ (t : List ℕ). t ++ early ++ rest ++ codes "}\n") start
-    ∙ (front (codes "{") base (codes "\"closed\":") (decimal report.closed) (counted_json report.settings.now.counted)
-    (durable_json report.settings.now.durable) early rest (codes "}\n")
-    ∙ regroup (codes "{" ++ base ++ codes "\"closed\":" ++ decimal report.closed
-    ++ counted_json report.settings.now.counted ++ durable_json report.settings.now.durable ++ early)
-    (before_module report.settings.now) (codes "\"")
-    (module_text report.settings.now.module) (codes "\"") (codes ",\"patches\":") (decimal patches)
-    (promises_json patches promises)
-    (late_json form report.failing body) (strict_key report.settings.now.strict) (trace_json listed)
-    (listed_waits_json patches listed promises)
-    (whole_key report.settings.now.whole_blocks)
-    (rules_json (codes "with") (listed_with report.settings.now))
-    (rules_json (codes "without") (listed_without report.settings.now)) (codes "}\n")))
+    ∙ regroup (codes "{") base (codes "\"closed\":") (decimal report.closed) (counted_json settings.counted)
+    (durable_json settings.durable) early (module_keys settings patches) (promises_json patches promises)
+    (late_json form report.failing body) (keys_from_strict settings patches listed promises) (codes "}\n"))
   where
-    front : (a b c d e f g h i : List ℕ)
-        → a ++ b ++ (c ++ d) ++ (e ++ f) ++ g ++ h ++ i ≡ a ++ b ++ c ++ d ++ e ++ f ++ g ++ h ++ i
-    front a b c d e f g h i = simp append_assoc
-
-    regroup : (a b c d e f g h i j k l m n o p : List ℕ)
-        → a ++ ((b ++ c) ++ d ++ (e ++ f) ++ g ++ h ++ i ++ (j ++ k ++ l ++ m ++ n ++ o)) ++ p
-        ≡ a ++ b ++ (c ++ d ++ e) ++ f ++ g ++ h ++ i ++ j ++ k ++ l ++ m ++ n ++ o ++ p
-    regroup a b c d e f g h i j k l m n o p = simp append_assoc
+    regroup : (a b c d e f g h i j k l : List ℕ)
+        → a ++ b ++ (c ++ d) ++ (e ++ f) ++ g ++ (h ++ i ++ j ++ k) ++ l
+        ≡ a ++ b ++ c ++ d ++ e ++ f ++ g ++ h ++ i ++ j ++ k ++ l
+    regroup a b c d e f g h i j k l = simp append_assoc

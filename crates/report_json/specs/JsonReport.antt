@@ -6,20 +6,17 @@ use Rattle.crash_model.specs.Lists.{join_of, when}
 use Rattle.crash_model.specs.Checker.{Demands}
 use Rattle.crash_model.specs.Disk.{Disk}
 use Rattle.crash_model.specs.Promises.{Promise}
-use Rattle.crash_model.specs.Reasons.{Explanation, blocks_of, explained_patches}
+use Rattle.crash_model.specs.Reasons.{blocks_of, explained_patches}
 use Rattle.report_model.specs.Explain.{hex_json, explained_json}
-use Rattle.report_model.specs.OptionKeys.{trace_json, listed_waits_json, counted_json, durable_json, promises_json}
-use Rattle.report_model.specs.OptionKeys.{rules_json, before_module}
+use Rattle.report_model.specs.OptionKeys.{counted_json, durable_json, promises_json, module_keys, keys_from_strict}
 use Rattle.report_model.specs.Report.{Detail, Section, AreSections}
 use Rattle.report_model.specs.JsonParts.{Form, json_array, json_string}
 use Rattle.report_model.specs.SectionJson.{section_json}
 use Rattle.crash_model.specs.PathTexts.{path_text}
-use Rattle.crash_model.specs.Texts.{module_text}
 use Rattle.report_model.specs.Summary.{CountedFault, counted_fault_json}
 use Rattle.report_model.specs.Needs.{listed_rule_json}
 use Rattle.report_model.specs.Whole as whole
 use Rattle.report_model.specs.WholeJson.{early_json, late_json, form_of}
-use Rattle.report_model.specs.OptionTexts.{listed_with, listed_without}
 use Rattle.crash_model.specs.declared.fault.FaultRow.{FaultRow}
 use Rattle.crash_model.specs.declared.patches.Patch.{Patch}
 use Rattle.crash_model.specs.declared.names.Path.{Path}
@@ -39,19 +36,6 @@ abbrev pub trace_key : TracedPatches → List ℕ
 trace_key t = codes ",\"trace\":" ++ json_array (map explained_json (explained_patches t.rules t.whole t.links t.emitted
     t.patches))
 
--- the keys of the disk, the module and the number of patches
-abbrev pub module_key : Settings → ℕ → List ℕ
-module_key settings patches =
-    before_module settings ++ codes "\"" ++ module_text settings.module ++ codes "\",\"patches\":" ++ decimal patches
-
--- that the run is strict, if it is
-abbrev pub strict_key : Bool → List ℕ
-strict_key strict = if strict then codes ",\"strict\":true" else []
-
--- that blocks are written whole, if they are
-abbrev pub whole_key : Bool → List ℕ
-whole_key whole = if whole then codes ",\"whole_blocks\":true" else []
-
 -- the promises that are listed: if patches are explained, and a line of the script waits or promises
 abbrev pub listed_promises : Settings → Demands → Option (List Promise)
 listed_promises settings demands = if settings.explain then demands.promises else None
@@ -65,16 +49,6 @@ abbrev pub paths_key : Bool → List Path → List ℕ
 paths_key keeps paths =
     codes "," ++ json_string (if keeps then codes "keep" else codes "hold") ++ codes ":"
     ++ json_array (map (λ path. json_string (path_text path)) paths)
-
--- the keys from `strict` on, where these explain the n patches and are promised
-abbrev pub from_strict : Settings → ℕ → Explanation → Option (List Promise) → List ℕ
-from_strict settings n explanation promises =
-    strict_key settings.strict
-    ++ trace_json (when settings.explain explanation)
-    ++ listed_waits_json n (when settings.explain explanation) promises
-    ++ whole_key settings.whole_blocks
-    ++ rules_json (codes "with") (listed_with settings)
-    ++ rules_json (codes "without") (listed_without settings)
 
 -- how the objects of a report are written
 abbrev pub form_by : {A : Type 0} → Report A → Form
@@ -95,11 +69,12 @@ WritesLate report old new =
 -- the keys from the module on
 abbrev pub from_module : {A : Type 0} → Report A → whole.Body → List ℕ
 from_module report body =
-    module_key report.settings.now (length report.traced.now.patches)
+    module_keys report.settings.now (length report.traced.now.patches)
     ++ promises_json (length report.traced.now.patches) (listed_promises report.settings.now report.demands.now)
     ++ late_json (form_by report) report.failing body
-    ++ from_strict report.settings.now (length report.traced.now.patches)
-    (explanation_by report.base.now report.traced.now) (listed_promises report.settings.now report.demands.now)
+    ++ keys_from_strict report.settings.now (length report.traced.now.patches)
+    (when report.settings.now.explain (explanation_by report.base.now report.traced.now))
+    (listed_promises report.settings.now report.demands.now)
 
 -- the text has those appended
 abbrev pub WritesFromModule : {A : Type 0} → Report A → List ℕ → List ℕ → Type 0

@@ -4,7 +4,8 @@ ghost use Rattle.std.specs.Prelude.{◌≡◌, ◌++◌, codes, decimal, length,
 ghost use Rattle.crash_model.specs.Disk.{Disk};
 ghost use Rattle.report_model.specs.OptionKeys.{base_json, trace_json, atomic_json, before_module, disk_json};
 ghost use Rattle.report_model.specs.OptionKeys.{first_json, format_json, generations_json, geometry_json, rules_json};
-ghost use Rattle.report_model.specs.OptionKeys.{counted_json, durable_json};
+ghost use Rattle.report_model.specs.OptionKeys.{counted_json, durable_json, module_keys, strict_key, whole_key};
+ghost use Rattle.report_model.specs.OptionKeys.{keys_from_strict};
 ghost use Rattle.crash_model.specs.Lists.{join_of, when};
 ghost use Rattle.report_model.specs.JsonParts.{json_string};
 ghost use Rattle.crash_model.specs.Texts.{module_text};
@@ -12,8 +13,7 @@ ghost use Rattle.crash_model.specs.RuleTexts.{rule_text};
 ghost use Rattle.traced_patches.specs.Traced.{TracedPatches};
 ghost use Rattle.report_sections.specs.Bodies.{explanation_by};
 ghost use Rattle.report_model.specs.Shows.{counted_numbers};
-ghost use Rattle.report_json.specs.JsonReport.{module_key, promise_keys, strict_key, listed_promises};
-ghost use Rattle.report_json.specs.JsonReport.{whole_key, from_strict};
+ghost use Rattle.report_json.specs.JsonReport.{promise_keys, listed_promises};
 
 use crate::patches::{write_base, write_trace};
 use crate::promises::write_waits;
@@ -82,8 +82,8 @@ pub fn write_from_strict<A: Allocator + Copy, B: Allocator>(
     demands: &Demands<A>,
 ) -> Result<(), AllocError>
     ensures { OnOk result ((base : Disk) → string_bytes out.new
-        ≡ string_bytes out.old ++ from_strict settings.now (length traced.now.patches) (explanation_by base traced.now)
-        (listed_promises settings.now demands.now)) }
+        ≡ string_bytes out.old ++ keys_from_strict settings.now (length traced.now.patches)
+        (when settings.now.explain (explanation_by base traced.now)) (listed_promises settings.now demands.now)) }
 {
     write_strict_key(out, settings.strict)?;
     write_explained_trace(out, heap, traced, settings.explain)?;
@@ -118,7 +118,7 @@ pub fn write_module<B: Allocator>(
     patches: usize,
 ) -> Result<(), AllocError>
     ensures { OnOk result (string_bytes out.new
-        ≡ string_bytes out.old ++ module_key settings.now patches) }
+        ≡ string_bytes out.old ++ module_keys settings.now patches) }
 {
     write_disk_keys(out, settings)?;
     out.push_str(",\"module\":\"")?;

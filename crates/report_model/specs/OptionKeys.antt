@@ -1,15 +1,17 @@
--- The keys of a report that are there only if an option asks for them, in their order.
+-- The keys that reports have, and those that are there only if an option asks for them, in their order.
 use Rattle.std.specs.Prelude.{ℕ, List, [], ◌∷◌, ◌++◌, map, Bool, if◌then◌else◌, Option, Some, None, codes, decimal}
 use Rattle.crash_model.specs.Promises.{Promise}
 use Rattle.crash_model.specs.Waiting.{Wait}
 use Rattle.crash_model.specs.Reasons.{Explanation}
 use Rattle.crash_model.specs.RuleTexts.{rule_text}
+use Rattle.crash_model.specs.Texts.{module_text}
 use Rattle.crash_model.specs.declared.rules.Rule.{Rule}
 use Rattle.crash_model.specs.declared.settings.Settings.{Settings}
 use Rattle.report_model.specs.Parts.{numbers}
 use Rattle.report_model.specs.JsonParts.{json_string, json_array}
 use Rattle.report_model.specs.Shows.{wait_json, promise_json, counted_numbers}
 use Rattle.report_model.specs.Explain.{hex_json, explained_json}
+use Rattle.report_model.specs.OptionTexts.{listed_without, listed_with}
 
 -- that operations are to be atomic, with a comma after it
 abbrev pub atomic_json : Bool → List ℕ
@@ -82,3 +84,35 @@ abbrev pub rules_json : List ℕ → List Rule → List ℕ
 rules_json key [] = []
 rules_json key (rule ∷ rules) =
     codes "," ++ json_string key ++ codes ":" ++ json_array (map (λ r. json_string (rule_text r)) (rule ∷ rules))
+
+-- that the run is strict, if it is, and that blocks are written whole, if they are
+abbrev pub strict_key : Bool → List ℕ
+strict_key strict = if strict then codes ",\"strict\":true" else []
+
+abbrev pub whole_key : Bool → List ℕ
+whole_key whole = if whole then codes ",\"whole_blocks\":true" else []
+
+-- ---- the keys that each report on a graph has
+
+-- up to those behind the number of closed sets, which is written so
+abbrev pub keys_to_closed : Settings → Option Explanation → List ℕ → List ℕ
+keys_to_closed settings explanation closed =
+    codes "{" ++ first_json settings explanation
+    ++ codes "\"closed\":" ++ closed
+    ++ counted_json settings.counted
+    ++ durable_json settings.durable
+
+-- those of the disk, the module and the number of patches
+abbrev pub module_keys : Settings → ℕ → List ℕ
+module_keys settings n =
+    before_module settings ++ json_string (module_text settings.module) ++ codes ",\"patches\":" ++ decimal n
+
+-- from `strict` on
+abbrev pub keys_from_strict : Settings → ℕ → Option Explanation → Option (List Promise) → List ℕ
+keys_from_strict settings n explanation promises =
+    strict_key settings.strict
+    ++ trace_json explanation
+    ++ listed_waits_json n explanation promises
+    ++ whole_key settings.whole_blocks
+    ++ rules_json (codes "with") (listed_with settings)
+    ++ rules_json (codes "without") (listed_without settings)

@@ -1,8 +1,9 @@
--- The lines of a report that are there only if an option asks for them.
+-- The lines that each report begins with, and those that are there only if an option asks for them.
 use Rattle.std.specs.Prelude.{ℕ, List, [], ◌++◌, flat_map, Bool, if◌then◌else◌, Option, Some, None, codes}
 use Rattle.crash_model.specs.Promises.{Promise}
 use Rattle.crash_model.specs.Reasons.{Explanation}
 use Rattle.crash_model.specs.RuleTexts.{rule_text}
+use Rattle.crash_model.specs.Texts.{module_text}
 use Rattle.crash_model.specs.ChosenRules.{rules_taken_out, rules_put_in}
 use Rattle.crash_model.specs.declared.rules.Rule.{Rule}
 use Rattle.crash_model.specs.declared.settings.Settings.{Settings}
@@ -39,3 +40,15 @@ explanation_text n (Some listed) = flat_map explained_text listed.patches ++ fla
 abbrev pub promises_text : ℕ → Option (List Promise) → List ℕ
 promises_text n None = []
 promises_text n (Some promises) = flat_map (promise_text n) promises
+
+-- the lines that say by which ordering and which checker, with which each report begins
+abbrev pub ordering_text : Settings → List ℕ
+ordering_text settings =
+    line (codes "module " ++ module_text settings.module)
+    ++ rule_lines (codes "without") (listed_without settings)
+    ++ rule_lines (codes "with") (listed_with settings)
+    ++ blocks_text settings.generations settings.whole_blocks
+    ++ (if settings.strict then line (codes "strict") else [])
+    ++ (if settings.atomic then line (codes "atomic") else [])
+    ++ (if settings.durable then line (codes "durable") else [])
+    ++ counted_text settings.counted

@@ -1,14 +1,11 @@
 -- A whole report as JSON: one compact object, its keys in ascending order, and a line feed.
-use Rattle.std.specs.Prelude.{ℕ, List, [], ◌++◌, map, if◌then◌else◌, codes, decimal}
-use Rattle.crash_model.specs.Texts.{module_text}
+use Rattle.std.specs.Prelude.{ℕ, List, [], ◌++◌, map, codes, decimal}
 use Rattle.crash_model.specs.declared.settings.Settings.{Settings}
-use Rattle.report_model.specs.JsonParts.{Form, json_string, json_array}
+use Rattle.report_model.specs.JsonParts.{Form, json_array}
 use Rattle.report_model.specs.SectionJson.{section_json}
-use Rattle.report_model.specs.OptionKeys.{counted_json, durable_json, promises_json, trace_json, listed_waits_json}
-use Rattle.report_model.specs.OptionKeys.{rules_json, before_module, first_json}
+use Rattle.report_model.specs.OptionKeys.{keys_to_closed, module_keys, promises_json, keys_from_strict}
 use Rattle.report_model.specs.Summary.{counted_fault_json}
 use Rattle.report_model.specs.Needs.{listed_rule_json}
-use Rattle.report_model.specs.OptionTexts.{listed_without, listed_with}
 use Rattle.report_model.specs.Whole.{Body, Sets, Faults, Rules, Report}
 
 -- how the objects of a report on so many patches are written
@@ -29,19 +26,10 @@ late_json form failing (Rules listed) = codes ",\"rules\":" ++ json_array (map (
 
 unfoldable pub json_report : Settings → Report → List ℕ
 json_report settings r =
-    codes "{" ++ first_json settings r.explanation
-    ++ codes "\"closed\":" ++ decimal r.closed
-    ++ counted_json settings.counted
-    ++ durable_json settings.durable
+    keys_to_closed settings r.explanation (decimal r.closed)
     ++ early_json (form_of settings r.patches) r.failing r.body
-    ++ before_module settings ++ json_string (module_text settings.module)
-    ++ codes ",\"patches\":" ++ decimal r.patches
+    ++ module_keys settings r.patches
     ++ promises_json r.patches r.promises
     ++ late_json (form_of settings r.patches) r.failing r.body
-    ++ (if settings.strict then codes ",\"strict\":true" else [])
-    ++ trace_json r.explanation
-    ++ listed_waits_json r.patches r.explanation r.promises
-    ++ (if settings.whole_blocks then codes ",\"whole_blocks\":true" else [])
-    ++ rules_json (codes "with") (listed_with settings)
-    ++ rules_json (codes "without") (listed_without settings)
+    ++ keys_from_strict settings r.patches r.explanation r.promises
     ++ codes "}\n"

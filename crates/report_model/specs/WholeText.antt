@@ -1,10 +1,8 @@
 -- A whole report as text, and the bytes of a report: its text, or its JSON if that is asked for.
-use Rattle.std.specs.Prelude.{ℕ, List, [], ◌++◌, flat_map, if◌then◌else◌, codes, decimal}
-use Rattle.crash_model.specs.Texts.{module_text}
+use Rattle.std.specs.Prelude.{ℕ, List, ◌++◌, flat_map, if◌then◌else◌, codes, decimal}
 use Rattle.crash_model.specs.declared.settings.Settings.{Settings}
 use Rattle.report_model.specs.Report.{line, section_text}
-use Rattle.report_model.specs.OptionTexts.{counted_text, promises_text, explanation_text, listed_without, listed_with}
-use Rattle.report_model.specs.OptionTexts.{rule_lines, blocks_text}
+use Rattle.report_model.specs.OptionTexts.{ordering_text, promises_text, explanation_text}
 use Rattle.report_model.specs.Summary.{counted_fault_text}
 use Rattle.report_model.specs.Needs.{listed_rule_text}
 use Rattle.report_model.specs.WholeJson.{json_report}
@@ -13,14 +11,7 @@ use Rattle.report_model.specs.Whole.{Body, Sets, Faults, Rules, Report}
 -- the lines before the first patch or set
 abbrev pub head_text : Settings → ℕ → ℕ → ℕ → List ℕ
 head_text settings patches closed failing =
-    line (codes "module " ++ module_text settings.module)
-    ++ rule_lines (codes "without") (listed_without settings)
-    ++ rule_lines (codes "with") (listed_with settings)
-    ++ blocks_text settings.generations settings.whole_blocks
-    ++ (if settings.strict then line (codes "strict") else [])
-    ++ (if settings.atomic then line (codes "atomic") else [])
-    ++ (if settings.durable then line (codes "durable") else [])
-    ++ counted_text settings.counted
+    ordering_text settings
     ++ line (codes "patches " ++ decimal patches)
     ++ line (codes "closed " ++ decimal closed)
     ++ line (codes "failing " ++ decimal failing)

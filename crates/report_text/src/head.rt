@@ -5,6 +5,7 @@ ghost use Rattle.patch_sets.specs.Sets.{has};
 ghost use Rattle.report_model.specs.Report.{line, numbers};
 ghost use Rattle.report_model.specs.Shows.{counted_numbers};
 ghost use Rattle.report_model.specs.OptionTexts.{counted_text, rule_lines, listed_with, listed_without, blocks_text};
+ghost use Rattle.report_model.specs.OptionTexts.{ordering_text};
 ghost use Rattle.crash_model.specs.Texts.{module_text};
 ghost use Rattle.report_model.specs.WholeText.{head_text};
 
@@ -52,15 +53,7 @@ pub fn write_ordering<A: Allocator>(
     out: &mut String<A>,
     settings: &Settings,
 ) -> Result<(), AllocError>
-    ensures { OnOk result (string_bytes out.new ≡ string_bytes out.old
-        ++ (line (codes "module " ++ module_text settings.now.module)
-        ++ rule_lines (codes "without") (listed_without settings.now)
-        ++ rule_lines (codes "with") (listed_with settings.now)
-        ++ blocks_text settings.now.generations settings.now.whole_blocks
-        ++ (if settings.now.strict then line (codes "strict") else [])
-        ++ (if settings.now.atomic then line (codes "atomic") else [])
-        ++ (if settings.now.durable then line (codes "durable") else [])
-        ++ counted_text settings.now.counted)) }
+    ensures { OnOk result (string_bytes out.new ≡ string_bytes out.old ++ ordering_text settings.now) }
 {
     write_rules_and_disk(out, settings)?;
     write_checker(out, settings)

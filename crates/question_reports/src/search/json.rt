@@ -5,11 +5,9 @@ ghost use Rattle.crash_model.specs.Lists.{join_of};
 ghost use Rattle.crash_model.specs.PatchTexts.{act_text};
 ghost use Rattle.report_model.specs.JsonParts.{json_string};
 ghost use Rattle.question_model.specs.SearchReport.{first_counted, first_promise_keys, json_search, kind_json};
-ghost use Rattle.question_model.specs.SearchReport.{refused_json, step_text};
+ghost use Rattle.question_model.specs.SearchReport.{last_keys, ordering_keys, refused_json, step_text};
 ghost use Rattle.question_model.specs.Workloads.{steps_at};
-ghost use Rattle.question_reports.specs.SearchFindings.{failing_keys, kind_head, kind_items, last_keys};
-ghost use Rattle.question_reports.specs.SearchFindings.{ordering_keys, listed_kind};
-ghost use Rattle.question_reports.specs.SearchFindings.{listed_kinds};
+ghost use Rattle.question_reports.specs.SearchFindings.{failing_keys, kind_head, kind_items, listed_kind, listed_kinds};
 
 use crate::search::acts::acts_at;
 use crate::search::findings::{KindCrash, SearchFindings};

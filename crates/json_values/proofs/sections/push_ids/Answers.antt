@@ -1,6 +1,5 @@
-use Rattle.std.proofs.Common.{string_bytes}
+use Rattle.std.proofs.Common.{◌≡◌, ◌++◌, ℕ, List, map, decimal, string_bytes, ap, ◌∙◌}
 use Rattle.std.proofs.lemmas.Result.{on_ok_weaker}
-use Rattle.std.proofs.Common.{◌≡◌, ◌++◌, map, decimal}
 use Rattle.crash_model.specs.Lists.{join_of}
 use Rattle.patch_sets.specs.Iter.{most_ids}
 use Rattle.patch_sets.specs.Sets.{ids_of}
@@ -22,5 +21,6 @@ returns g c =
     c.push_later_ids.result
     (λ wrote. first_run_written c.args.set c.below.result c.args.patches c.in-Some.run' before _ _ _
     c.below.ensures c.in-Some.ensures c.in_ok-write.ensures.bytes
-    c.in_ok-push_str.ensures.bytes wrote)
+    (c.in_ok-push_str.ensures.bytes ∙ ap (λ (t : List ℕ). string_bytes c.write.new.self ++ t)
+    c.numbers_after_commas.ensures) wrote)
     c.push_later_ids.ensures

@@ -5,11 +5,11 @@ use Rattle.report_model.specs.OptionKeys.{disk_json}
 use Rattle.report_json.proofs.head.write_module.Goals as goal
 
 regroup : (old g a b c d e : List ℕ)
-    → (old ++ g) ++ ((a ++ b) ++ c ++ (b ++ d) ++ e) ≡ old ++ (g ++ a ++ b ++ c ++ (b ++ d) ++ e)
+    → (old ++ g) ++ ((a ++ b) ++ c ++ (b ++ d) ++ e) ≡ old ++ (g ++ a ++ (b ++ c ++ b) ++ d ++ e)
 regroup old g a b c d e = simp append_assoc
 
 after : (old g a b c d e middle last : List ℕ) → middle ≡ old ++ g → last ≡ middle ++ ((a ++ b) ++ c ++ (b ++ d) ++ e)
-    → last ≡ old ++ (g ++ a ++ b ++ c ++ (b ++ d) ++ e)
+    → last ≡ old ++ (g ++ a ++ (b ++ c ++ b) ++ d ++ e)
 after old g a b c d e middle last first rest = rest ∙ ap (λ (t : List ℕ). t ++ ((a ++ b) ++ c ++ (b ++ d) ++ e)) first
     ∙ regroup old g a b c d e
 
