@@ -60,9 +60,9 @@ ROWS = {
                    "question_model/EnoughReport"],
     "`--enough` with `--syncs`": ["patch_sets/Ends", "crash_model/ChosenWaits", "question_model/EnoughLines",
                                   "question_model/LinesReport"],
-    "`--search`": ["crash_model/FirstSets"] + ["question_model/" + name for name in
-                   ("Kinds", "Lengths", "Refused", "Sequences", "Workloads", "SearchCounts",
-                    "SearchReport", "PoolAnswer")],
+    "`--search`": ["crash_model/FirstSets", "crash_model/FaultKinds", "crash_model/Refused"]
+    + ["question_model/" + name for name in
+       ("Sequences", "Workloads", "SearchCounts", "SearchReport", "PoolAnswer")],
     "`--search` with `--enough`": ["question_model/" + name for name in
                                    ("MinimalRules", "EnoughFor", "SearchRulesReport")],
     "what `serve` and `answer_call` say of devices and of the exit status":
@@ -89,7 +89,7 @@ ASKED_FOR = {
     "report_model/WholeText": "counted_fault_text listed_rule_text json_report",
     "report_model/Answer": "explanation AreCountedFaults AreListedRules",
     "question_model/Answers": "IsDecision IsEnoughReport IsLinesReport IsLinesRefusal IsSearchReport IsSearchRefusal "
-                              "IsSearchRulesReport IsReportedOfPool operations_of",
+                              "IsSearchRulesReport IsReportedOfPool",
 }
 
 IMPORT = re.compile(r"\s*(pub )?use ")

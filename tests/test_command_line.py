@@ -1,6 +1,7 @@
 """What the built program answers that no case file can hold: its help, long scripts, and devices of its own."""
 
 import pathlib
+import re
 import subprocess
 import tempfile
 import unittest
@@ -48,6 +49,13 @@ class Help(unittest.TestCase):
         self.assertIn("a crash loses a file or directory that is there before `start` and that the script never removes",
                       " ".join(answer("--help")[1].decode().split()))
 
+    def test_the_faults_that_can_count_go_to_the_same_number_as_in_the_error(self):
+        words = " ".join(answer("--help")[1].decode().split())
+        refused = " ".join(answer("--faults", "0")[2].decode().split())
+        most = refused.partition("numbers from 1 to ")[2].partition(",")[0]
+        self.assertTrue(most.isdigit(), refused)
+        self.assertIn(f"Count only faults of these numbers, 1 to {most}, in ascending order", words)
+
 
 class Options(unittest.TestCase):
     """The list of options that other programs read."""
@@ -77,6 +85,13 @@ class Options(unittest.TestCase):
                 given += [values[symbols[other]]] if other in symbols else []
                 status, _, err = answer(*given, script=CREATE)
                 self.assertEqual((status, b"cannot be used with" in err), (2, True), given)
+
+    def test_an_option_takes_the_numbers_that_its_help_names(self):
+        ranges = re.findall(r"(--[a-z]+) <[A-Z]> .*, (\d+) to (\d+)", answer("--help")[1].decode())
+        self.assertEqual([name for name, _, _ in ranges], ["--blocks", "--limit", "--workers", "--search"])
+        for name, least, most in ranges:
+            for number, status in ((int(least) - 1, 2), (int(least), 0), (int(most), 0), (int(most) + 1, 2)):
+                self.assertEqual(answer(f"{name}={number}", script=b"start\n")[0], status, (name, number))
 
     def test_a_word_after_dashes_is_no_option(self):
         status, _, err = answer("--", "--search-me")

@@ -2,6 +2,7 @@
 
 use crate::numbers::{BLOCKS, JOURNAL, LIMIT, Numbers, WORKERS};
 use clap::{Arg, ArgAction, Command, value_parser};
+use question_model::MAX_OPERATIONS;
 use std::alloc::{AllocError, Global};
 
 /// What `--version` shows after the program's name.
@@ -258,7 +259,7 @@ pub(crate) static HEADS: [Head; 5] = [
                 takes: Takes::NumberWithout(
                     "N",
                     1,
-                    8,
+                    MAX_OPERATIONS as i64,
                     &["decide", "limit", "explorer", "summary", "needs"],
                 ),
                 help: "Try every workload of up to N operations, 1 to 8, from the script's lines after `start`, and \

@@ -7,7 +7,7 @@ use std::fmt;
 /// What is wrong with the value of an option.
 #[derive(Clone, Copy)]
 pub(crate) struct WordFault<'a> {
-    pub option: &'static str,
+    pub option: &'a str,
     pub value: Value<'a>,
     pub why: Why<'a>,
 }

@@ -1,5 +1,6 @@
 //! The words of rules: which there are, and why a word is not a rule.
 
+use crash_model::fault_kind::KINDS;
 use crash_model::modules::Module;
 use crash_model::rules::{Rule, RulePart};
 use std::alloc::{AllocError, Global};
@@ -193,7 +194,7 @@ pub(crate) enum Why<'a> {
     /// It has a part that no rule names. Perhaps another was meant.
     NoPart {
         part: &'a str,
-        nearest: Option<&'static str>,
+        nearest: Option<&'a str>,
     },
     GivenTwice,
     TooMany,
@@ -265,8 +266,9 @@ impl fmt::Display for Why<'_> {
             Why::TakenOut => f.write_str("'--without' takes it out"),
             Why::BoardIsSmaller => f.write_str("the board holds at most 32768 sets"),
             Why::NoFaultNumbers => {
-                f.write_str(
-                    "numbers from 1 to 10, each above the one before, with a comma between two",
+                write!(
+                    f,
+                    "numbers from 1 to {KINDS}, each above the one before, with a comma between two"
                 )
             }
         }

@@ -9,6 +9,7 @@ use crate::hints::Hints;
 use crate::numbers::{LIMIT, Numbers};
 use crate::rule_words::Why;
 use clap::ArgMatches;
+use crash_model::fault_kind::KINDS;
 use crash_model::modules::Module;
 use crash_model::visit::{Explorer, MAX_BOARD, ReportBy, Visit};
 use question_model::{Question, WorkloadLength};
@@ -41,7 +42,7 @@ pub(crate) fn counted_of<'a>(matches: &ArgMatches<'a>) -> Result<Option<u16>, Wo
     }
 }
 
-/// The set of the numbers in a word: from 1 to 10, each above the one before, with a comma between two.
+/// The set of the numbers in a word: from 1 to `KINDS`, each above the one before, with a comma between two.
 fn fault_numbers(word: &str) -> Option<u16> {
     let mut counted: u16 = 0;
     for piece in word.split(',') {
@@ -54,19 +55,13 @@ fn fault_numbers(word: &str) -> Option<u16> {
     Some(counted)
 }
 
-/// The set that has only the number of a kind of fault.
+/// The set that has only the number of a kind of fault, which is written in digits, the first of them no zero.
 fn fault_bit(word: &str) -> Option<u16> {
-    match word {
-        "1" => Some(1 << 1),
-        "2" => Some(1 << 2),
-        "3" => Some(1 << 3),
-        "4" => Some(1 << 4),
-        "5" => Some(1 << 5),
-        "6" => Some(1 << 6),
-        "7" => Some(1 << 7),
-        "8" => Some(1 << 8),
-        "9" => Some(1 << 9),
-        "10" => Some(1 << 10),
+    if word.starts_with('+') || word.starts_with('0') {
+        return None;
+    }
+    match word.parse::<usize>() {
+        Ok(number) if number <= KINDS => Some(1 << number),
         _ => None,
     }
 }

@@ -5,6 +5,7 @@ pub mod FirstNames
 pub mod Refusals
 pub mod ExploreRefusals
 pub mod RefusalLine
+pub mod Refused
 pub mod Disk
 pub mod Generations
 pub mod Layout

@@ -7,6 +7,7 @@
 
 pub mod disk_bytes;
 pub mod fault;
+pub mod fault_kind;
 pub mod modules;
 pub mod names;
 pub mod operations;
@@ -15,6 +16,7 @@ pub mod patches;
 pub mod plans;
 pub mod promises;
 pub mod ranges;
+pub mod refusal;
 pub mod refusals;
 pub mod rule_lists;
 pub mod rules;

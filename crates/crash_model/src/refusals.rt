@@ -1,15 +1,17 @@
 //! Refusals. Each has a number, a name and a text; its `Display` writes the number, a space and the text.
 //!
-//! Numbers and texts are in `RunFault`, but for two that the explorers have, too: these are `ExploreFault`'s. The fault
-//! of a single layer is displayed as the run's refusal that it becomes.
+//! Numbers and texts are in `RunFault`, but for those of an operation, which are `Refusal`'s, and for two that the
+//! explorers have, too: these are `ExploreFault`'s. The fault of a single layer is displayed as the run's refusal that
+//! it becomes.
 
 ghost use Rattle.std.specs.Prelude.{◌≡◌, ℕ, Some, None};
 ghost use Rattle.crash_model.specs.RefusalLine.{line_of};
 ghost use Rattle.crash_model.specs.Refusals.{trace_fault};
 
+use crate::refusal::Refusal;
 use patch_sets::explored::ExploreFault;
 use std::alloc::{AllocError, AllocFailed};
-use std::fmt;
+use std::fmt::{self, Display};
 use thiserror::Error;
 
 /// Why an operation is refused on an image.
@@ -140,37 +142,6 @@ pub enum RunFault {
 }
 
 impl RunFault {
-    /// Its number and its text, with a space between them.
-    fn text(self) -> &'static str {
-        match self {
-            RunFault::BadGeometry => "1 bad geometry",
-            RunFault::TooManyPatches { .. } => "2 too many patches",
-            RunFault::NotFound { .. } => "10 not found",
-            RunFault::NotADirectory { .. } => "11 not a directory",
-            RunFault::Exists { .. } => "12 exists",
-            RunFault::NotAFile { .. } => "13 not a file",
-            RunFault::NotEmpty { .. } => "14 not empty",
-            RunFault::NoInode { .. } => "15 no free inode",
-            RunFault::NoBlock { .. } => "16 no free block",
-            RunFault::DirectoryFull { .. } => "17 directory full",
-            RunFault::FileFull { .. } => "18 file full",
-            RunFault::LinksFull { .. } => "19 too many links",
-            RunFault::JournalFull { .. } => "20 journal full",
-            RunFault::GroupFault { .. } => "21 group fault",
-            RunFault::OnlyAfterStart { .. } => "22 only after start",
-            RunFault::TooManySyncs { .. } => "23 too many syncs",
-            RunFault::TooMany => ExploreFault::TooMany.text(),
-            RunFault::BadUtf8 { .. } => "40 not UTF-8",
-            RunFault::BadLine { .. } => "41 bad line",
-            RunFault::BadPath { .. } => "42 bad path",
-            RunFault::NoStart { .. } => "43 no start line",
-            RunFault::CannotRead => "50 cannot read the script",
-            RunFault::CannotWrite => "51 cannot write the report",
-            RunFault::ScriptTooLong => "52 script too long",
-            RunFault::OutOfMemory => ExploreFault::OutOfMemory.text(),
-        }
-    }
-
     /// The number of the line that is refused, from 1, if the refusal has one.
     pub fn line(&self) -> Option<usize>
         ensures { result ≡ line_of self.now }
@@ -209,7 +180,33 @@ impl fmt::Debug for RunFault {
 
 impl fmt::Display for RunFault {
     fn fmt<W: fmt::Write>(&self, f: &mut fmt::Formatter<W>) -> fmt::Result {
-        f.write_str(self.text())
+        match *self {
+            RunFault::BadGeometry => f.write_str("1 bad geometry"),
+            RunFault::TooManyPatches { .. } => Refusal::TooManyPatches.fmt(f),
+            RunFault::NotFound { .. } => Refusal::NotFound.fmt(f),
+            RunFault::NotADirectory { .. } => Refusal::NotADirectory.fmt(f),
+            RunFault::Exists { .. } => Refusal::Exists.fmt(f),
+            RunFault::NotAFile { .. } => Refusal::NotAFile.fmt(f),
+            RunFault::NotEmpty { .. } => Refusal::NotEmpty.fmt(f),
+            RunFault::NoInode { .. } => Refusal::NoInode.fmt(f),
+            RunFault::NoBlock { .. } => Refusal::NoBlock.fmt(f),
+            RunFault::DirectoryFull { .. } => Refusal::DirectoryFull.fmt(f),
+            RunFault::FileFull { .. } => Refusal::FileFull.fmt(f),
+            RunFault::LinksFull { .. } => Refusal::LinksFull.fmt(f),
+            RunFault::JournalFull { .. } => Refusal::JournalFull.fmt(f),
+            RunFault::GroupFault { .. } => f.write_str("21 group fault"),
+            RunFault::OnlyAfterStart { .. } => f.write_str("22 only after start"),
+            RunFault::TooManySyncs { .. } => f.write_str("23 too many syncs"),
+            RunFault::TooMany => ExploreFault::TooMany.fmt(f),
+            RunFault::BadUtf8 { .. } => f.write_str("40 not UTF-8"),
+            RunFault::BadLine { .. } => f.write_str("41 bad line"),
+            RunFault::BadPath { .. } => f.write_str("42 bad path"),
+            RunFault::NoStart { .. } => f.write_str("43 no start line"),
+            RunFault::CannotRead => f.write_str("50 cannot read the script"),
+            RunFault::CannotWrite => f.write_str("51 cannot write the report"),
+            RunFault::ScriptTooLong => f.write_str("52 script too long"),
+            RunFault::OutOfMemory => ExploreFault::OutOfMemory.fmt(f),
+        }
     }
 }
 

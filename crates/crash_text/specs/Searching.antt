@@ -6,7 +6,6 @@ use Rattle.crash_model.specs.declared.refusals.RunFault.{RunFault}
 use Rattle.crash_model.specs.declared.refusals.RunFault.TheVariants.{GroupFault}
 use Rattle.crash_model.specs.declared.settings.Settings.{Settings}
 use Rattle.crash_model.specs.declared.steps.Step.{Step}
-use Rattle.question_model.specs.Lengths.{operations_of}
 use Rattle.question_model.specs.SearchReport.{IsSearchReport, IsListedKind, ListedKind, search_bytes}
 use Rattle.question_model.specs.Workloads.{Search, IsOfPool}
 use Rattle.question_model.specs.declared.found.SearchCounts.{SearchCounts}
@@ -21,7 +20,7 @@ use Rattle.question_reports.specs.declared.search.findings.KindCrash.{KindCrash}
 -- the steps are a pool, and the text is the report on it
 abbrev pub IsSearchOf : Settings → WorkloadLength → Disk → List Step → List ℕ → ℕ → Type 0
 IsSearchOf settings longest base steps text number =
-    All IsOfPool steps × IsSearchReport settings (operations_of longest) base steps text number
+    All IsOfPool steps × IsSearchReport settings longest base steps text number
 
 -- the steps are no pool, and the fault has the line of the first step that no pool has
 abbrev pub IsPoolRefusal : List Step → RunFault → Type 0
@@ -39,4 +38,4 @@ pub record IsReportBy {A : Type 0} (settings : Settings) (judge : PoolJudge A) (
   pub listed : List ListedKind
   pub kinds : map (λ t. t.shown) listed ≡ found.kinds.items
   pub each : All (IsListedKind (search_by judge) settings.explain) listed
-  pub whole : text ≡ search_bytes settings (operations_of judge.longest) (length judge.pool.now) found listed
+  pub whole : text ≡ search_bytes settings judge.longest (length judge.pool.now) found listed

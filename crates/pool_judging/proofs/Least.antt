@@ -1,12 +1,13 @@
 -- The least set of the faults of a kind.
-use Rattle.std.proofs.Common.{◌≡◌, ◌≢◌, ℕ, ◌+◌, ◌<◌, List, [], ◌∷◌, ◌++◌, map, length, take, sym, subst, ap}
-use Rattle.std.proofs.Common.{◌∙◌, inl, inr, get_or}
+use Rattle.std.proofs.Common.{◌≡◌, ◌≢◌, ℕ, ◌+◌, ◌-◌, ◌<◌, List, [], ◌∷◌, ◌++◌, map, length, take, sym, subst, ap}
+use Rattle.std.proofs.Common.{◌∙◌, inl, inr, get_or, set, arith}
 use Rattle.std.specs.Prelude.{◌⊎◌, Option, Some, None, IfSome, count_ones}
 use Rattle.std.specs.List.{Contains}
-use Rattle.std.proofs.lemmas.List.{take_more}
+use Rattle.std.proofs.lemmas.List.{take_more, get_or-set_same, get_or-set_other}
 use Rattle.std.proofs.lemmas.List.Elements.{All-contains, Contains-append_left, Contains-push, Contains-push_cases}
 use Rattle.patch_sets.specs.Sets.{IsBefore}
 use Rattle.state_space.proofs.Counting.{below, same, above, order_of}
+use Rattle.patch_sets.proofs.Bits.{eq_or_not}
 use Rattle.patch_sets.proofs.Canonical.{before_trans}
 use Rattle.patch_sets.proofs.Lists.{in_none, in_front, in_rest, front_or_rest}
 use Rattle.crash_model.specs.Checker.{Demands}
@@ -16,9 +17,10 @@ use Rattle.crash_model.specs.declared.fault.Fault.{Fault}
 use Rattle.crash_model.specs.declared.patches.Patch.{Patch}
 use Rattle.question_model.specs.Decided.{AreDecided}
 use Rattle.question_model.specs.declared.decided_fault.DecidedFault.{DecidedFault}
-use Rattle.question_model.specs.Kinds.{kind_of}
+use Rattle.crash_model.proofs.KindNumbers.{same_kind}
+use Rattle.crash_model.specs.FaultKinds.{kind_of, kind_number}
 use Rattle.question_model.specs.Verdict.{IsFirstOfKind}
-use Rattle.question_model.specs.declared.fault_kind.FaultKind.{FaultKind}
+use Rattle.crash_model.specs.declared.fault_kind.FaultKind.{FaultKind}
 use Rattle.pool_judging.specs.Firsts.{IsOfKind, IsLeast, IsLeastOfKind}
 
 -- of two sets one is before the other, or they are the same
@@ -106,6 +108,23 @@ module _ (kind : FaultKind) (faults : List DecidedFault) (i : ℕ) (d : DecidedF
   least_more set of_kind is one this old = subst (λ (fs : List DecidedFault). IsLeast kind fs set)
       (sym (take_more faults i d within)) (one_more kind (take i faults) (get_or faults i d) least set of_kind is one
       this old)
+
+-- the least for each kind whose place is below another
+abbrev pub AreLeastBelow : List DecidedFault → ℕ → List (Option ℕ) → Type 0
+AreLeastBelow faults i firsts =
+    (kind : FaultKind) → kind_number kind - 1 < i → IsLeastOfKind kind faults (get_or firsts (kind_number kind - 1) None)
+
+-- the same with that of one more kind
+pub least_below_more : (faults : List DecidedFault) (i : ℕ) (firsts : List (Option ℕ)) (here : FaultKind)
+    (least : Option ℕ) → AreLeastBelow faults i firsts → i < length firsts → kind_number here ≡ i + 1
+    → IsLeastOfKind here faults least → AreLeastBelow faults (i + 1) (set firsts i least)
+least_below_more faults i firsts here least are within at is = λ kind below. elim (eq_or_not (kind_number kind - 1) i) [
+  | inl e ↦ subst (λ n. IsLeastOfKind kind faults (get_or (set firsts i least) n None)) (sym e)
+      (subst (IsLeastOfKind kind faults) (sym (get_or-set_same firsts i least None within))
+      (subst (λ (k : FaultKind). IsLeastOfKind k faults least) (same_kind here kind (omega (arith, at, e))) is))
+  | inr other ↦ subst (IsLeastOfKind kind faults)
+      (sym (get_or-set_other firsts i (kind_number kind - 1) least None other)) (are kind (omega (arith, below, other)))
+]
 
 -- a fault that is listed is listed with a first set
 listed : (faults : List DecidedFault) (fault : Fault) → Contains (map (λ f. f.fault) faults) fault

@@ -20,9 +20,9 @@ use Rattle.crash_model.specs.declared.refusals.TraceFault.TheVariants as trace
 use Rattle.crash_model.specs.declared.steps.Act.{Act}
 use Rattle.crash_model.specs.declared.steps.Act.TheVariants.{Do, Group, End, Depend, Sync, Fsync, Keep, Hold, Spare}
 use Rattle.crash_model.specs.declared.steps.Step.{Step}
-use Rattle.question_model.specs.Refused.{refusal_of}
+use Rattle.crash_model.specs.Refused.{refusal_of}
 use Rattle.question_model.specs.Workloads.{is_place, is_keep, IsOfPool}
-use Rattle.question_model.specs.declared.refusal.Refusal.{Refusal}
+use Rattle.crash_model.specs.declared.refusal.Refusal.{Refusal}
 
 -- an answer that, where it is a refusal, is one of an operation
 abbrev RefusesOperation : {X : Type 0} → Result X TraceFault → Type 0

@@ -6,9 +6,9 @@ use Rattle.crash_model.specs.Checker.{Demands}
 use Rattle.crash_model.specs.Disk.{Disk}
 use Rattle.crash_model.specs.declared.patches.Patch.{Patch}
 use Rattle.question_model.specs.declared.decided_fault.DecidedFault.{DecidedFault}
-use Rattle.question_model.specs.Kinds.{kind_of, kind_number}
+use Rattle.crash_model.specs.FaultKinds.{kind_of, kind_number}
 use Rattle.question_model.specs.Verdict.{IsFirstOfKind}
-use Rattle.question_model.specs.declared.fault_kind.FaultKind.{FaultKind}
+use Rattle.crash_model.specs.declared.fault_kind.FaultKind.{FaultKind}
 
 -- a fault of the list that is of the kind, with this set
 abbrev pub IsOfKind : FaultKind → List DecidedFault → DecidedFault → Type 0

@@ -8,7 +8,6 @@ use Rattle.crash_model.specs.declared.modules.Module.TheVariants.{Full}
 use Rattle.crash_model.specs.declared.patches.Patch.{Patch}
 use Rattle.kept_promises.specs.Asking.{asked_of}
 use Rattle.pool_judging.specs.Firsts.{AreFirstOfKinds}
-use Rattle.question_model.specs.Lengths.{operations_of}
 use Rattle.question_model.specs.Workloads.{Search}
 use Rattle.question_model.specs.declared.verdict.Verdict.{Verdict}
 use Rattle.question_model.specs.declared.verdict.Verdict.TheVariants.{Refused, Passes, Fails}
@@ -24,7 +23,7 @@ search_by j = record {
   base = j.base.now;
   keeps = j.keeps.now;
   pool = j.pool.now;
-  most = operations_of j.longest;
+  most = j.longest;
 }
 
 -- a set of the patches fails

@@ -9,8 +9,9 @@ ghost use Rattle.crash_model.specs.declared.patches.Patch.{Patch};
 ghost use Rattle.question_model.specs.Decided.{AreDecided};
 ghost use Rattle.pool_judging.specs.Firsts.{AreFirstOfKinds, IsLeastOfKind};
 
+use crash_model::fault_kind::{FaultKind, KINDS};
 use patch_sets::order::is_before;
-use question_model::{DecidedFault, FaultKind, KINDS};
+use question_model::DecidedFault;
 
 /// The first set, in canonical order, that has a fault of each kind, by the faults that sets have and the first set of
 /// each: that of the kind with number n at place n - 1, and `None` if no set has such a fault.
@@ -18,18 +19,11 @@ pub(crate) fn firsts(faults: &[DecidedFault]) -> [Option<u128>; KINDS]
     ensures { (demands : Demands) (base : Disk) (patches : List Patch)
         → AreDecided (HasFault demands base patches) faults.now → AreFirstOfKinds demands base patches result }
 {
-    [
-        first_of(faults, FaultKind::Dangling),
-        first_of(faults, FaultKind::Twice),
-        first_of(faults, FaultKind::Unwritten),
-        first_of(faults, FaultKind::LowLinks),
-        first_of(faults, FaultKind::MarkedFree),
-        first_of(faults, FaultKind::Wild),
-        first_of(faults, FaultKind::Lost),
-        first_of(faults, FaultKind::NoBlock),
-        first_of(faults, FaultKind::HalfDone),
-        first_of(faults, FaultKind::BrokenPromise),
-    ]
+    let mut first_sets = [None; KINDS];
+    for place in 0..KINDS {
+        first_sets[place] = first_of(faults, FaultKind::at(place));
+    }
+    first_sets
 }
 
 /// The least in canonical order of the sets of the faults of a kind, or `None` if no fault is of the kind.

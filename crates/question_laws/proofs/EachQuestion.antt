@@ -5,7 +5,6 @@ use Rattle.crash_model.specs.declared.settings.Settings.{Settings}
 use Rattle.question_model.specs.Answers.{IsAnswerTo}
 use Rattle.question_model.specs.Decision.{IsDecision}
 use Rattle.question_model.specs.EnoughReport.{IsEnoughReport}
-use Rattle.question_model.specs.Lengths.{operations_of}
 use Rattle.question_model.specs.SearchReport.{IsSearchReport}
 use Rattle.question_model.specs.SearchRulesReport.{IsSearchRulesReport}
 use Rattle.question_model.specs.declared.question.Question.{Question}
@@ -32,11 +31,11 @@ each_some Decide bytes settings = some_answered bytes settings (IsDecision setti
 each_some Enough bytes settings = some_answered bytes settings (IsEnoughReport settings) (some_enough settings)
 each_some EnoughLines bytes settings = some_lines_answer bytes settings
 each_some (Search longest) bytes settings =
-    some_searched bytes settings (IsSearchReport settings (operations_of longest))
-    (some_search settings (operations_of longest))
+    some_searched bytes settings (IsSearchReport settings longest)
+    (some_search settings longest)
 each_some (SearchRules longest) bytes settings =
-    some_searched bytes settings (IsSearchRulesReport settings (operations_of longest))
-    (some_search_rules settings (operations_of longest))
+    some_searched bytes settings (IsSearchRulesReport settings longest)
+    (some_search_rules settings longest)
 
 pub each_one : (question : Question) (bytes : List ℕ) (settings : Settings) (answer other : Answer)
     → IsAnswerTo question bytes settings answer → IsAnswerTo question bytes settings other → answer ≡ other
@@ -48,8 +47,8 @@ each_one Enough bytes settings answer other is also =
     answered_one bytes settings (IsEnoughReport settings) (enough_one settings) answer other is also
 each_one EnoughLines bytes settings answer other is also = one_lines_answer bytes settings answer other is also
 each_one (Search longest) bytes settings answer other is also =
-    pool_answered_one bytes settings (IsSearchReport settings (operations_of longest))
-    (search_one settings (operations_of longest)) answer other is also
+    pool_answered_one bytes settings (IsSearchReport settings longest)
+    (search_one settings longest) answer other is also
 each_one (SearchRules longest) bytes settings answer other is also =
-    pool_answered_one bytes settings (IsSearchRulesReport settings (operations_of longest))
-    (search_rules_one settings (operations_of longest)) answer other is also
+    pool_answered_one bytes settings (IsSearchRulesReport settings longest)
+    (search_rules_one settings longest) answer other is also

@@ -17,17 +17,17 @@ use Rattle.crash_model.specs.Patches.{deps_of}
 use Rattle.crash_model.specs.Tracing.{Tracing}
 use Rattle.crash_model.specs.declared.refusals.TraceFault.{TraceFault}
 use Rattle.question_model.specs.SearchCounts.{IsCounted, AreCounted, IsShown, AreShown, AreSearchCounts}
-use Rattle.question_model.specs.Kinds.{kind_number}
-use Rattle.question_model.specs.Refused.{refusal_number}
+use Rattle.crash_model.specs.FaultKinds.{kind_number}
+use Rattle.crash_model.specs.Refused.{refusal_number}
 use Rattle.question_model.specs.SearchReport.{ListedKind, IsListedKind}
 use Rattle.question_model.specs.Sequences.{AreAllSequences}
 use Rattle.question_model.specs.Workloads.{Search, steps_at, trace_at, IsWorkload, IsFailingWorkload}
 use Rattle.question_model.specs.Workloads.{IsRefusedFor, HasKind, ShowsKind}
-use Rattle.question_model.specs.declared.fault_kind.FaultKind.{FaultKind}
+use Rattle.crash_model.specs.declared.fault_kind.FaultKind.{FaultKind}
 use Rattle.question_model.specs.declared.found.SearchCounts.{SearchCounts}
 use Rattle.question_model.specs.declared.found.RefusedCount.{RefusedCount}
 use Rattle.question_model.specs.declared.found.ShownKind.{ShownKind}
-use Rattle.question_model.specs.declared.refusal.Refusal.{Refusal}
+use Rattle.crash_model.specs.declared.refusal.Refusal.{Refusal}
 use Rattle.worked_example_laws.specs.Computed.{are_in_order, graph_of, have_runs, section_of, trace_or_start}
 use Rattle.worked_example_laws.proofs.FailingSets.{all_under, failing_quickly_under, failing_under_are}
 use Rattle.worked_example_laws.proofs.Graphs.{earlier}

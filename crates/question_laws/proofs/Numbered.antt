@@ -3,12 +3,12 @@ use Rattle.std.proofs.Common.{◌≡◌, ℕ, ◌<◌, List, [], ◌∷◌, arit
 use Rattle.std.specs.Prelude.{◌==◌, if◌then◌else◌}
 use Rattle.std.specs.List.{Contains}
 use Rattle.patch_sets.proofs.Lists.{front_or_rest, in_none}
-use Rattle.question_model.specs.Kinds.{kind_number}
-use Rattle.question_model.specs.Refused.{refusal_number}
-use Rattle.question_model.specs.declared.fault_kind.FaultKind.{FaultKind}
-use Rattle.question_model.specs.declared.fault_kind.FaultKind.TheVariants as kind
-use Rattle.question_model.specs.declared.refusal.Refusal.{Refusal}
-use Rattle.question_model.specs.declared.refusal.Refusal.TheVariants as refused
+use Rattle.crash_model.specs.FaultKinds.{kind_number}
+use Rattle.crash_model.specs.Refused.{refusal_number}
+use Rattle.crash_model.specs.declared.fault_kind.FaultKind.{FaultKind}
+use Rattle.crash_model.specs.declared.fault_kind.FaultKind.TheVariants as kind
+use Rattle.crash_model.specs.declared.refusal.Refusal.{Refusal}
+use Rattle.crash_model.specs.declared.refusal.Refusal.TheVariants as refused
 use Rattle.question_laws.proofs.Deciding.{like, same_number}
 use Rattle.worked_example_laws.proofs.Orders.{Ascends}
 

@@ -8,16 +8,16 @@ use Rattle.crash_model.specs.Tracing.{Tracing}
 use Rattle.crash_model.specs.declared.patches.Patch.{Patch}
 use Rattle.crash_model.specs.declared.refusals.TraceFault.{TraceFault}
 use Rattle.question_model.specs.SearchCounts.{IsCounted, AreCounted, IsShown, AreShown, AreSearchCounts}
-use Rattle.question_model.specs.Kinds.{kind_number}
-use Rattle.question_model.specs.Refused.{refusal_number}
+use Rattle.crash_model.specs.FaultKinds.{kind_number}
+use Rattle.crash_model.specs.Refused.{refusal_number}
 use Rattle.question_model.specs.Sequences.{CountsSequences, IsFirstSequence}
 use Rattle.question_model.specs.Workloads.{Search, workload_at, trace_at, HasPatches, IsWorkload, IsFailingWorkload}
 use Rattle.question_model.specs.Workloads.{IsRefusedFor, HasKind, ShowsKind}
-use Rattle.question_model.specs.declared.fault_kind.FaultKind.{FaultKind}
+use Rattle.crash_model.specs.declared.fault_kind.FaultKind.{FaultKind}
 use Rattle.question_model.specs.declared.found.SearchCounts.{SearchCounts}
 use Rattle.question_model.specs.declared.found.RefusedCount.{RefusedCount}
 use Rattle.question_model.specs.declared.found.ShownKind.{ShownKind}
-use Rattle.question_model.specs.declared.refusal.Refusal.{Refusal}
+use Rattle.crash_model.specs.declared.refusal.Refusal.{Refusal}
 use Rattle.uniqueness_laws.proofs.Demands.{one_demands}
 use Rattle.uniqueness_laws.proofs.OneGraph.{graph_one}
 use Rattle.worked_example_laws.proofs.OneBody.{first_one}

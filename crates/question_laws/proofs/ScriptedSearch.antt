@@ -12,7 +12,6 @@ use Rattle.crash_model.specs.declared.steps.Act.{Act}
 use Rattle.crash_model.specs.declared.steps.Step.{Step}
 use Rattle.question_model.specs.Answers.{IsAnswerTo}
 use Rattle.question_model.specs.EnoughFor.{AreEnoughFor, IsNeededInSearch}
-use Rattle.question_model.specs.Lengths.{operations_of}
 use Rattle.question_model.specs.SearchReport.{search_of, search_bytes}
 use Rattle.question_model.specs.SearchRulesReport.{search_rules_bytes}
 use Rattle.question_model.specs.Workloads.{Search, IsOfPool, is_place, is_keep, places_of}
@@ -39,18 +38,18 @@ of_pool_if (step ∷ steps) e =
 
 module _ (settings : Settings) (before after : List Act) (longest : WorkloadLength) (text : List ℕ) (e : Expected)
     (begun : is_started settings before after ≡ true) (operations : are_of_pool (trace_steps before after) ≡ true)
-    (found : finds (search_of settings (operations_of longest) (base_of settings before) (trace_steps before after)) e
+    (found : finds (search_of settings longest (base_of settings before) (trace_steps before after)) e
     ≡ true) where
   abbrev pool : List Step
   pool = trace_steps before after
 
   abbrev s : Search
-  s = search_of settings (operations_of longest) (base_of settings before) pool
+  s = search_of settings longest (base_of settings before) pool
 
-  pub searched : text ≡ search_bytes settings (operations_of longest)
+  pub searched : text ≡ search_bytes settings longest
       (length (places_of (trace_steps before after))) (found_of e)
       (map (listed_kind
-      (search_of settings (operations_of longest) (base_of settings before) (trace_steps before after))
+      (search_of settings longest (base_of settings before) (trace_steps before after))
       settings.explain) e.kinds)
       → IsAnswerTo (asks.Search longest) (script before after) settings
       (Reported text (if length e.failing == 0 then 0 else 1))
@@ -72,18 +71,18 @@ module _ (settings : Settings) (before after : List Act) (longest : WorkloadLeng
 
   pub searched_for_rules : (sets : List ℕ) (needs : List NeededBy)
       → are_minimal (are_enough_for
-      (search_of settings (operations_of longest) (base_of settings before) (trace_steps before after)))
+      (search_of settings longest (base_of settings before) (trace_steps before after)))
       (ordering_rules settings) sets ≡ true
       → are_needed (are_enough_for
-      (search_of settings (operations_of longest) (base_of settings before) (trace_steps before after)))
+      (search_of settings longest (base_of settings before) (trace_steps before after)))
       (ordering_rules settings) (map (λ k. k.group) needs) ≡ true
       → list_all (is_needed_by
-      (search_of settings (operations_of longest) (base_of settings before) (trace_steps before after))
+      (search_of settings longest (base_of settings before) (trace_steps before after))
       settings.explain) needs ≡ true
-      → text ≡ search_rules_bytes settings (operations_of longest) (length (places_of (trace_steps before after)))
+      → text ≡ search_rules_bytes settings longest (length (places_of (trace_steps before after)))
       (found_of e) sets
       (map (listed_need
-      (search_of settings (operations_of longest) (base_of settings before) (trace_steps before after))
+      (search_of settings longest (base_of settings before) (trace_steps before after))
       settings.explain) needs)
       → IsAnswerTo (asks.SearchRules longest) (script before after) settings
       (Reported text (if length e.failing == 0 then 0 else 1))

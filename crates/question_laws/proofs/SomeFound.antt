@@ -5,16 +5,16 @@ use Rattle.crash_model.specs.Checker.{Demands}
 use Rattle.crash_model.specs.FirstSets.{IsFirst}
 use Rattle.crash_model.specs.declared.patches.Patch.{Patch}
 use Rattle.question_model.specs.SearchCounts.{IsCounted, AreCounted, IsShown, AreShown, AreSearchCounts}
-use Rattle.question_model.specs.Kinds.{kind_number}
-use Rattle.question_model.specs.Refused.{refusal_number}
+use Rattle.crash_model.specs.FaultKinds.{kind_number}
+use Rattle.crash_model.specs.Refused.{refusal_number}
 use Rattle.question_model.specs.Sequences.{AreAllSequences, IsFirstSequence}
 use Rattle.question_model.specs.Workloads.{Search, HasPatches, IsWorkload, IsFailingWorkload, IsRefusedFor, HasKind}
 use Rattle.question_model.specs.Workloads.{ShowsKind}
-use Rattle.question_model.specs.declared.fault_kind.FaultKind.{FaultKind}
+use Rattle.crash_model.specs.declared.fault_kind.FaultKind.{FaultKind}
 use Rattle.question_model.specs.declared.found.SearchCounts.{SearchCounts}
 use Rattle.question_model.specs.declared.found.RefusedCount.{RefusedCount}
 use Rattle.question_model.specs.declared.found.ShownKind.{ShownKind}
-use Rattle.question_model.specs.declared.refusal.Refusal.{Refusal}
+use Rattle.crash_model.specs.declared.refusal.Refusal.{Refusal}
 use Rattle.question_laws.proofs.Listing.{table}
 use Rattle.question_laws.proofs.Numbered.{all_kinds, all_refusals, each_kind, each_refusal, kinds_up, refusals_up}
 use Rattle.question_laws.proofs.OneFound.{patches_one}

@@ -13,13 +13,13 @@ use Rattle.crash_model.specs.Replay.{image_after_replay}
 use Rattle.crash_model.specs.Tracing.{Tracing}
 use Rattle.crash_model.specs.declared.patches.Patch.{Patch}
 use Rattle.crash_model.specs.declared.refusals.TraceFault.{TraceFault}
-use Rattle.question_model.specs.Kinds.{kind_of}
-use Rattle.question_model.specs.Refused.{refusal_of}
+use Rattle.crash_model.specs.FaultKinds.{kind_of}
+use Rattle.crash_model.specs.Refused.{refusal_of}
 use Rattle.question_model.specs.Workloads.{Search, workload_at, trace_at, HasPatches, Fails, IsWorkload}
 use Rattle.question_model.specs.Workloads.{IsFailingWorkload}
 use Rattle.question_model.specs.Workloads.{IsBeginning, IsRefusedFor, HasKind, ShowsKind}
-use Rattle.question_model.specs.declared.fault_kind.FaultKind.{FaultKind}
-use Rattle.question_model.specs.declared.refusal.Refusal.{Refusal}
+use Rattle.crash_model.specs.declared.fault_kind.FaultKind.{FaultKind}
+use Rattle.crash_model.specs.declared.refusal.Refusal.{Refusal}
 use Rattle.worked_example_laws.specs.Computed.{graph_of, demands_of}
 use Rattle.worked_example_laws.proofs.Graphs.{graph_is}
 use Rattle.worked_example_laws.proofs.Keeping.{are_demands}

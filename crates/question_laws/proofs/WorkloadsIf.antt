@@ -14,12 +14,12 @@ use Rattle.crash_model.specs.Tracing.{Tracing}
 use Rattle.crash_model.specs.declared.fault.Fault.{Fault}
 use Rattle.crash_model.specs.declared.patches.Patch.{Patch}
 use Rattle.crash_model.specs.declared.refusals.TraceFault.{TraceFault}
-use Rattle.question_model.specs.Kinds.{kind_of, kind_number}
-use Rattle.question_model.specs.Refused.{refusal_of, refusal_number}
+use Rattle.crash_model.specs.FaultKinds.{kind_of, kind_number}
+use Rattle.crash_model.specs.Refused.{refusal_of, refusal_number}
 use Rattle.question_model.specs.Workloads.{Search, workload_at, trace_at, Fails, IsWorkload, IsBeginning}
 use Rattle.question_model.specs.Workloads.{IsRefusedFor, HasKind, ShowsKind}
-use Rattle.question_model.specs.declared.fault_kind.FaultKind.{FaultKind}
-use Rattle.question_model.specs.declared.refusal.Refusal.{Refusal}
+use Rattle.crash_model.specs.declared.fault_kind.FaultKind.{FaultKind}
+use Rattle.crash_model.specs.declared.refusal.Refusal.{Refusal}
 use Rattle.worked_example_laws.specs.Computed.{demands_of, graph_of, is_accepted, trace_or_start}
 use Rattle.worked_example_laws.proofs.FailingSets.{failing_quickly_under, failing_under_are, under_at, in_under}
 use Rattle.worked_example_laws.proofs.FailingSets.{accepted_is}

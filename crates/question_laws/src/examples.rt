@@ -5,7 +5,6 @@ ghost use Rattle.report_model.specs.Answer.{Reported};
 ghost use Rattle.question_model.specs.Answers.{IsAnswerTo};
 ghost use Rattle.question_model.specs.declared.question.Question.TheVariants.{Decide, Enough, EnoughLines};
 ghost use Rattle.question_model.specs.declared.question.Question.TheVariants.{Search, SearchRules};
-ghost use Rattle.question_model.specs.declared.length.WorkloadLength.TheVariants.{Two};
 ghost use Rattle.question_laws.specs.Asked.{unordered, ordered, with_one_rule, with_block_rules, with_entry_rules};
 
 /// A pointer can reach the disk before the block that it points to, and before the map: two faults, of one set first.
@@ -44,7 +43,7 @@ pub fn the_sync_before_a_promise_is_needed()
 /// A rule orders the entry of a new file, and nothing orders that of a link. There are two workloads of up to two
 /// operations. One of them fails, by faults of two kinds. Two other sequences are refused.
 pub fn a_pool_of_two_operations_is_searched()
-    ensures { IsAnswerTo (Search Two) (codes "start\ncreate /a\nlink /a /b\n") with_one_rule
+    ensures { IsAnswerTo (Search 2) (codes "start\ncreate /a\nlink /a /b\n") with_one_rule
         (Reported (codes "module async\nwith EntrySet:InodeInit\nsearch 2\npool 2\nworkloads 2\nfailing 1\n"
         ++ codes "refused 10 not found: 1\nrefused 12 exists: 1\n"
         ++ codes "kind 1 dangling entry\nworkloads 1\nstep create /a\nstep link /a /b\nset 3\n"
@@ -56,7 +55,7 @@ pub fn a_pool_of_two_operations_is_searched()
 /// With a rule for the entry of a link too, no workload fails. Both rules are needed, the second for the longer
 /// workload.
 pub fn two_rules_are_needed_for_a_pool()
-    ensures { IsAnswerTo (SearchRules Two) (codes "start\ncreate /a\nlink /a /b\n") with_entry_rules
+    ensures { IsAnswerTo (SearchRules 2) (codes "start\ncreate /a\nlink /a /b\n") with_entry_rules
         (Reported (codes "module async\nwith EntrySet:InodeInit\nwith EntrySet:LinkUp\nsearch 2\npool 2\n"
         ++ codes "workloads 2\nfailing 0\nrefused 10 not found: 1\nrefused 12 exists: 1\nenough 1\n"
         ++ codes "rules EntrySet:InodeInit EntrySet:LinkUp\nneeds EntrySet:InodeInit\nstep create /a\n"

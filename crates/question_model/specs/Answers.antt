@@ -6,7 +6,6 @@ use Rattle.report_model.specs.Untraced.{IsUntraced}
 use Rattle.crash_model.specs.declared.settings.Settings.{Settings}
 use Rattle.question_model.specs.Decision.{IsDecision}
 use Rattle.question_model.specs.EnoughReport.{IsEnoughReport}
-use Rattle.question_model.specs.Lengths.{operations_of}
 use Rattle.question_model.specs.LinesReport.{IsLinesReport, IsLinesRefusal}
 use Rattle.question_model.specs.SearchReport.{IsSearchReport, IsSearchRefusal}
 use Rattle.question_model.specs.SearchRulesReport.{IsSearchRulesReport}
@@ -28,7 +27,7 @@ IsAnswerTo EnoughLines bytes settings (Reported text number) =
     IsReported (IsLinesReport settings) bytes settings text number
 IsAnswerTo (Search length) bytes settings (Refused fault) = IsSearchRefusal bytes settings fault
 IsAnswerTo (Search length) bytes settings (Reported text number) =
-    IsReportedOfPool (IsSearchReport settings (operations_of length)) bytes settings text number
+    IsReportedOfPool (IsSearchReport settings length) bytes settings text number
 IsAnswerTo (SearchRules length) bytes settings (Refused fault) = IsSearchRefusal bytes settings fault
 IsAnswerTo (SearchRules length) bytes settings (Reported text number) =
-    IsReportedOfPool (IsSearchRulesReport settings (operations_of length)) bytes settings text number
+    IsReportedOfPool (IsSearchRulesReport settings length) bytes settings text number

@@ -6,9 +6,6 @@ pub mod MinimalRules
 pub mod EnoughLines
 pub mod EnoughReport
 pub mod LinesReport
-pub mod Kinds
-pub mod Lengths
-pub mod Refused
 pub mod Sequences
 pub mod Workloads
 pub mod Verdict

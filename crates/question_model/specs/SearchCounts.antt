@@ -4,16 +4,16 @@ use Rattle.std.specs.List.{All, AllPairs, Contains}
 use Rattle.crash_model.specs.Checker.{Demands}
 use Rattle.crash_model.specs.FirstSets.{IsFirst}
 use Rattle.crash_model.specs.declared.patches.Patch.{Patch}
-use Rattle.question_model.specs.Kinds.{kind_number}
-use Rattle.question_model.specs.Refused.{refusal_number}
+use Rattle.crash_model.specs.FaultKinds.{kind_number}
+use Rattle.crash_model.specs.Refused.{refusal_number}
 use Rattle.question_model.specs.Sequences.{CountsSequences, IsFirstSequence}
 use Rattle.question_model.specs.Workloads.{Search, HasPatches, IsWorkload, IsFailingWorkload, IsRefusedFor}
 use Rattle.question_model.specs.Workloads.{HasKind, ShowsKind}
-use Rattle.question_model.specs.declared.fault_kind.FaultKind.{FaultKind}
+use Rattle.crash_model.specs.declared.fault_kind.FaultKind.{FaultKind}
 use Rattle.question_model.specs.declared.found.SearchCounts.{SearchCounts}
 use Rattle.question_model.specs.declared.found.RefusedCount.{RefusedCount}
 use Rattle.question_model.specs.declared.found.ShownKind.{ShownKind}
-use Rattle.question_model.specs.declared.refusal.Refusal.{Refusal}
+use Rattle.crash_model.specs.declared.refusal.Refusal.{Refusal}
 
 -- how many operations are refused for the reason, at least one
 pub record IsCounted (s : Search) (refused : RefusedCount) : Type 0 where

@@ -23,8 +23,8 @@ use Rattle.crash_model.specs.declared.refusals.RunFault.{RunFault}
 use Rattle.crash_model.specs.declared.refusals.RunFault.TheVariants.{GroupFault}
 use Rattle.crash_model.specs.declared.settings.Settings.{Settings}
 use Rattle.crash_model.specs.declared.steps.Step.{Step}
-use Rattle.question_model.specs.Kinds.{kind_number, kind_name}
-use Rattle.question_model.specs.Refused.{refusal_number, refusal_text}
+use Rattle.crash_model.specs.FaultKinds.{kind_number, kind_name}
+use Rattle.crash_model.specs.Refused.{refusal_number, refusal_text}
 use Rattle.question_model.specs.SearchCounts.{AreSearchCounts}
 use Rattle.question_model.specs.Workloads.{Search, steps_at, IsOfPool, places_of, keeps_of, HasPatches}
 use Rattle.question_model.specs.declared.found.SearchCounts.{SearchCounts}

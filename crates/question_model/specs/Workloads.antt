@@ -16,10 +16,10 @@ use Rattle.crash_model.specs.declared.rules.Rule.{Rule}
 use Rattle.crash_model.specs.declared.steps.Act.{Act}
 use Rattle.crash_model.specs.declared.steps.Act.TheVariants.{Do, Sync, Fsync, Keep}
 use Rattle.crash_model.specs.declared.steps.Step.{Step}
-use Rattle.question_model.specs.Kinds.{kind_of}
-use Rattle.question_model.specs.Refused.{refusal_of}
-use Rattle.question_model.specs.declared.fault_kind.FaultKind.{FaultKind}
-use Rattle.question_model.specs.declared.refusal.Refusal.{Refusal}
+use Rattle.crash_model.specs.FaultKinds.{kind_of}
+use Rattle.crash_model.specs.Refused.{refusal_of}
+use Rattle.crash_model.specs.declared.fault_kind.FaultKind.{FaultKind}
+use Rattle.crash_model.specs.declared.refusal.Refusal.{Refusal}
 
 -- what a search is asked: the ordering, the checker, the base, the promises that each workload begins with, the pool, and
 -- the most steps of a workload

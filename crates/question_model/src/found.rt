@@ -1,9 +1,9 @@
 //! What a search finds.
 
-use crate::fault_kind::{FaultKind, KINDS};
 use crate::length::MAX_OPERATIONS;
-use crate::refusal::{REFUSALS, Refusal};
 use arrayvec::ArrayVec;
+use crash_model::fault_kind::{FaultKind, KINDS};
+use crash_model::refusal::{REFUSALS, Refusal};
 
 /// The operations of a workload, each by its place in the pool, from 0.
 pub type Places = ArrayVec<usize, MAX_OPERATIONS>;

@@ -1,57 +1,49 @@
 //! How long workloads can be.
 
-ghost use Rattle.std.specs.Prelude.{◌≡◌, Some, None, MatchOption, ℕ, ◌≤◌};
-ghost use Rattle.question_model.specs.Lengths.{operations_of};
+ghost use Rattle.std.specs.Prelude.{◌≡◌, MatchOption, ◌≤◌};
+ghost use Rattle.question_model.specs.declared.length.TheConstants.{MAX_OPERATIONS};
+
+use std::marker::Model;
 
 /// The most operations of a workload that a search can try.
 pub const MAX_OPERATIONS: usize = 8;
 
-/// How many operations the longest workloads of a search have, one to eight.
+/// How many operations the longest workloads of a search have, from one to `MAX_OPERATIONS`. Contracts see the number.
 #[derive(Clone, Copy, Debug, PartialEq, Eq)]
-pub enum WorkloadLength {
-    One,
-    Two,
-    Three,
-    Four,
-    Five,
-    Six,
-    Seven,
-    Eight,
+pub struct WorkloadLength {
+    operations: usize,
+}
+
+impl Model for WorkloadLength {
+    ghost use Rattle.std.specs.Prelude.{ℕ, ◌≤◌};
+    ghost use Rattle.question_model.specs.declared.length.TheConstants.{MAX_OPERATIONS};
+
+    ghost Value = { ℕ };
+
+    ghost view = { λ length. length.operations };
+
+    ghost invariant = { λ length. (1 ≤ length.operations) × (length.operations ≤ MAX_OPERATIONS) };
+
+    ghost inverse = { λ number. record { operations = number } };
 }
 
 impl WorkloadLength {
-    /// This number of operations, or `None` if it is 0 or more than eight.
+    /// This number of operations, or `None` if it is 0 or more than `MAX_OPERATIONS`.
     pub fn new(number: usize) -> Option<WorkloadLength>
-        ensures { MatchOption result ((length : WorkloadLength) → ¬ (operations_of length ≡ number))
-            (λ length. operations_of length ≡ number) }
+        ensures { MatchOption result (¬ ((1 ≤ number) × (number ≤ MAX_OPERATIONS)))
+            (λ length. (length ≡ number) × (1 ≤ number) × (number ≤ MAX_OPERATIONS)) }
     {
-        match number {
-            1 => Some(WorkloadLength::One),
-            2 => Some(WorkloadLength::Two),
-            3 => Some(WorkloadLength::Three),
-            4 => Some(WorkloadLength::Four),
-            5 => Some(WorkloadLength::Five),
-            6 => Some(WorkloadLength::Six),
-            7 => Some(WorkloadLength::Seven),
-            8 => Some(WorkloadLength::Eight),
-            _ => None,
+        if number < 1 || number > MAX_OPERATIONS {
+            return None;
         }
+        Some(WorkloadLength { operations: number })
     }
 
     /// How many they are.
     pub fn operations(self) -> usize
-        ensures same { result ≡ operations_of self }
-        ensures range { (1 ≤ result) × (result ≤ 8) }
+        ensures same { result ≡ self }
+        ensures range { (1 ≤ result) × (result ≤ MAX_OPERATIONS) }
     {
-        match self {
-            WorkloadLength::One => 1,
-            WorkloadLength::Two => 2,
-            WorkloadLength::Three => 3,
-            WorkloadLength::Four => 4,
-            WorkloadLength::Five => 5,
-            WorkloadLength::Six => 6,
-            WorkloadLength::Seven => 7,
-            WorkloadLength::Eight => 8,
-        }
+        self.operations
     }
 }

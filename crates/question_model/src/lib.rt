@@ -9,17 +9,13 @@
 #![tactic(auto)]
 
 pub mod decided_fault;
-pub mod fault_kind;
 pub mod found;
 pub mod length;
 pub mod question;
-pub mod refusal;
 pub mod verdict;
 
 pub use decided_fault::DecidedFault;
-pub use fault_kind::{FaultKind, KINDS};
 pub use found::{Places, RefusedCount, SearchCounts, ShownKind};
 pub use length::{MAX_OPERATIONS, WorkloadLength};
 pub use question::{MAX_SYNCS, Question, Request};
-pub use refusal::{REFUSALS, Refusal};
 pub use verdict::Verdict;

@@ -1,7 +1,7 @@
 //! What a search must know of a sequence of operations.
 
-use crate::fault_kind::KINDS;
-use crate::refusal::Refusal;
+use crash_model::fault_kind::KINDS;
+use crash_model::refusal::Refusal;
 
 /// How a sequence of operations of a pool is judged.
 ///

@@ -11,8 +11,8 @@ use Rattle.crash_model.specs.declared.settings.Settings.{Settings}
 use Rattle.crash_model.specs.declared.steps.Step.{Step}
 use Rattle.report_sections.specs.Replay.{listed_replay}
 use Rattle.report_sections.specs.Sections.{section_of}
-use Rattle.question_model.specs.Kinds.{kind_number, kind_name}
-use Rattle.question_model.specs.Refused.{refusal_number, refusal_text}
+use Rattle.crash_model.specs.FaultKinds.{kind_number, kind_name}
+use Rattle.crash_model.specs.Refused.{refusal_number, refusal_text}
 use Rattle.question_model.specs.SearchReport.{first_promise_keys, json_search, kind_json, refused_json, step_text}
 use Rattle.question_model.specs.SearchReport.{before_kinds, last_keys, ordering_keys}
 use Rattle.question_model.specs.declared.found.SearchCounts.{SearchCounts}

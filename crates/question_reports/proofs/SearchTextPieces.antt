@@ -5,8 +5,8 @@ use Rattle.std.proofs.lemmas.List.Folds.{flat_map-map}
 use Rattle.report_model.specs.Report.{line, section_text}
 use Rattle.crash_model.specs.declared.settings.Settings.{Settings}
 use Rattle.report_model.specs.OptionTexts.{ordering_text}
-use Rattle.question_model.specs.Kinds.{kind_number, kind_name}
-use Rattle.question_model.specs.Refused.{refusal_number, refusal_text}
+use Rattle.crash_model.specs.FaultKinds.{kind_number, kind_name}
+use Rattle.crash_model.specs.Refused.{refusal_number, refusal_text}
 use Rattle.question_model.specs.SearchReport.{ListedKind, kind_text, refused_text, search_text, step_text, text_search}
 use Rattle.question_model.specs.declared.found.SearchCounts.{SearchCounts}
 use Rattle.question_model.specs.declared.found.RefusedCount.{RefusedCount}

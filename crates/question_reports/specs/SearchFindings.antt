@@ -10,7 +10,7 @@ use Rattle.crash_model.specs.declared.steps.Act.{Act}
 use Rattle.crash_model.specs.declared.steps.Step.{Step}
 use Rattle.report_sections.specs.Replay.{listed_replay}
 use Rattle.report_sections.specs.Sections.{section_of}
-use Rattle.question_model.specs.Kinds.{kind_number, kind_name}
+use Rattle.crash_model.specs.FaultKinds.{kind_number, kind_name}
 use Rattle.question_model.specs.SearchReport.{ListedKind, kind_json, kind_text, before_kinds}
 use Rattle.question_model.specs.Workloads.{steps_at}
 use Rattle.question_reports.specs.declared.search.findings.KindCrash.{KindCrash}

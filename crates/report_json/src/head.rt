@@ -17,6 +17,7 @@ ghost use Rattle.report_json.specs.JsonReport.{promise_keys, listed_promises};
 
 use crate::patches::{write_base, write_trace};
 use crate::promises::write_waits;
+use crash_model::fault_kind::KINDS;
 use crash_model::modules::Module;
 use crash_model::rules::Rule;
 use crash_model::separators::COMMA;
@@ -239,7 +240,7 @@ pub fn write_counted_numbers<B: Allocator>(
         ≡ string_bytes out.old ++ join_of COMMA (map decimal (counted_numbers counted))) }
 {
     let mut comma = "";
-    for number in 1..11 {
+    for number in 1..KINDS + 1 {
         if has(u128::from(counted), number) {
             write!(out, "{comma}{number}")?;
             comma = ",";

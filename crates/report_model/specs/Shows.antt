@@ -11,6 +11,7 @@ use Rattle.crash_model.specs.PatchTexts.{act_text}
 use Rattle.crash_model.specs.Waiting.{Wait}
 use Rattle.crash_model.specs.declared.fault.Fault.{Fault}
 use Rattle.crash_model.specs.declared.fault.Fault.TheVariants.{BrokenPromise}
+use Rattle.crash_model.specs.declared.fault_kind.TheConstants.{KINDS}
 use Rattle.crash_model.specs.declared.promises.Spare.{Spare}
 use Rattle.crash_model.specs.declared.showing.Shown.{Shown}
 use Rattle.report_model.specs.Parts.{line, numbers}
@@ -101,4 +102,4 @@ promise_json n promise =
 
 -- the numbers of the faults that count, ascending
 abbrev pub counted_numbers : ℕ → List ℕ
-counted_numbers counted = filter (has counted) (range_with_len 1 10)
+counted_numbers counted = filter (has counted) (range_with_len 1 KINDS)

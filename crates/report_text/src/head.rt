@@ -9,6 +9,7 @@ ghost use Rattle.report_model.specs.OptionTexts.{ordering_text};
 ghost use Rattle.crash_model.specs.Texts.{module_text};
 ghost use Rattle.report_model.specs.WholeText.{head_text};
 
+use crash_model::fault_kind::KINDS;
 use crash_model::rules::Rule;
 use crash_model::settings::Settings;
 use patch_sets::set::has;
@@ -139,7 +140,7 @@ fn write_counted_line<A: Allocator>(
 fn write_counted<A: Allocator>(out: &mut String<A>, counted: u128) -> Result<(), AllocError>
     ensures { OnOk result (string_bytes out.new ≡ string_bytes out.old ++ numbers (counted_numbers counted)) }
 {
-    for number in 1..11 {
+    for number in 1..KINDS + 1 {
         write_if_counted(out, counted, number)?;
     }
     Ok(())

@@ -2,7 +2,7 @@
 
 use command_line::settings_of;
 use crash_model::visit::{Explorer, ReportBy, Visit};
-use question_model::{Question, WorkloadLength};
+use question_model::Question;
 use std::test::Fail;
 
 /// The visit that no word asks for.
@@ -13,7 +13,7 @@ const PLAIN: Visit = Visit {
 };
 
 /// Words, and the question that they ask.
-const ASKED: [(&[&str], Question); 9] = [
+const ASKED: [(&[&str], Question); 5] = [
     (&[], Question::Visit(PLAIN)),
     (
         &["--summary", "--limit=1"],
@@ -26,19 +26,15 @@ const ASKED: [(&[&str], Question); 9] = [
     (&["--decide", "--workers=2", "--strict"], Question::Decide),
     (&["--enough", "--workers=2", "--strict"], Question::Enough),
     (&["--syncs", "--strict", "--enough"], Question::EnoughLines),
-    (&["--search=1"], Question::Search(WorkloadLength::One)),
-    (
-        &["--strict", "--search", "8"],
-        Question::Search(WorkloadLength::Eight),
-    ),
-    (
-        &["--search=3", "--enough"],
-        Question::SearchRules(WorkloadLength::Three),
-    ),
-    (
-        &["--enough", "--strict", "--search", "7"],
-        Question::SearchRules(WorkloadLength::Seven),
-    ),
+];
+
+/// Words that ask for a search, and how many operations its longest workloads have.
+const SEARCHED: [(&[&str], usize); 2] = [(&["--search=1"], 1), (&["--strict", "--search", "8"], 8)];
+
+/// Words that ask which rules are enough for a search, and how many operations its longest workloads have.
+const SEARCHED_FOR_RULES: [(&[&str], usize); 2] = [
+    (&["--search=3", "--enough"], 3),
+    (&["--enough", "--strict", "--search", "7"], 7),
 ];
 
 /// Words, the explorer that they ask for, and the number of workers.
@@ -72,6 +68,40 @@ fn a_question_is_read(rt: HostRuntime) -> Result<(), Fail> {
     for (words, question) in ASKED {
         let call = settings_of(rt.alloc(), words)?;
         assert!(rt; call.request.question == question);
+    }
+    Ok(())
+}
+
+/// How many operations the longest workloads have, if the question is which of them fail.
+fn longest_searched(question: &Question) -> Option<usize> {
+    match question {
+        Question::Search(longest) => Some(longest.operations()),
+        _ => None,
+    }
+}
+
+/// How many operations the longest workloads have, if the question is which rules are enough for them.
+fn longest_searched_for_rules(question: &Question) -> Option<usize> {
+    match question {
+        Question::SearchRules(longest) => Some(longest.operations()),
+        _ => None,
+    }
+}
+
+#[test]
+fn a_search_is_read(rt: HostRuntime) -> Result<(), Fail> {
+    for (words, most) in SEARCHED {
+        let call = settings_of(rt.alloc(), words)?;
+        assert!(rt; longest_searched(&call.request.question) == Some(most));
+    }
+    Ok(())
+}
+
+#[test]
+fn a_search_for_rules_is_read(rt: HostRuntime) -> Result<(), Fail> {
+    for (words, most) in SEARCHED_FOR_RULES {
+        let call = settings_of(rt.alloc(), words)?;
+        assert!(rt; longest_searched_for_rules(&call.request.question) == Some(most));
     }
     Ok(())
 }

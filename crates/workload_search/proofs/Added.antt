@@ -3,7 +3,7 @@ use Rattle.std.proofs.Common.{◌≡◌, ℕ, ◌+◌, ◌<◌, List, [], ◌∷
 use Rattle.std.proofs.Common.{sym, subst, ap, ◌∙◌, arith, set, eqb-true, eq-eqb}
 use Rattle.std.specs.Prelude.{slice_index, slice_index_or, ◌==◌}
 use Rattle.std.proofs.lemmas.List.{get_or-set_same, get_or-set_other, length-set}
-use Rattle.question_model.specs.declared.refusal.Refusal.{Refusal}
+use Rattle.crash_model.specs.declared.refusal.Refusal.{Refusal}
 use Rattle.question_model.specs.declared.verdict.Verdict.{Verdict}
 use Rattle.question_model.specs.declared.verdict.Verdict.TheVariants as verdict
 use Rattle.workload_search.specs.Tallies.{Tried, tried_as, reason_place, IsTally, AreKindsAdded, AreKindsJoined}

@@ -19,7 +19,8 @@ module _ (s : Search) where
 
   rest_is : (group rest : ℕ) → IsDifference all group rest → rules_in s.rules rest ≡ rules_but s.rules group
   rest_is group rest apart =
-      rest_rules (record { kept = None; disks = None; promises = None; counted = None }) s.base (trace_start s.whole s.base) s.rules all
+      rest_rules (record { kept = None; disks = None; promises = None; counted = None }) s.base
+      (trace_start s.whole s.base) s.rules all
       (all_places s.rules) group rest apart
 
   pub minimal_same : (set : ℕ) → IsMinimalEnough all (IsEnoughInSearch s) set ↔ IsMinimalInSearch s set

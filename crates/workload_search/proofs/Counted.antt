@@ -10,8 +10,8 @@ use Rattle.std.proofs.lemmas.List.Sums.{length-filter}
 use Rattle.std.proofs.lemmas.Option.{some_pair_parts}
 use Rattle.question_model.specs.Sequences.{IsSequenceBefore, AreAllSequences, CountsSequences}
 use Rattle.question_model.specs.Workloads.{Search, IsWorkload, IsFailingWorkload, IsRefusedFor, ShowsKind}
-use Rattle.question_model.specs.declared.fault_kind.FaultKind.{FaultKind}
-use Rattle.question_model.specs.declared.refusal.Refusal.{Refusal}
+use Rattle.crash_model.specs.declared.fault_kind.FaultKind.{FaultKind}
+use Rattle.crash_model.specs.declared.refusal.Refusal.{Refusal}
 use Rattle.patch_sets.proofs.Lists.{front_or_rest, in_front, in_rest}
 use Rattle.question_model.specs.Verdict.{IsVerdict}
 use Rattle.workload_search.specs.Tallies.{Tried, is_accepted, is_failing, is_refused_at, shows_at, first_at}

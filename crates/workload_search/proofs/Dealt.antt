@@ -1,5 +1,5 @@
 -- Sequences that are dealt out to parts.
-use Rattle.std.proofs.Common.{◌≡◌, ℕ, ◌+◌, ◌%◌, ◌<◌, ◌≤◌, List, length, get_or, arith, inl, inr}
+use Rattle.std.proofs.Common.{ℕ, ◌+◌, ◌%◌, ◌<◌, ◌≤◌, List, length, get_or, arith, inl, inr}
 use Rattle.std.specs.Prelude.{◌↔◌, Result, IfOk, Vec, slice_index_or}
 use Rattle.std.proofs.Math.Nat.{mod-lt}
 use Rattle.std.proofs.lemmas.List.Elements.{All-contains, Contains-get_or}

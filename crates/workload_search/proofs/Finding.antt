@@ -11,11 +11,11 @@ use Rattle.question_model.specs.SearchCounts.{AreSearchCounts, IsCounted, IsShow
 use Rattle.question_model.specs.Sequences.{IsSequenceBefore, CountsSequences}
 use Rattle.question_model.specs.Workloads.{Search, IsWorkload, IsFailingWorkload, IsRefusedFor, ShowsKind, HasPatches}
 use Rattle.question_model.specs.Workloads.{HasKind}
-use Rattle.question_model.specs.declared.fault_kind.FaultKind.{FaultKind}
+use Rattle.crash_model.specs.declared.fault_kind.FaultKind.{FaultKind}
 use Rattle.question_model.specs.declared.found.SearchCounts.{SearchCounts}
 use Rattle.question_model.specs.declared.found.RefusedCount.{RefusedCount}
 use Rattle.question_model.specs.declared.found.ShownKind.{ShownKind}
-use Rattle.question_model.specs.declared.refusal.Refusal.{Refusal}
+use Rattle.crash_model.specs.declared.refusal.Refusal.{Refusal}
 use Rattle.question_model.specs.Verdict.{IsVerdict, IsFirstOfKind}
 use Rattle.workload_search.specs.Tallies.{Tried, IsTally, is_accepted, is_failing, is_refused_at, shows_at, first_at}
 use Rattle.workload_search.specs.Tallies.{reason_place, kind_place, listed_first}
@@ -27,7 +27,8 @@ use Rattle.workload_search.specs.declared.tally.SearchTally.{SearchTally}
 use Rattle.workload_search.proofs.Counted.{AreAllTried, IsRight, IsFirstOf, places_of, counts_with, some_with}
 use Rattle.workload_search.proofs.Counted.{workloads, failing, refused, shown, first_of, some_first}
 use Rattle.workload_search.proofs.Lists.{in_map, from_map}
-use Rattle.workload_search.proofs.Verdicts.{reason_low, kind_low}
+use Rattle.workload_search.proofs.Verdicts.{reason_low}
+use Rattle.crash_model.proofs.KindNumbers.{kind_low}
 
 -- any tally of a kind; it is read nowhere
 blank : KindTally

@@ -7,17 +7,20 @@ use Rattle.std.proofs.lemmas.List.{length-append, map-append}
 use Rattle.std.proofs.lemmas.List.Elements.{All-nil, All-push, All-weaker, Contains-push, Contains-append_left}
 use Rattle.std.proofs.lemmas.List.Quantifiers.{all_pairs_push}
 use Rattle.patch_sets.proofs.Bits.{eq_or_not}
-use Rattle.question_model.specs.Kinds.{kind_number}
-use Rattle.question_model.specs.Refused.{refusal_number}
-use Rattle.question_model.specs.declared.fault_kind.FaultKind.{FaultKind}
+use Rattle.crash_model.specs.FaultKinds.{kind_number}
+use Rattle.crash_model.specs.Refused.{refusal_number}
+use Rattle.crash_model.specs.declared.fault_kind.FaultKind.{FaultKind}
+use Rattle.crash_model.specs.declared.fault_kind.TheConstants.{KINDS}
 use Rattle.question_model.specs.declared.found.RefusedCount.{RefusedCount}
 use Rattle.question_model.specs.declared.found.ShownKind.{ShownKind}
-use Rattle.question_model.specs.declared.refusal.Refusal.{Refusal}
+use Rattle.crash_model.specs.declared.refusal.Refusal.{Refusal}
+use Rattle.crash_model.specs.declared.refusal.TheConstants.{REFUSALS}
 use Rattle.workload_search.specs.Tallies.{reason_place, kind_place, listed_first}
 use Rattle.workload_search.specs.Listed.{IsListedReason, AreListedReasons, IsListedKindTally, AreListedKinds}
 use Rattle.workload_search.specs.declared.kinds.KindTally.{KindTally}
 use Rattle.workload_search.proofs.Lists.{no_pairs}
-use Rattle.workload_search.proofs.Verdicts.{same_place, same_kind, reason_low, kind_low}
+use Rattle.workload_search.proofs.Verdicts.{same_place, reason_low}
+use Rattle.crash_model.proofs.KindNumbers.{same_kind, kind_low}
 
 -- ---- reasons
 
@@ -77,7 +80,7 @@ reason_passed counts i refused are none = record {
 }
 
 pub all_reasons : (counts : List ℕ) (i : ℕ) (refused : List RefusedCount) → AreListedReasonsBelow counts i refused
-    → 12 ≤ i → AreListedReasons counts refused
+    → REFUSALS ≤ i → AreListedReasons counts refused
 all_reasons counts i refused are all = record {
   ordered = are.ordered;
   each = are.each;
@@ -145,8 +148,8 @@ kind_passed kinds i shown are none = record {
   ];
 }
 
-pub all_kinds : (kinds : List KindTally) (i : ℕ) (shown : List ShownKind) → AreListedKindsBelow kinds i shown → 10 ≤ i
-    → AreListedKinds kinds shown
+pub all_kinds : (kinds : List KindTally) (i : ℕ) (shown : List ShownKind) → AreListedKindsBelow kinds i shown
+    → KINDS ≤ i → AreListedKinds kinds shown
 all_kinds kinds i shown are all = record {
   ordered = are.ordered;
   each = are.each;

@@ -4,7 +4,7 @@ use Rattle.std.proofs.Common.{sym, ap, subst, ◌∙◌, inl, inr, length-append
 use Rattle.std.specs.List.{All}
 use Rattle.std.proofs.lemmas.List.Elements.{All-push, All-nil, All-cons}
 use Rattle.question_model.specs.Workloads.{Search, IsWorkload, IsBeginning, IsRefusedFor, Fails}
-use Rattle.question_model.specs.declared.refusal.Refusal.{Refusal}
+use Rattle.crash_model.specs.declared.refusal.Refusal.{Refusal}
 use Rattle.question_model.specs.Verdict.{IsAccepted, IsRefusal}
 use Rattle.workload_search.proofs.Accepted.{accepted_front}
 

@@ -6,7 +6,9 @@ use Rattle.std.specs.List.{All, count_by}
 use Rattle.std.proofs.lemmas.List.{get_or-set_same, get_or-set_other, length_push}
 use Rattle.std.proofs.lemmas.List.Elements.{All-push}
 use Rattle.std.proofs.lemmas.List.Sums.{sum_by-append, sum_by_push, count_by-le-length}
+use Rattle.crash_model.specs.declared.refusal.TheConstants.{REFUSALS}
 use Rattle.patch_sets.proofs.Bits.{eq_or_not}
+use Rattle.crash_model.specs.declared.fault_kind.TheConstants.{KINDS}
 use Rattle.workload_search.specs.Tallies.{Tried, tried_as, is_accepted, is_failing, is_refused_at, first_at, shows_at}
 use Rattle.workload_search.specs.Tallies.{number_of, or_else, with_places, first_shown, listed_first, IsKindTally}
 use Rattle.workload_search.specs.Tallies.{IsTally, HasRoom, HaveRoom, IsKindAdded, IsKindJoined}
@@ -96,8 +98,8 @@ kind_joined i tried others later old new is after joined = record {
 -- ---- tallies
 
 module _ {A : Type 0} where
-  pub no_tally : (tally : SearchTally A) → tally.workloads ≡ 0 → tally.failing ≡ 0 → length tally.refused ≡ 12
-      → ((i : ℕ) → i < 12 → slice_index tally.refused i ≡ 0) → AreNoKinds tally.kinds.items → IsTally [] tally
+  pub no_tally : (tally : SearchTally A) → tally.workloads ≡ 0 → tally.failing ≡ 0 → length tally.refused ≡ REFUSALS
+      → ((i : ℕ) → i < REFUSALS → slice_index tally.refused i ≡ 0) → AreNoKinds tally.kinds.items → IsTally [] tally
   no_tally tally workloads failing long refused kinds = record {
     workloads = workloads;
     failing = failing;
@@ -112,10 +114,10 @@ module _ {A : Type 0} where
     pub workloads : new.workloads ≡ old.workloads + cond (is_accepted v) 1 0
     pub failing : new.failing ≡ old.failing + cond (is_failing v) 1 0
     pub refused_long : length new.refused ≡ length old.refused
-    pub refused : (i : ℕ) → i < 12
+    pub refused : (i : ℕ) → i < REFUSALS
         → slice_index new.refused i ≡ slice_index old.refused i + cond (is_refused_at i v) 1 0
     pub kinds_long : length new.kinds.items ≡ length old.kinds.items
-    pub kinds : (i : ℕ) (d : KindTally) → i < 10
+    pub kinds : (i : ℕ) (d : KindTally) → i < KINDS
         → IsKindAdded places (first_at i v) (slice_index_or old.kinds.items i d) (slice_index_or new.kinds.items i d)
 
   pub tally_added : (tried : List Tried) (places : List ℕ) (v : Verdict) (old new : SearchTally A) → IsTally tried old
@@ -165,10 +167,10 @@ module _ {A : Type 0} where
   pub record IsRoom (more : ℕ) (tally : SearchTally A) : Type 0 where
     pub workloads : tally.workloads + more < 2 ^ 128
     pub failing : tally.failing + more < 2 ^ 128
-    pub refused_long : length tally.refused ≡ 12
-    pub refused : (i : ℕ) → i < 12 → slice_index tally.refused i + more < 2 ^ 128
-    pub kinds_long : length tally.kinds.items ≡ 10
-    pub kinds : (i : ℕ) (d : KindTally) → i < 10 → (slice_index_or tally.kinds.items i d).workloads + more < 2 ^ 128
+    pub refused_long : length tally.refused ≡ REFUSALS
+    pub refused : (i : ℕ) → i < REFUSALS → slice_index tally.refused i + more < 2 ^ 128
+    pub kinds_long : length tally.kinds.items ≡ KINDS
+    pub kinds : (i : ℕ) (d : KindTally) → i < KINDS → (slice_index_or tally.kinds.items i d).workloads + more < 2 ^ 128
 
   pub room_of : (more : ℕ) (tally : SearchTally A) → HasRoom more tally → IsRoom more tally
   room_of more tally has =
@@ -185,8 +187,8 @@ module _ {A : Type 0} where
   pub record IsRoomFor (tally later : SearchTally A) : Type 0 where
     pub workloads : tally.workloads + later.workloads < 2 ^ 128
     pub failing : tally.failing + later.failing < 2 ^ 128
-    pub refused : (i : ℕ) → i < 12 → slice_index tally.refused i + slice_index later.refused i < 2 ^ 128
-    pub long : (length tally.kinds.items ≡ 10) × (length later.kinds.items ≡ 10)
+    pub refused : (i : ℕ) → i < REFUSALS → slice_index tally.refused i + slice_index later.refused i < 2 ^ 128
+    pub long : (length tally.kinds.items ≡ KINDS) × (length later.kinds.items ≡ KINDS)
     pub kinds : KindsHaveRoomFor tally.kinds.items later.kinds.items
 
   pub room_for : (tally later : SearchTally A) → HaveRoom tally later → IsRoomFor tally later
@@ -234,7 +236,7 @@ pub record IsEmpty (kind : KindTally) : Type 0 where
   pub workloads : kind.workloads ≡ 0
   pub first : listed_first kind.first ≡ None
 
-pub no_kinds_yet : (kinds : List KindTally) (i : ℕ) → length kinds ≡ i → All IsEmpty kinds → 10 ≤ i → i ≤ 10
+pub no_kinds_yet : (kinds : List KindTally) (i : ℕ) → length kinds ≡ i → All IsEmpty kinds → KINDS ≤ i → i ≤ KINDS
     → AreNoKinds kinds
 no_kinds_yet kinds i long empty all few = record {
   long = omega arith;

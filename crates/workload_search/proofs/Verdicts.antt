@@ -6,13 +6,13 @@ use Rattle.crash_model.specs.Checker.{Demands}
 use Rattle.crash_model.specs.Tracing.{Tracing}
 use Rattle.crash_model.specs.declared.refusals.TraceFault.{TraceFault}
 use Rattle.crash_model.specs.declared.patches.Patch.{Patch}
-use Rattle.question_model.specs.Refused.{refusal_of}
+use Rattle.crash_model.specs.Refused.{refusal_of}
 use Rattle.question_model.specs.Workloads.{Search, ShowsKind, HasPatches}
 use Rattle.question_model.specs.Workloads.{Fails, HasKind}
-use Rattle.question_model.specs.declared.fault_kind.FaultKind.{FaultKind}
-use Rattle.question_model.specs.declared.fault_kind.FaultKind.TheVariants as kind
-use Rattle.question_model.specs.declared.refusal.Refusal.{Refusal}
-use Rattle.question_model.specs.declared.refusal.Refusal.TheVariants as refused
+use Rattle.crash_model.specs.declared.fault_kind.FaultKind.{FaultKind}
+use Rattle.crash_model.specs.declared.refusal.Refusal.{Refusal}
+use Rattle.crash_model.specs.declared.refusal.Refusal.TheVariants as refused
+use Rattle.crash_model.specs.declared.refusal.TheConstants.{REFUSALS}
 use Rattle.question_model.specs.Verdict.{IsVerdict, IsRefusal, IsAccepted, IsFirstOfKind}
 use Rattle.workload_search.specs.Tallies.{is_accepted, is_passing, is_failing, is_refused_at, shows_at}
 use Rattle.workload_search.specs.Tallies.{reason_place, kind_place}
@@ -21,18 +21,13 @@ use Rattle.question_model.specs.declared.verdict.Verdict.TheVariants as verdict
 use Rattle.workload_search.proofs.Accepted.{not_both}
 use Rattle.workload_search.proofs.Sequences.{IsTriedSequence, tried_workload}
 
--- ---- the places of reasons and kinds
+-- ---- the places of reasons
 
 abbrev reasons : List Refusal
 reasons =
     refused.TooManyPatches ∷ refused.NotFound ∷ refused.NotADirectory ∷ refused.Exists ∷ refused.NotAFile
     ∷ refused.NotEmpty ∷ refused.NoInode ∷ refused.NoBlock ∷ refused.DirectoryFull ∷ refused.FileFull
     ∷ refused.LinksFull ∷ refused.JournalFull ∷ []
-
-abbrev kinds : List FaultKind
-kinds =
-    kind.Dangling ∷ kind.Twice ∷ kind.Unwritten ∷ kind.LowLinks ∷ kind.MarkedFree ∷ kind.Wild ∷ kind.Lost
-    ∷ kind.NoBlock ∷ kind.HalfDone ∷ kind.BrokenPromise ∷ []
 
 reason_at_place : (a : Refusal) → slice_index_or reasons (reason_place a) refused.JournalFull ≡ a
 reason_at_place refused.TooManyPatches = refl
@@ -48,26 +43,11 @@ reason_at_place refused.FileFull = refl
 reason_at_place refused.LinksFull = refl
 reason_at_place refused.JournalFull = refl
 
-kind_at_place : (a : FaultKind) → slice_index_or kinds (kind_place a) kind.BrokenPromise ≡ a
-kind_at_place kind.Dangling = refl
-kind_at_place kind.Twice = refl
-kind_at_place kind.Unwritten = refl
-kind_at_place kind.LowLinks = refl
-kind_at_place kind.MarkedFree = refl
-kind_at_place kind.Wild = refl
-kind_at_place kind.Lost = refl
-kind_at_place kind.NoBlock = refl
-kind_at_place kind.HalfDone = refl
-kind_at_place kind.BrokenPromise = refl
-
 pub same_place : (a b : Refusal) → reason_place a ≡ reason_place b → a ≡ b
 same_place a b e = sym (reason_at_place a)
     ∙ (ap (λ i. slice_index_or reasons i refused.JournalFull) e ∙ reason_at_place b)
 
-pub same_kind : (a b : FaultKind) → kind_place a ≡ kind_place b → a ≡ b
-same_kind a b e = sym (kind_at_place a) ∙ (ap (λ i. slice_index_or kinds i kind.BrokenPromise) e ∙ kind_at_place b)
-
-pub reason_low : (a : Refusal) → reason_place a < 12
+pub reason_low : (a : Refusal) → reason_place a < REFUSALS
 reason_low refused.TooManyPatches = omega arith
 reason_low refused.NotFound = omega arith
 reason_low refused.NotADirectory = omega arith
@@ -80,18 +60,6 @@ reason_low refused.DirectoryFull = omega arith
 reason_low refused.FileFull = omega arith
 reason_low refused.LinksFull = omega arith
 reason_low refused.JournalFull = omega arith
-
-pub kind_low : (a : FaultKind) → kind_place a < 10
-kind_low kind.Dangling = omega arith
-kind_low kind.Twice = omega arith
-kind_low kind.Unwritten = omega arith
-kind_low kind.LowLinks = omega arith
-kind_low kind.MarkedFree = omega arith
-kind_low kind.Wild = omega arith
-kind_low kind.Lost = omega arith
-kind_low kind.NoBlock = omega arith
-kind_low kind.HalfDone = omega arith
-kind_low kind.BrokenPromise = omega arith
 
 module _ (s : Search) (places : List ℕ) where
   -- ---- accepted

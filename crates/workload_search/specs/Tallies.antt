@@ -2,10 +2,12 @@
 use Rattle.std.specs.Prelude.{◌≡◌, ℕ, ◌+◌, ◌-◌, ◌<◌, ◌^◌, ◌==◌, List, [], ◌∷◌, length, Bool, true, false, Option, Some}
 use Rattle.std.specs.Prelude.{None, is_some, slice_index, slice_index_or}
 use Rattle.std.specs.List.{count_by}
-use Rattle.question_model.specs.Kinds.{kind_number}
-use Rattle.question_model.specs.Refused.{refusal_number}
-use Rattle.question_model.specs.declared.fault_kind.FaultKind.{FaultKind}
-use Rattle.question_model.specs.declared.refusal.Refusal.{Refusal}
+use Rattle.crash_model.specs.FaultKinds.{kind_number}
+use Rattle.crash_model.specs.Refused.{refusal_number}
+use Rattle.crash_model.specs.declared.fault_kind.FaultKind.{FaultKind}
+use Rattle.crash_model.specs.declared.fault_kind.TheConstants.{KINDS}
+use Rattle.crash_model.specs.declared.refusal.Refusal.{Refusal}
+use Rattle.crash_model.specs.declared.refusal.TheConstants.{REFUSALS}
 use Rattle.question_model.specs.declared.verdict.Verdict.{Verdict}
 use Rattle.question_model.specs.declared.verdict.Verdict.TheVariants as verdict
 use Rattle.workload_search.specs.declared.kinds.First.{First}
@@ -91,10 +93,10 @@ pub record IsKindTally (i : ℕ) (tried : List Tried) (kind : KindTally) : Type 
 pub record IsTally {A : Type 0} (tried : List Tried) (tally : SearchTally A) : Type 0 where
   pub workloads : tally.workloads ≡ number_of is_accepted tried
   pub failing : tally.failing ≡ number_of is_failing tried
-  pub refused_long : length tally.refused ≡ 12
-  pub refused : (i : ℕ) → i < 12 → slice_index tally.refused i ≡ number_of (is_refused_at i) tried
-  pub kinds_long : length tally.kinds.items ≡ 10
-  pub kinds : (i : ℕ) (d : KindTally) → i < 10 → IsKindTally i tried (slice_index_or tally.kinds.items i d)
+  pub refused_long : length tally.refused ≡ REFUSALS
+  pub refused : (i : ℕ) → i < REFUSALS → slice_index tally.refused i ≡ number_of (is_refused_at i) tried
+  pub kinds_long : length tally.kinds.items ≡ KINDS
+  pub kinds : (i : ℕ) (d : KindTally) → i < KINDS → IsKindTally i tried (slice_index_or tally.kinds.items i d)
 
 -- this many more sequences can be counted
 pub record HasRoom {A : Type 0} (more : ℕ) (tally : SearchTally A) : Type 0 where
@@ -113,16 +115,16 @@ pub record HaveRoom {A : Type 0} (tally later : SearchTally A) : Type 0 where
 -- ---- lists of counts
 
 pub record AreNoKinds (kinds : List KindTally) : Type 0 where
-  pub long : length kinds ≡ 10
-  pub none : (i : ℕ) (d : KindTally) → i < 10 → IsKindTally i [] (slice_index_or kinds i d)
+  pub long : length kinds ≡ KINDS
+  pub none : (i : ℕ) (d : KindTally) → i < KINDS → IsKindTally i [] (slice_index_or kinds i d)
 
 -- one more workload can be counted of each kind
 abbrev pub KindsHaveRoom : List KindTally → Type 0
-KindsHaveRoom kinds = (i : ℕ) (d : KindTally) → i < 10 → (slice_index_or kinds i d).workloads + 1 < 2 ^ 128
+KindsHaveRoom kinds = (i : ℕ) (d : KindTally) → i < KINDS → (slice_index_or kinds i d).workloads + 1 < 2 ^ 128
 
 abbrev pub KindsHaveRoomFor : List KindTally → List KindTally → Type 0
 KindsHaveRoomFor kinds later =
-    (i : ℕ) (d : KindTally) → i < 10
+    (i : ℕ) (d : KindTally) → i < KINDS
     → (slice_index_or kinds i d).workloads + (slice_index_or later i d).workloads < 2 ^ 128
 
 -- what is counted of a kind with one more workload, which shows the kind if it has a first set
@@ -134,7 +136,7 @@ IsKindAdded places (Some set) old new =
 
 pub record AreKindsAdded (places : List ℕ) (firsts : List (Option ℕ)) (old new : List KindTally) : Type 0 where
   pub long : length new ≡ length old
-  pub each : (i : ℕ) (d : KindTally) → i < 10
+  pub each : (i : ℕ) (d : KindTally) → i < KINDS
       → IsKindAdded places (slice_index_or firsts i None) (slice_index_or old i d) (slice_index_or new i d)
 
 pub record IsKindJoined (later old new : KindTally) : Type 0 where
@@ -143,9 +145,9 @@ pub record IsKindJoined (later old new : KindTally) : Type 0 where
 
 pub record AreKindsJoined (later old new : List KindTally) : Type 0 where
   pub long : length new ≡ length old
-  pub each : (i : ℕ) (d : KindTally) → i < 10
+  pub each : (i : ℕ) (d : KindTally) → i < KINDS
       → IsKindJoined (slice_index_or later i d) (slice_index_or old i d) (slice_index_or new i d)
 
 pub record AreCountsJoined (old later new : List ℕ) : Type 0 where
   pub long : length new ≡ length old
-  pub each : (i : ℕ) → i < 12 → slice_index new i ≡ slice_index old i + slice_index later i
+  pub each : (i : ℕ) → i < REFUSALS → slice_index new i ≡ slice_index old i + slice_index later i

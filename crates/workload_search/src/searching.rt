@@ -2,6 +2,7 @@
 ghost use Rattle.std.specs.Prelude.{◌≡◌, ◌<◌, ◌≤◌, ◌+◌, ◌^◌, ◌↔◌, ◌⊎◌, List, ℕ, [], ◌∷◌, ◌++◌, true, length, map};
 ghost use Rattle.std.specs.Prelude.{IfOk, IsTrue, OnOk};
 ghost use Rattle.question_model.specs.SearchCounts.{AreSearchCounts};
+ghost use Rattle.question_model.specs.declared.length.TheConstants.{MAX_OPERATIONS};
 ghost use Rattle.workload_search.specs.Passing.{AreAllPassing};
 ghost use Rattle.workload_search.specs.Tries.{items_of};
 
@@ -21,8 +22,8 @@ pub struct FoundWorkloads<A: Allocator> {
     pub passing: Vec<Places, A>,
 }
 
-/// What is found of the workloads of up to `most` operations, 1 to 8, of the pool of the judge's search, which has
-/// `pool` operations. If `keeps`, those that do not fail are kept.
+/// What is found of the workloads of up to `most` operations, 1 to `MAX_OPERATIONS`, of the pool of the judge's search.
+/// It has `pool` operations. If `keeps`, the workloads that do not fail are kept.
 ///
 /// The result is the same for each number of workers. The gate counts each workload, as a visited set, and whether it
 /// fails.
@@ -47,7 +48,7 @@ where
     requires pool { pool ≡ length (J.search judge.now).pool }
     requires small { pool < 2 ^ 62 }
     requires most { most ≡ (J.search judge.now).most }
-    requires range { (1 ≤ most) × (most ≤ 8) }
+    requires range { (1 ≤ most) × (most ≤ MAX_OPERATIONS) }
     ensures found { IfOk result (λ searched. AreSearchCounts (J.search judge.now) searched.found) }
     ensures passing { keeps ≡ true → IfOk result (λ searched.
         AreAllPassing (J.search judge.now) (map items_of searched.passing.items)) }
@@ -74,7 +75,8 @@ where
     Ok(FoundWorkloads { found, passing })
 }
 
-/// Whether sequences that pass are wanted of the level after this number of operations: to be kept, or to be made longer.
+/// Whether sequences that pass are wanted of the level after this number of operations: to be kept, or to be made
+/// longer.
 fn are_wanted(keeps: bool, made: usize, most: usize) -> bool
     requires { made < most }
     ensures { IsTrue result ↔ ((keeps ≡ true) ⊎ (made + 1 < most)) }

@@ -1,10 +1,12 @@
 //! What is counted of sequences that were tried.
 ghost use Rattle.std.specs.Prelude.{◌≡◌, ◌<◌, ◌++◌, ◌∷◌, List, [], IfOk};
 ghost use Rattle.workload_search.specs.Tallies.{Tried, tried_as, IsTally, HasRoom, HaveRoom, reason_place};
+ghost use Rattle.crash_model.specs.declared.refusal.TheConstants.{REFUSALS};
 
 use crate::counts::{add_kinds, join_counts, join_kinds, no_kinds};
 use crate::kinds::KindTally;
-use question_model::{Places, REFUSALS, Refusal, Verdict};
+use crash_model::refusal::{REFUSALS, Refusal};
+use question_model::{Places, Verdict};
 use std::alloc::{AllocError, Allocator};
 
 /// How many sequences are workloads, how many fail, and how many are refused for each reason, in the order of their
@@ -63,7 +65,7 @@ impl<A: Allocator> SearchTally<A> {
 /// The place of a reason in the order of their numbers, from 0.
 pub(crate) fn place_of(reason: Refusal) -> usize
     ensures exact { result ≡ reason_place reason }
-    ensures small { result < 12 }
+    ensures small { result < REFUSALS }
 {
     match reason.number() {
         2 => 0,

@@ -3,7 +3,6 @@ use Rattle.std.specs.Prelude.{All}
 use Rattle.crash_model.specs.Disk.{IsDisk}
 use Rattle.crash_model.specs.declared.steps.Step.{Step}
 use Rattle.question_model.specs.SearchCounts.{AreSearchCounts}
-use Rattle.question_model.specs.Lengths.{operations_of}
 use Rattle.question_model.specs.SearchReport.{IsListedKind, search_bytes}
 use Rattle.question_model.specs.Workloads.{Search}
 use Rattle.pool_judging.specs.Pools.{IsKeep, IsPlace}
@@ -31,12 +30,12 @@ returns-clause-full g c = λ full none.
     let found = c.in_ok-searched.searched.found in
     let by = c.ordering-ordering in
     let steps = c.in_ok-steps.ensures.pool in
-    let same = same_search settings pool.base.now pool.steps.now (operations_of pool.longest) c.asked_of.result
+    let same = same_search settings pool.base.now pool.steps.now pool.longest c.asked_of.result
     c.deref-2.result.now c.deref.result.now by.result.«module» by.result.whole_blocks by.result.rules.items steps.all
     c.asked_of.ensures (c.deref-2.ensures.value ∙ steps.keeps) (c.deref.ensures.value ∙ steps.places)
     by.ensures.«module» by.ensures.whole by.ensures.rules in
     let disk : IsDisk pool.base.now = search rules in
-    none_reported settings (operations_of pool.longest) pool.base.now pool.steps.now found c.in_ok-outcome.outcome.number full
+    none_reported settings pool.longest pool.base.now pool.steps.now found c.in_ok-outcome.outcome.number full
     none disk c.requires.sound.0 c.requires.sound.1 c.requires.acts
     (subst (λ (s : Search). AreSearchCounts s found) same c.in_ok-searched.ensures.found) c.in_ok-outcome.ensures.number
 
@@ -48,7 +47,7 @@ returns-clause-reported g c =
     let by = c.ordering-ordering in
     let steps = c.in_ok-steps.ensures.pool in
     let places = c.deref.ensures.value ∙ steps.places in
-    let same = same_search settings pool.base.now pool.steps.now (operations_of pool.longest) c.asked_of.result
+    let same = same_search settings pool.base.now pool.steps.now pool.longest c.asked_of.result
     c.deref-2.result.now c.deref.result.now by.result.«module» by.result.whole_blocks by.result.rules.items steps.all
     c.asked_of.ensures (c.deref-2.ensures.value ∙ steps.keeps) places by.ensures.«module» by.ensures.whole
     by.ensures.rules in
@@ -61,7 +60,7 @@ returns-clause-reported g c =
         kinds = report.kinds;
         each = subst (λ (s : Search). All (IsListedKind s settings.explain) report.listed) same report.each;
         whole = report.whole
-            ∙ ap (λ (ps : List Step). search_bytes settings (operations_of pool.longest)
+            ∙ ap (λ (ps : List Step). search_bytes settings pool.longest
             (length ps) found report.listed)
             places;
         number_of = c.in_ok-outcome.ensures.number;

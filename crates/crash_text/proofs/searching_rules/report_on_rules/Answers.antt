@@ -2,7 +2,6 @@ use Rattle.std.proofs.Common.{ℕ, List, length, map, ap, ap₂, ◌∙◌, subs
 use Rattle.std.specs.Prelude.{All, ◌==◌}
 use Rattle.patch_sets.specs.Sets.{AreAllInOrder}
 use Rattle.question_model.specs.EnoughFor.{IsNeededInSearch}
-use Rattle.question_model.specs.Lengths.{operations_of}
 use Rattle.question_model.specs.SearchRulesReport.{search_rules_bytes}
 use Rattle.question_reports.specs.SearchRulesFindings.{listed_need}
 use Rattle.question_reports.specs.declared.search_rules.findings.NeededWorkload.{NeededWorkload}
@@ -36,7 +35,7 @@ returns-clause-report g c =
       listed = c.in_ok-needs.ensures.listed;
       whole = c.in_ok-search_rules_report.ensures
           ∙ (ap (λ (n : ℕ). form n c.deref-2.result.now c.deref-3.result.now) c.operations.ensures.same
-          ∙ ap₂ (form (operations_of judge.longest)) c.deref-2.ensures.value c.deref-3.ensures.value);
+          ∙ ap₂ (form judge.longest) c.deref-2.ensures.value c.deref-3.ensures.value);
     }
 
 pub returns-clause-number : goal.returns-clause-number

@@ -5,7 +5,6 @@ use Rattle.crash_model.specs.Disk.{IsDisk}
 use Rattle.crash_model.specs.declared.steps.Step.{Step}
 use Rattle.question_model.specs.EnoughFor.{IsMinimalInSearch, IsNeededInSearch}
 use Rattle.question_model.specs.SearchCounts.{AreSearchCounts}
-use Rattle.question_model.specs.Lengths.{operations_of}
 use Rattle.question_model.specs.SearchRulesReport.{IsListedNeed, search_rules_bytes}
 use Rattle.question_model.specs.Workloads.{Search}
 use Rattle.pool_judging.specs.Pools.{IsKeep, IsPlace}
@@ -33,12 +32,12 @@ returns-clause-full g c = λ full none.
     let found = c.in_ok-searched.searched.found in
     let by = c.ordering-ordering in
     let steps = c.in_ok-steps.ensures.pool in
-    let same = same_search settings pool.base.now pool.steps.now (operations_of pool.longest) c.asked_of.result
+    let same = same_search settings pool.base.now pool.steps.now pool.longest c.asked_of.result
     c.deref-2.result.now c.deref.result.now by.result.«module» by.result.whole_blocks by.result.rules.items steps.all
     c.asked_of.ensures (c.deref-2.ensures.value ∙ steps.keeps) (c.deref.ensures.value ∙ steps.places)
     by.ensures.«module» by.ensures.whole by.ensures.rules in
     let disk : IsDisk pool.base.now = search rules in
-    none_reported settings (operations_of pool.longest) pool.base.now pool.steps.now found c.in_ok-outcome.outcome.number full
+    none_reported settings pool.longest pool.base.now pool.steps.now found c.in_ok-outcome.outcome.number full
     none disk c.requires.sound.0 c.requires.sound.1 c.requires.acts
     (subst (λ (s : Search). AreSearchCounts s found) same c.in_ok-searched.ensures.found) c.in_ok-outcome.ensures.number
 
@@ -46,7 +45,7 @@ pub returns-clause-reported : goal.returns-clause-reported
 returns-clause-reported g c =
     let settings = c.args.request.now.settings in
     let pool = c.args.pool.now in
-    let longest = operations_of pool.longest in
+    let longest = pool.longest in
     let found = c.in_ok-searched.searched.found in
     let by = c.ordering-ordering in
     let steps = c.in_ok-steps.ensures.pool in

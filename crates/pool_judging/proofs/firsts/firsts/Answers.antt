@@ -1,26 +1,21 @@
-use Rattle.std.proofs.Common.{[], ◌∷◌, ◌-◌}
-use Rattle.std.specs.Prelude.{None, slice_index_or}
-use Rattle.question_model.specs.declared.fault_kind.FaultKind.TheVariants as kind
-use Rattle.question_model.specs.Kinds.{kind_number}
-use Rattle.question_model.specs.Verdict.{IsFirstOfKind}
-use Rattle.pool_judging.proofs.Least.{least_is_first}
+use Rattle.std.proofs.Common.{arith, ◌∙◌}
+use Rattle.std.proofs.lemmas.List.{length-set}
+use Rattle.crash_model.proofs.KindNumbers.{kind_low}
+use Rattle.pool_judging.proofs.Least.{least_is_first, least_below_more}
 use Rattle.pool_judging.proofs.firsts.firsts.Goals as goal
 
+pub loop-place-preserved : goal.loop-place-preserved
+loop-place-preserved c =
+    let sets = c.loop-place.first_sets in
+    let place = c.loop-place.place in
+    let are = c.loop-place.invariant in
+    record {
+      long = length-set sets place c.first_of.result ∙ are.long;
+      so_far = least_below_more c.args.faults.now place sets c.at.result c.first_of.result are.so_far
+          (omega (arith, are.long, c.loop-place-test.true)) c.at.ensures c.first_of.ensures;
+    }
+
 pub returns : goal.returns
-returns c = λ demands base patches are of_kind.
-    let first = least_is_first demands base patches c.args.faults.now in
-    elim of_kind as (λ k. IsFirstOfKind k demands base patches (slice_index_or (c.first_of.result ∷ c.first_of-2.result
-    ∷ c.first_of-3.result ∷ c.first_of-4.result ∷ c.first_of-5.result ∷ c.first_of-6.result ∷ c.first_of-7.result
-    ∷ c.first_of-8.result ∷ c.first_of-9.result ∷ c.first_of-10.result ∷ [])
-    (kind_number k - 1) None)) [
-      | kind.Dangling ↦ first kind.Dangling c.first_of.result are c.first_of.ensures
-      | kind.Twice ↦ first kind.Twice c.first_of-2.result are c.first_of-2.ensures
-      | kind.Unwritten ↦ first kind.Unwritten c.first_of-3.result are c.first_of-3.ensures
-      | kind.LowLinks ↦ first kind.LowLinks c.first_of-4.result are c.first_of-4.ensures
-      | kind.MarkedFree ↦ first kind.MarkedFree c.first_of-5.result are c.first_of-5.ensures
-      | kind.Wild ↦ first kind.Wild c.first_of-6.result are c.first_of-6.ensures
-      | kind.Lost ↦ first kind.Lost c.first_of-7.result are c.first_of-7.ensures
-      | kind.NoBlock ↦ first kind.NoBlock c.first_of-8.result are c.first_of-8.ensures
-      | kind.HalfDone ↦ first kind.HalfDone c.first_of-9.result are c.first_of-9.ensures
-      | kind.BrokenPromise ↦ first kind.BrokenPromise c.first_of-10.result are c.first_of-10.ensures
-    ]
+returns c = λ demands base patches are kind.
+    least_is_first demands base patches c.args.faults.now kind _ are
+    (c.loop-place.invariant.so_far kind (omega (arith, kind_low kind, c.loop-place-test.false)))

@@ -5,9 +5,8 @@ use Rattle.crash_model.specs.Texts.{fault_text}
 use Rattle.crash_model.specs.declared.operations.Op.TheVariants.{Create, Link}
 use Rattle.crash_model.specs.declared.steps.Act.TheVariants.{Do}
 use Rattle.question_model.specs.SearchReport.{search_text, text_search, json_search}
-use Rattle.question_model.specs.declared.fault_kind.FaultKind.TheVariants as kind
-use Rattle.question_model.specs.declared.length.WorkloadLength.TheVariants.{Two}
-use Rattle.question_model.specs.declared.refusal.Refusal.TheVariants as refused
+use Rattle.crash_model.specs.declared.fault_kind.FaultKind.TheVariants as kind
+use Rattle.crash_model.specs.declared.refusal.Refusal.TheVariants as refused
 use Rattle.worked_example_laws.specs.Examples.{root}
 use Rattle.worked_example_laws.specs.Opened.{planner, checker}
 use Rattle.question_laws.specs.Asked.{with_one_rule}
@@ -17,7 +16,7 @@ use Rattle.question_laws.proofs.examples.a_pool_of_two_operations_is_searched.Go
 pub returns : goal.returns
 unfolding planner checker fault_text search_text text_search json_search digits
 returns c = searched with_one_rule []
-    (Do (Create (root (codes "a"))) ∷ Do (Link (root (codes "a")) (root (codes "b"))) ∷ []) Two _
+    (Do (Create (root (codes "a"))) ∷ Do (Link (root (codes "a")) (root (codes "b"))) ∷ []) 2 _
     (record {
       workloads = (0 ∷ []) ∷ (0 ∷ 1 ∷ []) ∷ [];
       failing = (0 ∷ 1 ∷ []) ∷ [];

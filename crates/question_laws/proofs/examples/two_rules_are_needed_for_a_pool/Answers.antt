@@ -7,8 +7,7 @@ use Rattle.crash_model.specs.declared.operations.Op.TheVariants.{Create, Link}
 use Rattle.crash_model.specs.declared.steps.Act.TheVariants.{Do}
 use Rattle.question_model.specs.SearchReport.{search_text}
 use Rattle.question_model.specs.SearchRulesReport.{text_search_rules, json_search_rules}
-use Rattle.question_model.specs.declared.length.WorkloadLength.TheVariants.{Two}
-use Rattle.question_model.specs.declared.refusal.Refusal.TheVariants as refused
+use Rattle.crash_model.specs.declared.refusal.Refusal.TheVariants as refused
 use Rattle.worked_example_laws.specs.Examples.{root}
 use Rattle.worked_example_laws.specs.Opened.{planner, checker}
 use Rattle.question_laws.specs.Asked.{with_entry_rules}
@@ -18,7 +17,7 @@ use Rattle.question_laws.proofs.examples.two_rules_are_needed_for_a_pool.Goals a
 pub returns : goal.returns
 unfolding planner checker fault_text search_text text_search_rules json_search_rules digits
 returns c = searched_for_rules with_entry_rules []
-    (Do (Create (root (codes "a"))) ∷ Do (Link (root (codes "a")) (root (codes "b"))) ∷ []) Two _
+    (Do (Create (root (codes "a"))) ∷ Do (Link (root (codes "a")) (root (codes "b"))) ∷ []) 2 _
     (record {
       workloads = (0 ∷ []) ∷ (0 ∷ 1 ∷ []) ∷ [];
       failing = [];

@@ -15,9 +15,9 @@ loop-i-preserved c =
     let i = c.loop-i.i in
     elim c.if-counts-i-gt0.branch [
       | then-counts-i-gt0 w ↦
-          let listed : RefusedCount = record { reason = w.reason_at.result; count = slice_index counts i } in
+          let listed : RefusedCount = record { reason = w.at.result; count = slice_index counts i } in
           rw w.refused-is (rw w.push.ensures.items (reason_pushed counts i c.loop-i.refused.items listed
-          c.loop-i.invariant w.reason_at.ensures refl (omega arith)))
+          c.loop-i.invariant w.at.ensures refl (omega arith)))
       | else-counts-i-gt0 w ↦
           rw w.refused-is (reason_passed counts i c.loop-i.refused.items c.loop-i.invariant (omega arith))
     ]

@@ -13,7 +13,7 @@ loop-i-preserved c =
     let inside : i < length kinds = omega (arith, c.requires, c.loop-i-test.true) in
     elim c.match-kinds-i.branch [
       | in-Some w ↦ rw w.shown-is (rw w.push.ensures.items
-          (kind_pushed kinds i c.loop-i.shown.items _ c.loop-i.invariant w.kind_at.ensures
+          (kind_pushed kinds i c.loop-i.shown.items _ c.loop-i.invariant (omega (arith, w.at.ensures))
           (λ d. let same = get_or_default kinds i w.index-kinds-i-in-Some.result d inside in cc)
           (λ d. ap (λ (k : KindTally). listed_first k.first)
           (sym (get_or_default kinds i c.index-kinds-i.result d inside))

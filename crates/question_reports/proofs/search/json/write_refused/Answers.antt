@@ -2,7 +2,7 @@ use Rattle.std.proofs.Common.{List, ℕ, ◌++◌, get_or, string_bytes, refl, a
 use Rattle.json_values.proofs.Commas.{taken_more}
 use Rattle.question_model.specs.SearchReport.{refused_json}
 use Rattle.question_model.specs.declared.found.RefusedCount.{RefusedCount}
-use Rattle.question_model.specs.declared.refusal.Refusal.TheVariants.{TooManyPatches}
+use Rattle.crash_model.specs.declared.refusal.Refusal.TheVariants.{TooManyPatches}
 use Rattle.question_reports.proofs.search.json.write_refused.Goals as goal
 
 -- what is written if there is no reason

@@ -1,9 +1,9 @@
 //! Kinds of faults.
 
-ghost use Rattle.std.specs.Prelude.{◌≡◌};
-ghost use Rattle.question_model.specs.Kinds.{kind_of, kind_number, kind_name};
+ghost use Rattle.std.specs.Prelude.{◌≡◌, ◌+◌, ◌<◌};
+ghost use Rattle.crash_model.specs.FaultKinds.{kind_of, kind_number, kind_name};
 
-use crash_model::fault::Fault;
+use crate::fault::Fault;
 
 /// How many kinds there are.
 pub const KINDS: usize = 10;
@@ -43,7 +43,26 @@ impl FaultKind {
         }
     }
 
-    /// The number that the fault's text begins with, from 1 to 10.
+    /// The kind at a place in the order of their numbers, from 0.
+    pub fn at(place: usize) -> FaultKind
+        requires { place < KINDS }
+        ensures { kind_number result ≡ place + 1 }
+    {
+        match place {
+            0 => FaultKind::Dangling,
+            1 => FaultKind::Twice,
+            2 => FaultKind::Unwritten,
+            3 => FaultKind::LowLinks,
+            4 => FaultKind::MarkedFree,
+            5 => FaultKind::Wild,
+            6 => FaultKind::Lost,
+            7 => FaultKind::NoBlock,
+            8 => FaultKind::HalfDone,
+            _ => FaultKind::BrokenPromise,
+        }
+    }
+
+    /// The number that the fault's text begins with, from 1 to `KINDS`.
     pub fn number(self) -> usize
         ensures { result ≡ kind_number self }
     {

@@ -1,9 +1,11 @@
-//! Why an operation of a pool cannot follow a beginning.
+//! Why an operation is refused: the number and the text of each refusal of a step.
 
-ghost use Rattle.std.specs.Prelude.{◌≡◌};
-ghost use Rattle.question_model.specs.Refused.{refusal_of, refusal_number, refusal_text};
+ghost use Rattle.std.specs.Prelude.{◌≡◌, ◌-◌, ◌<◌};
+ghost use Rattle.crash_model.specs.Refused.{refusal_of, refusal_number, refusal_text};
+ghost use Rattle.crash_model.specs.declared.refusal.TheConstants.{REFUSALS};
 
-use crash_model::refusals::TraceFault;
+use crate::refusals::TraceFault;
+use std::fmt;
 
 /// How many refusals there are.
 pub const REFUSALS: usize = 12;
@@ -50,6 +52,27 @@ impl Refusal {
         }
     }
 
+    /// The refusal at a place, from 0, in the order of their numbers.
+    pub fn at(place: usize) -> Refusal
+        requires { place < REFUSALS }
+        ensures { refusal_number result - 9 ≡ place }
+    {
+        match place {
+            0 => Refusal::TooManyPatches,
+            1 => Refusal::NotFound,
+            2 => Refusal::NotADirectory,
+            3 => Refusal::Exists,
+            4 => Refusal::NotAFile,
+            5 => Refusal::NotEmpty,
+            6 => Refusal::NoInode,
+            7 => Refusal::NoBlock,
+            8 => Refusal::DirectoryFull,
+            9 => Refusal::FileFull,
+            10 => Refusal::LinksFull,
+            _ => Refusal::JournalFull,
+        }
+    }
+
     /// Its number, 2 or from 10 to 20.
     pub fn number(self) -> usize
         ensures { result ≡ refusal_number self }
@@ -88,5 +111,12 @@ impl Refusal {
             Refusal::LinksFull => "too many links",
             Refusal::JournalFull => "journal full",
         }
+    }
+}
+
+/// Writes its number, a space and its text.
+impl fmt::Display for Refusal {
+    fn fmt<W: fmt::Write>(&self, f: &mut fmt::Formatter<W>) -> fmt::Result {
+        write!(f, "{} {}", self.number(), self.text())
     }
 }

@@ -2,8 +2,8 @@
 use Rattle.std.specs.Prelude.{ℕ, List, codes, Option, Some, None}
 use Rattle.crash_model.specs.declared.refusals.TraceFault.{TraceFault}
 use Rattle.crash_model.specs.declared.refusals.TraceFault.TheVariants as trace
-use Rattle.question_model.specs.declared.refusal.Refusal.{Refusal}
-use Rattle.question_model.specs.declared.refusal.Refusal.TheVariants as refused
+use Rattle.crash_model.specs.declared.refusal.Refusal.{Refusal}
+use Rattle.crash_model.specs.declared.refusal.Refusal.TheVariants as refused
 
 -- the refusal without its line; that of a line that no pool has is not an operation's
 abbrev pub refusal_of : TraceFault → Option Refusal
