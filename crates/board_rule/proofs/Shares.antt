@@ -23,7 +23,8 @@ raised p d m k low high = mul_assoc p (2 ^ (m - d)) (2 ^ (k - m))
     ∙ ap (λ (x : ℕ). p * x) (sym (pow-add 2 (m - d) (k - m))
     ∙ ap (λ (j : ℕ). 2 ^ j) (let z : (m - d) + (k - m) ≡ k - d = omega (arith, low, high) in z))
 
-pub portion_both : (s u : Share) (k : ℕ) → s.cuts ≤ k → u.cuts ≤ k → portion (both_shares s u) k ≡ portion s k + portion u k
+pub portion_both : (s u : Share) (k : ℕ) → s.cuts ≤ k → u.cuts ≤ k
+    → portion (both_shares s u) k ≡ portion s k + portion u k
 portion_both s u k a b = let m = max s.cuts u.cuts in let most : m ≤ k = omega (arith, a, b) in
     add-mul (portion s m) (portion u m) (2 ^ (k - m)) ∙ ap (λ (x : ℕ). x + portion u m * 2 ^ (k - m))
     (raised s.parts s.cuts m k (omega arith) most) ∙ ap (λ (x : ℕ). portion s k + x)

@@ -216,7 +216,8 @@ module _ (waits : List Wait) (set : ℕ) (d : Disk) where
     unfolding broken_lines
     lines_have_forced of is found =
         let it = from_some_below (broken_among chosen) (lines_end (map (promise_waiting waits chosen) ps)) f found in
-        let both = when_parts (breaks_line (map (promise_waiting waits chosen) ps) set d it.0) (BrokenPromise it.0) f it.2
+        let both =
+        when_parts (breaks_line (map (promise_waiting waits chosen) ps) set d it.0) (BrokenPromise it.0) f it.2
         in
         let same : it.0 ≡ of = cc in
         subst (HasForced chosen) same (line_has_forced chosen others it.0 ps both.0)
@@ -227,7 +228,8 @@ module _ (waits : List Wait) (set : ℕ) (d : Disk) where
     unfolding broken_lines
     lines_still_broken has found =
         let it = from_some_below (broken_among chosen) (lines_end (map (promise_waiting waits chosen) ps)) f found in
-        let both = when_parts (breaks_line (map (promise_waiting waits chosen) ps) set d it.0) (BrokenPromise it.0) f it.2
+        let both =
+        when_parts (breaks_line (map (promise_waiting waits chosen) ps) set d it.0) (BrokenPromise it.0) f it.2
         in
         let breaks = line_still_broken chosen others it.0 ps (has it.0 (sym both.1)) both.0 in
         in_some_below (broken_among others) (lines_end (map (promise_waiting waits others) ps)) it.0 f

@@ -30,8 +30,8 @@ pub fn rules_exclude_what_they_prevent()
         × ((rule : Rule) → Contains rules rule → ¬ (Excludes s.emitted rule set))) }
 {}
 
-/// Of the patches of a trace, a set that is closed, has a fault, or fails where some lines wait is closed, has the fault,
-/// or fails where fewer of them wait. So more waiting never adds a failing set.
+/// Of the patches of a trace, a set that is closed, has a fault, or fails where some lines wait is closed, has the
+/// fault, or fails where fewer of them wait. So more waiting never adds a failing set.
 pub fn more_waiting_fails_no_more()
     ensures closed { (rules : List Rule) (base : Disk) (s : Tracing) (few more : ℕ) (less waited : List Patch) (set : ℕ)
         → IsSubset few more → IsGraphOf rules base (tracing_waiting few s) less

@@ -22,7 +22,8 @@ Reached c = IsReached (successors_of (deps_of c.patches)) 0
 pub earlier_of : (c : Crashes) (base : Disk) (patches : List Patch) (demands : Demands)
     → (let d : Crashes = record { base = base; patches = patches; demands = demands } in d) ≡ c → AreOver base patches
     → AreEarlier (deps_of c.patches)
-earlier_of c base patches demands is over = subst (λ (d : Crashes). AreEarlier (deps_of d.patches)) is over.graph.earlier
+earlier_of c base patches demands is over =
+    subst (λ (d : Crashes). AreEarlier (deps_of d.patches)) is over.graph.earlier
 
 module _ (c : Crashes) (earlier : AreEarlier (deps_of c.patches)) where
   pub reach_closed : (set : ℕ) → Reached c set ↔ IsClosed (deps_of c.patches) set

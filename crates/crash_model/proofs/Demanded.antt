@@ -1,5 +1,5 @@
--- A set is clean under demands where its image is clean for the inodes that are kept, and shows one of the disks, and the
--- set breaks no promise; if all faults count, only there.
+-- A set is clean under demands where its image is clean for the inodes that are kept, and shows one of the disks, and
+-- the set breaks no promise; if all faults count, only there.
 use Rattle.std.proofs.Common.{◌≡◌, ℕ, List, [], ◌∷◌, ◌++◌, Bool, true, false, Option, Some, None, refl, sym, ap, ◌∙◌}
 use Rattle.std.specs.Prelude.{if◌then◌else◌, filter}
 use Rattle.patch_sets.specs.Sets.{has}

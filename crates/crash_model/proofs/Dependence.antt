@@ -21,9 +21,11 @@ or-more true b c more h = refl
 or-more false b c more h = more h
 
 -- what depends on an earlier patch by some of the rules does so by all of them
-pub depends-among : (some all : List Rule) (whole : Bool) (links : List (List ℕ × List ℕ)) (q : Emitted) (id : ℕ) (p : Emitted) → AreAmong some all
+pub depends-among : (some all : List Rule) (whole : Bool) (links : List (List ℕ × List ℕ)) (q : Emitted) (id : ℕ)
+    (p : Emitted) → AreAmong some all
     → depends some whole links q id p ≡ true → depends all whole links q id p ≡ true
 depends-among some all whole links q id p among =
-    or-more (overlap q.place p.place || shares_block whole q p || groups_depend links q p || waits_for q id) (list_any (λ rule. applies rule q p) some)
+    or-more (overlap q.place p.place || shares_block whole q p || groups_depend links q p || waits_for q id)
+    (list_any (λ rule. applies rule q p) some)
     (list_any (λ rule. applies rule q p) all)
     (any-among (λ rule. applies rule q p) some all among)

@@ -1,5 +1,5 @@
 -- A kind of fault is known by its number.
-use Rattle.std.proofs.Common.{◌≡◌, ◌+◌, ◌-◌, ◌<◌, List, [], ◌∷◌, refl, sym, ap, ◌∙◌, arith}
+use Rattle.std.proofs.Common.{◌≡◌, ◌-◌, ◌<◌, List, [], ◌∷◌, refl, sym, ap, ◌∙◌, arith}
 use Rattle.std.specs.Prelude.{slice_index_or}
 use Rattle.crash_model.specs.FaultKinds.{kind_number}
 use Rattle.crash_model.specs.declared.fault_kind.FaultKind.{FaultKind}

@@ -121,7 +121,8 @@ or_not false b given = refl
 -- it has the blocks that are compared
 abbrev pub HasCompared : Disk → Disk → Type 0
 HasCompared image d =
-    (block : ℕ) → block < d.blocks → is_compared d block ≡ true → bytes_eq (block_of image block) (block_of d block) ≡ true
+    (block : ℕ) → block < d.blocks → is_compared d block ≡ true
+    → bytes_eq (block_of image block) (block_of d block) ≡ true
 
 module _ (image d : Disk) where
   pub shows_from : shows image d ≡ true → HasCompared image d

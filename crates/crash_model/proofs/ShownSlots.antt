@@ -1,5 +1,5 @@
 -- The slots that are listed, by which of them are empty.
-use Rattle.std.proofs.Common.{◌≡◌, List, [], ◌∷◌, Bool, true, false, refl, ap}
+use Rattle.std.proofs.Common.{◌≡◌, List, [], ◌∷◌, true, false, refl, ap}
 use Rattle.crash_model.specs.ShownTexts.{is_hole, listed_slots}
 use Rattle.crash_model.specs.declared.showing.ShownSlot.{ShownSlot}
 use Rattle.crash_model.specs.declared.showing.ShownSlot.TheVariants.{Hole, Wild, Begins}

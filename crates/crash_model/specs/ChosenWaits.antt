@@ -1,5 +1,6 @@
 -- A traced script, if of its lines that wait only some do. These lines are a set: of their places among all that wait.
-use Rattle.std.specs.Prelude.{ℕ, zero, suc, ◌+◌, List, [], ◌∷◌, map, Bool, true, false, ◌&&◌, nat_lt, if◌then◌else◌, option_map, bit_or}
+use Rattle.std.specs.Prelude.{ℕ, zero, suc, ◌+◌, List, [], ◌∷◌, map, Bool, true, false, ◌&&◌, nat_lt, if◌then◌else◌}
+use Rattle.std.specs.Prelude.{option_map, bit_or}
 use Rattle.patch_sets.specs.Sets.{has}
 use Rattle.crash_model.specs.Checker.{Demands}
 use Rattle.crash_model.specs.Emitted.{Emitted}

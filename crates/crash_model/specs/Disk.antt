@@ -1,4 +1,5 @@
--- A disk image as a value: its numbers of blocks, whether its inodes have generations, and its bytes, block after block.
+-- A disk image as a value: its numbers of blocks, whether its inodes have generations, and its bytes, block after
+-- block.
 use Rattle.std.specs.Prelude.{◌≡◌, ℕ, ◌+◌, ◌*◌, ◌≤◌, List, [], ◌∷◌, ◌++◌, length, take, drop, slice_index, replicate}
 use Rattle.std.specs.Prelude.{Bool, false}
 use Rattle.crash_model.specs.declared.disk_bytes.TheConstants.{BLOCK_SIZE, LEAST_BLOCKS, MOST_BLOCKS, OTHER_BLOCKS}

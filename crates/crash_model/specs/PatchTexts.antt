@@ -1,9 +1,7 @@
 -- The words for a patch's part and operation, and for any line of a script.
 use Rattle.std.specs.Prelude.{ℕ, List, codes}
-use Rattle.crash_model.specs.declared.plans.Role.TheVariants.{NewData}
 use Rattle.crash_model.specs.declared.rules.Part.{Part}
 use Rattle.crash_model.specs.declared.rules.Part.TheVariants as part
-use Rattle.crash_model.specs.declared.rules.RulePart.TheVariants.{FileData, Copy, Commit, Done}
 use Rattle.crash_model.specs.declared.separators.TheConstants.{SPACE}
 use Rattle.crash_model.specs.Lists.{join_of}
 use Rattle.crash_model.specs.Script.{words_of}

@@ -76,7 +76,8 @@ breaks_line promises set d line = list_any (λ promise. promise.line == line && 
 -- the list with what may be shown, if it may not be shown already
 abbrev pub with_allowance : List Allowance → ℕ → List Shown → List Allowance
 with_allowance allowed least shows =
-    if list_any (λ a. are_same_shown a.shows.items shows) allowed then allowed else allowed ++ allowance least shows ∷ []
+    if list_any (λ a. are_same_shown a.shows.items shows) allowed
+    then allowed else allowed ++ allowance least shows ∷ []
 
 -- What is shown at each rest, from the first that follows a line on. A set may show what is shown at a rest if it has a
 -- patch behind the rest before, and so has begun an operation behind it; what is shown at the first, each set may show.

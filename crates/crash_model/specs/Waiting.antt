@@ -11,8 +11,7 @@ use Rattle.crash_model.specs.Emitted.{Emitted}
 use Rattle.crash_model.specs.Paths.{child_of, names_of}
 use Rattle.crash_model.specs.declared.ranges.Range.{Range}
 use Rattle.crash_model.specs.declared.modules.Module.{Module}
-use Rattle.crash_model.specs.declared.modules.Module.TheVariants.{Async, Soft, Meta, Full}
-use Rattle.crash_model.specs.declared.rules.Part.{Part}
+use Rattle.crash_model.specs.declared.modules.Module.TheVariants.{Async, Soft}
 use Rattle.crash_model.specs.declared.rules.Part.TheVariants.{InPlace, FileData, NewData, Commit}
 use Rattle.crash_model.specs.declared.steps.Act.{Act}
 use Rattle.crash_model.specs.declared.steps.Target.{Target}

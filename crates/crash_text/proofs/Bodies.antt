@@ -116,7 +116,8 @@ module _ (settings : Settings) (kind : ReportBy) (limit : ℕ) (demands : Demand
       })
 
   -- a text with a body of this kind
-  text_on : (total : ℕ) (sets text : List ℕ) (body : Body) → IsBody settings kind limit demands base last t.patches sets body
+  text_on : (total : ℕ) (sets text : List ℕ) (body : Body)
+      → IsBody settings kind limit demands base last t.patches sets body
       → text ≡ report settings
       (whole settings demands.promises (explanation_by base t) t.patches total (length sets) body)
       → IsTextOn settings kind limit demands base last t.patches total sets text
@@ -124,7 +125,8 @@ module _ (settings : Settings) (kind : ReportBy) (limit : ℕ) (demands : Demand
     body,
     listed,
     whole_text ∙ ap (λ (e : Explanation). report settings
-        (whole settings demands.promises e t.patches total (length sets) body)) (same_explanation settings base t last is),
+        (whole settings demands.promises e t.patches total (length sets) body))
+        (same_explanation settings base t last is),
   )
 
   listed_sets : (total : ℕ) (sets text : List ℕ) (body : Body) (sections : List Section) → kind ≡ BySet
@@ -136,7 +138,8 @@ module _ (settings : Settings) (kind : ReportBy) (limit : ℕ) (demands : Demand
   listed_sets total sets text body sections by exactly are same whole_text =
       let closed = failing_closed demands base t.patches sets exactly in
       let lead = sections_lead base t.patches is.graph.earlier (detail_of settings demands) sets sections closed are in
-      text_on total sets text body (subst (IsBody settings kind limit demands base last t.patches sets) (sym same) (by, are, lead))
+      text_on total sets text body
+      (subst (IsBody settings kind limit demands base last t.patches sets) (sym same) (by, are, lead))
       whole_text
 
   counted_faults : (total : ℕ) (sets text : List ℕ) (body : Body) (rows : List FaultRow) (listed : List CountedFault)
@@ -177,7 +180,8 @@ module _ (settings : Settings) (kind : ReportBy) (limit : ℕ) (demands : Demand
       (whole settings demands.promises (explanation_by base t) t.patches total (length sets) body)
       → IsTextOn settings kind limit demands base last t.patches total sets text
   listed_rules total sets text body listed by are same whole_text =
-      text_on total sets text body (subst (IsBody settings kind limit demands base last t.patches sets) (sym same) (by, are))
+      text_on total sets text body
+      (subst (IsBody settings kind limit demands base last t.patches sets) (sym same) (by, are))
       whole_text
 
   -- the same from the data of a report, whose number of failing sets is that of the list

@@ -39,7 +39,8 @@ are_acts bytes before steps script =
 -- under the full journal no workload of such a pool fails, so the number that a search reports is 0
 pub none_reported : (settings : Settings) (most : ℕ) (base : Disk) (lines : List Step) (found : SearchCounts)
     (number : ℕ)
-    → settings.module ≡ Full → settings.without.items ≡ [] → IsDisk base → IsSound base → HasZeroJournal base → All (λ step. IsAct step.act) lines
+    → settings.module ≡ Full → settings.without.items ≡ [] → IsDisk base → IsSound base → HasZeroJournal base
+    → All (λ step. IsAct step.act) lines
     → AreSearchCounts (search_of settings most base lines) found
     → number ≡ (if found.failing == 0 then 0 else 1) → number ≡ 0
 none_reported settings most base lines found number full none disk sound zeros acts exactly is =

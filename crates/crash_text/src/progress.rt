@@ -16,8 +16,8 @@ const BETWEEN: u64 = 250;
 /// Clears the terminal's line.
 const WIPED: &str = "\r\x1b[K";
 
-/// Shows how many sets were visited or workloads judged, of how many if that is known, and how many of them fail, on one
-/// line that is rewritten.
+/// Shows how many sets were visited or workloads judged, of how many if that is known, and how many of them fail, on
+/// one line that is rewritten.
 ///
 /// The line comes only on a terminal, once the run has lasted a second, and is gone when the answer comes. Workers are
 /// not held at their claims, and one of them at a time writes.

@@ -44,16 +44,16 @@ pub struct Outcome<A: Allocator> {
 
 /// Answers a question about a script: reads it, builds the base, traces the rest, visits what a crash can leave, or
 /// decides which faults it can leave, which rules are enough or which lines have to wait, and reports. A search takes
-/// the rest as a pool, and judges each workload of it. It can also find which rules are enough for all workloads that do
-/// not fail.
+/// the rest as a pool, and judges each workload of it. It can also find which rules are enough for all workloads that
+/// do not fail.
 ///
 /// For every number of workers, 1 to 16, and every schedule, an answer other than out of memory is the one defined for
 /// the script's bytes and the settings, without threads. The gate gets each claim of a worker on a board, and progress
 /// reports. Under the full journal with no rule taken out no set fails and no fault is found, if no promise is at risk:
-/// whatever the script and the rules put in, whatever else is demanded of images, and also with whole blocks. At risk are
-/// the promise of a `hold`, and that of a `keep` unless a script without groups has waited for it; in a search none is.
-/// If a promise is at risk, nothing else is broken: no crash leaves another fault, and each promise for which the script
-/// has waited is kept.
+/// whatever the script and the rules put in, whatever else is demanded of images, and also with whole blocks. At risk
+/// are the promise of a `hold`, and that of a `keep` unless a script without groups has waited for it; in a search none
+/// is. If a promise is at risk, nothing else is broken: no crash leaves another fault, and each promise for which the
+/// script has waited is kept.
 pub fn run<R, A, G>(
     host: &Host<'_, R, A>,
     script: &[u8],

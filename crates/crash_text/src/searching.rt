@@ -78,8 +78,8 @@ where
     Ok(outcome)
 }
 
-/// What workers find of the workloads of a judge's pool. If `keeps`, those that do not fail are kept. It fails only when
-/// out of memory.
+/// What workers find of the workloads of a judge's pool. If `keeps`, those that do not fail are kept. It fails only
+/// when out of memory.
 pub(crate) fn search_pool<R, A, G>(
     rt: &R,
     number: usize,

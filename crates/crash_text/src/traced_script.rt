@@ -29,8 +29,8 @@ pub(crate) struct TracedScript<'steps, A: Allocator + Copy> {
 
 /// Traces the steps over the base, under the ordering that the settings ask for.
 ///
-/// Under the full journal with no rule taken out no set that a crash can leave fails, if no promise is at risk. If one is,
-/// nothing else is broken.
+/// Under the full journal with no rule taken out no set that a crash can leave fails, if no promise is at risk. If one
+/// is, nothing else is broken.
 pub(crate) fn trace_script<'steps, A: Allocator + Copy>(
     alloc: A,
     base: &'steps Image<A>,

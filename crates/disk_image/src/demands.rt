@@ -11,7 +11,8 @@ use std::marker::Model;
 /// What a checker demands of the image of a set, besides that it has none of the six faults.
 ///
 /// With a set of inodes that a script keeps, a path leads to each of them, and each directory that is reached has its
-/// block. With disks, the image shows one of them. No promise is broken. It may be that only faults of some numbers count.
+/// block. With disks, the image shows one of them. No promise is broken. It may be that only faults of some numbers
+/// count.
 #[derive(Drop)]
 pub struct Demands<A: Allocator + Copy> {
     kept: Option<u16>,

@@ -1,8 +1,8 @@
 //! What the bytes of an image mean.
 //!
 //! Blocks 2 and 3 hold the inodes, 16 bytes each, so inode i begins at byte 256 + 16 * i of the disk: its kind, its
-//! link count, its generation, a zero, its four pointers and a byte that an overwriting changes. Block 1 is the allocation map. No other crate turns inodes and entries
-//! into offsets.
+//! link count, its generation, a zero, its four pointers and a byte that an overwriting changes. Block 1 is the
+//! allocation map. No other crate turns inodes and entries into offsets.
 
 ghost use Rattle.std.specs.Prelude.{◌≡◌, ◌<◌, IsTrue, IfSome, bytes_eq};
 ghost use Rattle.crash_model.specs.Layout.{kind_of, links_of, pointer_of, map_of, is_live, is_data, counts, entry_of};

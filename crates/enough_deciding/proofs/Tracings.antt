@@ -18,7 +18,8 @@ one_tracing base t = record { emitted = refl; links = refl; whole = refl }
 
 module _ (demands : Demands) (base : Disk) (t : TracedPatches) where
   -- the patches by some rules are those of each state
-  pub same_graph : (s other : Tracing) (rules : List Rule) (patches : List Patch) → IsTracingOf t s → IsTracingOf t other
+  pub same_graph : (s other : Tracing) (rules : List Rule) (patches : List Patch) → IsTracingOf t s
+      → IsTracingOf t other
       → IsGraphOf rules base s patches → IsGraphOf rules base other patches
   same_graph s other rules patches of_s of_other is =
       let emitted : s.emitted ≡ other.emitted = of_s.emitted ∙ sym of_other.emitted in

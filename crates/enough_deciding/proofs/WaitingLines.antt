@@ -56,12 +56,14 @@ module _ (demands : Demands) (base : Disk) (t : TracedPatches) (rules : List Rul
     needed_to group is =
         let back = same_waits other s of_other of_s in
         record {
-          places = subst (λ (ws : List Wait). IsSubset group (all_waits ws)) (same_waits s other of_s of_other) is.places;
+          places = subst (λ (ws : List Wait). IsSubset group (all_waits ws))
+              (same_waits s other of_s of_other) is.places;
           some = is.some;
           needed = λ rest apart enough. is.needed rest
               (subst (λ (ws : List Wait). IsDifference (all_waits ws) group rest) back apart)
               (same_lines other s of_other of_s rest enough);
-          minimal = λ part rest inside less apart. same_lines s other of_s of_other rest (is.minimal part rest inside less
+          minimal =
+              λ part rest inside less apart. same_lines s other of_s of_other rest (is.minimal part rest inside less
               (subst (λ (ws : List Wait). IsDifference (all_waits ws) part rest) back apart));
         }
 

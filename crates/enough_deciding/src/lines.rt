@@ -103,8 +103,8 @@ impl<A: Allocator + Copy> LineOracle<'_, A> {
         }
     }
 
-    /// A part of a group of which each set that is enough has a line, as the group has. Of each line it is asked whether
-    /// all lines without the group are enough together with it: if not, then the part does without the line.
+    /// A part of a group of which each set that is enough has a line, as the group has. Of each line it is asked
+    /// whether all lines without the group are enough together with it: if not, then the part does without the line.
     /// It fails only when out of memory.
     fn smaller(&self, group: u128) -> Result<u128, AllocError>
         requires { IsInEach (all_waits self.now.traced.now.waits)

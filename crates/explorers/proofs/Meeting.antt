@@ -42,7 +42,8 @@ free_after b space is_own before after word put free ok not_over not_busy own ea
       of = (puts.board ∙ free.of.0, puts.limit ∙ free.of.1, puts.places ∙ free.of.2);
       free = puts.free;
       own = own;
-      recent = met_more before.recent after.recent word before.seat after.seat (put_sees word before.seat after.seat put ok)
+      recent = met_more before.recent after.recent word before.seat after.seat
+          (put_sees word before.seat after.seat put ok)
           puts.has each free.recent;
     }
 
@@ -64,7 +65,8 @@ ready_on b space is_own before worker explored own recent counted idle keeps see
 }
 
 -- copies of one word
-pub met_copies : (words : List ℕ) (word : ℕ) (seen : List (List ℕ)) → All (λ recent. recent ≡ word) words → Has seen word
+pub met_copies : (words : List ℕ) (word : ℕ) (seen : List (List ℕ)) → All (λ recent. recent ≡ word) words
+    → Has seen word
     → AreMet words seen
 met_copies words word seen all has = record {
   has = λ other is.

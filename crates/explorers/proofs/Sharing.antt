@@ -1,7 +1,6 @@
 -- Seats that have a whole board together.
 use Rattle.std.proofs.Common.{◌≡◌, ℕ, zero, suc, ◌+◌, ◌-◌, ◌*◌, ◌^◌, ◌<◌, ◌≤◌, List, [], ◌∷◌, ◌++◌, length, get_or, ap}
-use Rattle.std.proofs.Common.{◌∙◌, sym, refl, subst, arith}
-use Rattle.std.specs.List.{All}
+use Rattle.std.proofs.Common.{refl, subst, arith}
 use Rattle.std.specs.Prelude.{Some, max}
 use Rattle.std.proofs.lemmas.List.Elements.{All-push, All-pop}
 use Rattle.board_rule.specs.Lists.{total}

@@ -18,7 +18,8 @@ use std::sync::Wait;
 use thread_jobs::Gate;
 
 impl<S: Space, G: Gate, A: Allocator + Copy> Exploration<'_, S, G, A> {
-    /// Expands the entry of a task if the worker's seat has seen its place and can claim it. It makes at most one claim.
+    /// Expands the entry of a task if the worker's seat has seen its place and can claim it. It makes at most one
+    /// claim.
     pub(crate) fn take<R: Wait>(
         &self,
         rt: &R,

@@ -47,7 +47,7 @@ pub struct Exploring<A: Allocator> {
 /// or that more words are reached than the limit.
 ///
 /// There are as many claims as words are reached, so each of them is expanded exactly once. After a refusal there are
-/// at most as many claims as words were put on the board.
+/// no more claims than words that are reached.
 ///
 /// Worker 1 works on the caller's thread, and each of the others on a thread of its own if one can be made. The gate
 /// gets each claim before the word is expanded.

@@ -15,8 +15,8 @@ impl<R, A: Allocator + Copy, G: Gate> Finder<'_, R, A, G> {
     /// How many sets a crash can leave, if none of them fails, and `None` if one fails.
     ///
     /// No set is visited: families of sets decide whether one fails. The memory that it takes does not grow with the
-    /// number of sets, and no thread starts. If a set fails, all sets are to be visited, and the gate gets their number.
-    /// It fails with `TooMany` if a crash can leave more sets than the limit, and else only when out of memory.
+    /// number of sets, and no thread starts. If a set fails, all sets are to be visited, and the gate gets their
+    /// number. It fails with `TooMany` if a crash can leave more sets than the limit, and else only when out of memory.
     pub(crate) fn safe_number(&self, crashes: &Crashes<'_, A>) -> Result<Option<usize>, RunFault>
         ensures answer { IfOk result (λ number.
             MatchOption number (SomeFails crashes.now) (AreSafe self.now.visit.limit crashes.now)) }

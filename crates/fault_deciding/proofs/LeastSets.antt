@@ -1,5 +1,6 @@
 -- The least set that may show something, found allowance by allowance.
-use Rattle.std.proofs.Common.{◌≡◌, ℕ, ◌+◌, ◌<◌, List, length, take, get_or, Bool, true, false, ◌&&◌, ◌||◌, arith, tests, refl}
+use Rattle.std.proofs.Common.{◌≡◌, ℕ, ◌+◌, ◌<◌, List, length, take, get_or, Bool, true, false, ◌&&◌, ◌||◌, arith, tests}
+use Rattle.std.proofs.Common.{refl}
 use Rattle.std.proofs.Common.{sym, ap, ◌∙◌}
 use Rattle.std.specs.Prelude.{nat_le, min, Option, Some, None}
 use Rattle.std.proofs.lemmas.List.Folds.{list_any_more}
@@ -13,12 +14,14 @@ module _ (allowed : List Allowance) (shows : List Shown) (i : ℕ) (a : Allowanc
     (is : a ≡ get_or allowed i a) where
   more : (set : ℕ) → is_allowed (take (i + 1) allowed) set shows
       ≡ (is_allowed (take i allowed) set shows || (nat_le a.least set && are_same_shown a.shows.items shows))
-  more set = list_any_more (λ (x : Allowance). nat_le x.least set && are_same_shown x.shows.items shows) allowed i a below
+  more set =
+      list_any_more (λ (x : Allowance). nat_le x.least set && are_same_shown x.shows.items shows) allowed i a below
       ∙ ap (λ (x : Allowance). is_allowed (take i allowed) set shows
       || (nat_le x.least set && are_same_shown x.shows.items shows)) (sym is)
 
   pub least_taken : (least : Option ℕ) → are_same_shown a.shows.items shows ≡ true
-      → IsLeastFor (take i allowed) shows least → IsLeastFor (take (i + 1) allowed) shows (Some (smaller_of least a.least))
+      → IsLeastFor (take i allowed) shows least
+      → IsLeastFor (take (i + 1) allowed) shows (Some (smaller_of least a.least))
   least_taken None same old = λ set. more set ∙ rw (old set, same) (with_true (nat_le a.least set))
     where
       with_true : (b : Bool) → (false || (b && true)) ≡ b
@@ -36,7 +39,8 @@ module _ (allowed : List Allowance) (shows : List Shown) (i : ℕ) (a : Allowanc
       never : (b : Bool) → (false || (b && false)) ≡ false
       never true = refl
       never false = refl
-  least_left (Some least) other old = λ set. more set ∙ rw (old set, other) (same (nat_le least set) (nat_le a.least set))
+  least_left (Some least) other old =
+      λ set. more set ∙ rw (old set, other) (same (nat_le least set) (nat_le a.least set))
     where
       same : (a b : Bool) → (a || (b && false)) ≡ a
       same true b = refl

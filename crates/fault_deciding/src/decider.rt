@@ -64,8 +64,8 @@ impl<A: Allocator + Copy> Decider<'_, A> {
         found(self.alloc, &trials)
     }
 
-    /// Each fault that a crash can leave, as one worker finds them. It needs no threads, asks first whether there is any,
-    /// and fails only when out of memory.
+    /// Each fault that a crash can leave, as one worker finds them. It needs no threads, asks first whether there is
+    /// any, and fails only when out of memory.
     pub fn faults_alone(&self) -> Result<Vec<DecidedFault, A>, AllocError>
         ensures { IfOk result (λ faults.
             AreDecided (HasFault self.now.demands.now self.now.base.now self.now.graph.now) faults.items) }

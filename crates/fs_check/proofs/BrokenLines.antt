@@ -1,10 +1,11 @@
 -- Which lines are broken, and the next of them.
-use Rattle.std.proofs.Common.{◌≡◌, ℕ, zero, suc, ◌+◌, ◌<◌, ◌≤◌, ◌⊎◌, inl, inr, List, [], ◌∷◌, ◌++◌, length, get_or, take}
+use Rattle.std.proofs.Common.{◌≡◌, ℕ, ◌+◌, ◌<◌, ◌≤◌, ◌⊎◌, inl, inr, List, [], ◌∷◌, ◌++◌, length, get_or}
+use Rattle.std.proofs.Common.{take}
 use Rattle.std.proofs.Common.{Bool, true}
-use Rattle.std.proofs.Common.{false, ◌&&◌, ◌||◌, ◌==◌, not, Option, Some, None, arith, refl, sym, ap, ◌∙◌, subst}
-use Rattle.std.specs.Prelude.{max, ◌↔◌, IfSome}
+use Rattle.std.proofs.Common.{false, ◌&&◌, ◌||◌, ◌==◌, not, Option, Some, None, arith, refl, sym, ap, ◌∙◌}
+use Rattle.std.specs.Prelude.{IfSome}
 use Rattle.std.specs.List.{list_any}
-use Rattle.std.proofs.lemmas.Bool.{false≢true, cases_Bool, cases_lt, eq-eqb, and_parts, and_right}
+use Rattle.std.proofs.lemmas.Bool.{false≢true, cases_Bool, eq-eqb, and_parts, and_right}
 use Rattle.std.proofs.lemmas.List.Folds.{list_any_more}
 use Rattle.patch_sets.proofs.Ids.{eq_from_true}
 use Rattle.crash_model.specs.Disk.{Disk}

@@ -196,7 +196,8 @@ module _ (image d : Disk) (set : ℕ) (compared : AreCompared d set) where
 pub shows-not_two : (image d : Disk) → 16 ≤ d.blocks → bytes_eq (block_of image 2) (block_of d 2) ≡ false
     → shows image d ≡ false
 shows-not_two image d least differ = bool_not (shows image d) (λ is.
-    false≢true (sym differ ∙ shows_from image d is 2 (omega (arith, least)) (compared_low d 2 (omega arith) (omega arith))))
+    false≢true
+    (sym differ ∙ shows_from image d is 2 (omega (arith, least)) (compared_low d 2 (omega arith) (omega arith))))
   where
     bool_not : (test : Bool) → (test ≡ true → ⊥) → test ≡ false
     bool_not true refuted = absurd (refuted refl)

@@ -1,5 +1,5 @@
 -- What holds of each element of a list that is made number by number.
-use Rattle.std.proofs.Common.{◌≡◌, ℕ, zero, suc, ◌<◌, List, [], Bool, true, false, Option, arith}
+use Rattle.std.proofs.Common.{ℕ, zero, suc, ◌<◌, List, [], Bool, true, false, Option, arith}
 use Rattle.std.specs.Prelude.{option_to_list}
 use Rattle.std.specs.List.{All}
 use Rattle.std.proofs.lemmas.List.Elements.{All-nil, All-cons, All-append}

@@ -85,8 +85,10 @@ module _ (d : Disk) (dir k : ℕ) where
       → dangling_at d dir k ≡ Some (Dangling dir k (entry - 1))
   dangling-here entry counted is some dead = rw (counted, is, ne_eqb entry 0 some, dead) refl
 
-  pub dangling-entry_counts : (entry : ℕ) → entry_of d dir k ≡ entry → is_live d (entry - 1) ≡ true → dangling_at d dir k ≡ None
-  dangling-entry_counts entry is live = rw (ap (λ (e : ℕ). is_live d (e - 1)) is ∙ live, and_right (is_entry d dir k) false refl)
+  pub dangling-entry_counts : (entry : ℕ) → entry_of d dir k ≡ entry → is_live d (entry - 1) ≡ true
+      → dangling_at d dir k ≡ None
+  dangling-entry_counts entry is live =
+      rw (ap (λ (e : ℕ). is_live d (e - 1)) is ∙ live, and_right (is_entry d dir k) false refl)
       refl
 
   pub dangling-none : entry_of d dir k ≡ 0 → dangling_at d dir k ≡ None

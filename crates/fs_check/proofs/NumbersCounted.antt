@@ -1,17 +1,18 @@
 -- Faults of one number count all, or none.
-use Rattle.std.proofs.Common.{◌≡◌, ℕ, zero, suc, ◌<◌, List, [], ◌∷◌, ◌++◌, length, Bool, true, false, Option, Some}
+use Rattle.std.proofs.Common.{◌≡◌, ℕ, List, [], ◌∷◌, ◌++◌, length, Bool, true, false, Option, Some}
 use Rattle.std.proofs.Common.{None}
-use Rattle.std.proofs.Common.{inl, inr, arith, refl, sym, ap, ◌∙◌, subst}
-use Rattle.std.specs.Prelude.{◌↔◌, option_to_list, filter, if◌then◌else◌}
+use Rattle.std.proofs.Common.{inl, inr, refl, sym, ap, ◌∙◌}
+use Rattle.std.specs.Prelude.{◌↔◌, filter, if◌then◌else◌}
 use Rattle.std.specs.List.{All}
 use Rattle.std.proofs.lemmas.Bool.{cases_Bool}
-use Rattle.std.proofs.lemmas.List.Elements.{All-nil, All-head, All-tail, All-append, filter-append}
+use Rattle.std.proofs.lemmas.List.Elements.{All-nil, All-head, All-tail, filter-append}
 use Rattle.patch_sets.specs.Sets.{Has, has}
 use Rattle.patch_sets.proofs.Ids.{has_true, from_has}
 use Rattle.crash_model.specs.Disk.{Disk}
-use Rattle.crash_model.specs.Lists.{each_below, some_below, when}
+use Rattle.crash_model.specs.Lists.{some_below, when}
 use Rattle.crash_model.specs.Layout.{pointer_of, target_of, links_of}
-use Rattle.crash_model.specs.Faults.{faults, each_slot, is_dangling, is_twice, has_low_links, is_unwritten, is_marked_free}
+use Rattle.crash_model.specs.Faults.{faults, each_slot, is_dangling, is_twice, has_low_links, is_unwritten}
+use Rattle.crash_model.specs.Faults.{is_marked_free}
 use Rattle.crash_model.specs.Faults.{is_wild, entries_to, each_entry}
 use Rattle.crash_model.specs.Strict.{strict_faults, is_lost, lacks_block}
 use Rattle.crash_model.specs.Atomic.{ShowsSome, atomic_faults, is_half_done}
@@ -78,7 +79,8 @@ module _ (counted : ℕ) where
   abbrev pub among : List Fault → List Fault
   among found = filter (λ f. has counted (fault_number f)) found
 
-  all_stay : (number : ℕ) (found : List Fault) → Are number found → has counted number ≡ true → among found ≡ [] → found ≡ []
+  all_stay : (number : ℕ) (found : List Fault) → Are number found → has counted number ≡ true → among found ≡ []
+      → found ≡ []
   all_stay number [] are counts none = refl
   all_stay number (f ∷ found) are counts none =
       let here = ap (has counted) (All-head (Is number) f found are) ∙ counts in
@@ -87,9 +89,11 @@ module _ (counted : ℕ) where
   all_go : (number : ℕ) (found : List Fault) → Are number found → has counted number ≡ false → among found ≡ []
   all_go number [] are not = refl
   all_go number (f ∷ found) are not =
-      rw (ap (has counted) (All-head (Is number) f found are) ∙ not) (all_go number found (All-tail (Is number) f found are) not)
+      rw (ap (has counted) (All-head (Is number) f found are) ∙ not)
+      (all_go number found (All-tail (Is number) f found are) not)
 
-  none_of : (number : ℕ) (found : List Fault) → Are number found → (among found ≡ [] ↔ (Has counted number → found ≡ []))
+  none_of : (number : ℕ) (found : List Fault) → Are number found
+      → (among found ≡ [] ↔ (Has counted number → found ≡ []))
   none_of number found are = (
     λ none counts. all_stay number found are (has_true counted number counts) none,
     λ none. elim (cases_Bool (has counted number)) [
@@ -157,12 +161,14 @@ module _ (counted : ℕ) where
         let s1 = (none_in a b).0 s2.0 in (
           record {
             dangling = λ counts. entries_none (is_dangling d) dangling ((none_of 1 a (are_dangling d)).0 s1.0 counts);
-            low_links = λ counts. some_none (has_low_links d) low_links 16 ((none_of 4 e (are_low_links d)).0 s3.1 counts);
+            low_links =
+                λ counts. some_none (has_low_links d) low_links 16 ((none_of 4 e (are_low_links d)).0 s3.1 counts);
           },
           record {
             twice = λ counts. some_none (is_twice d) Twice d.blocks ((none_of 2 b (are_twice d)).0 s1.1 counts);
             right = record {
-              unwritten = λ counts. slots_none (is_unwritten d) unwritten ((none_of 3 c (are_unwritten d)).0 s2.1 counts);
+              unwritten =
+                  λ counts. slots_none (is_unwritten d) unwritten ((none_of 3 c (are_unwritten d)).0 s2.1 counts);
               marked_free = λ counts. slots_none (is_marked_free d) marked_free
                   ((none_of 5 f (are_marked_free d)).0 s4.1 counts);
               wild = λ counts. slots_none (is_wild d) wild ((none_of 6 g (are_wild d)).0 s5.1 counts);
@@ -211,7 +217,8 @@ module _ (counted : ℕ) where
     tree_none kept none =
         let parts = (none_in (lost kept) bare).0 none in
         record {
-          lost = λ counts. some_none (is_lost d kept) Lost 16 ((none_of 7 (lost kept) (are_lost d kept)).0 parts.0 counts);
+          lost = λ counts. some_none (is_lost d kept) Lost 16
+              ((none_of 7 (lost kept) (are_lost d kept)).0 parts.0 counts);
           bare = λ counts. some_none (lacks_block d) NoBlock 16 ((none_of 8 bare (are_bare d)).0 parts.1 counts);
         }
 

@@ -36,8 +36,10 @@ module _ (d : Disk) (inode : ℕ) (pointer_counts : List ℕ) where
     pub pointer_counts-tame : (block v : ℕ) → is_live d inode ≡ true → pointer_of d inode slot ≡ block → block ≢ 0
         → is_data d block ≡ true
         → block < length pointer_counts → v ≡ get_or pointer_counts block 0 + 1
-        → IsTally 4 (named_at d) inode slot pointer_counts → IsTally 4 (named_at d) inode (slot + 1) (set pointer_counts block v)
-    pointer_counts-tame block v live points some area within more = tally-one 4 (named_at d) inode slot pointer_counts block v
+        → IsTally 4 (named_at d) inode slot pointer_counts
+        → IsTally 4 (named_at d) inode (slot + 1) (set pointer_counts block v)
+    pointer_counts-tame block v live points some area within more =
+        tally-one 4 (named_at d) inode slot pointer_counts block v
         (inode, slot)
         (rw (live, points, ne_eqb block 0 some, area, eq-eqb block block refl) refl)
         (λ other differ. rw (
@@ -63,16 +65,19 @@ is_twice-few d block pointer_counts within tally few = le-ltb 1 (length (namers 
     (rw (← pointer_counts-all d block, ← tally block within) few)
 
 -- is listed
-pub twice-many : (d : Disk) (block : ℕ) (pointer_counts : List ℕ) → block < length pointer_counts → IsTally 4 (named_at d) 16 0 pointer_counts
+pub twice-many : (d : Disk) (block : ℕ) (pointer_counts : List ℕ) → block < length pointer_counts
+    → IsTally 4 (named_at d) 16 0 pointer_counts
     → 1 < get_or pointer_counts block 0 → twice_at d block ≡ Some (Twice block)
 twice-many d block pointer_counts within tally many = rw (is_twice-many d block pointer_counts within tally many) refl
 
-pub twice-few : (d : Disk) (block : ℕ) (pointer_counts : List ℕ) → block < length pointer_counts → IsTally 4 (named_at d) 16 0 pointer_counts
+pub twice-few : (d : Disk) (block : ℕ) (pointer_counts : List ℕ) → block < length pointer_counts
+    → IsTally 4 (named_at d) 16 0 pointer_counts
     → get_or pointer_counts block 0 ≤ 1 → twice_at d block ≡ None
 twice-few d block pointer_counts within tally few = rw (is_twice-few d block pointer_counts within tally few) refl
 
 -- if each count is small, no block is listed
-pub twice-never : (d : Disk) (pointer_counts : List ℕ) → d.blocks ≤ length pointer_counts → IsTally 4 (named_at d) 16 0 pointer_counts
+pub twice-never : (d : Disk) (pointer_counts : List ℕ) → d.blocks ≤ length pointer_counts
+    → IsTally 4 (named_at d) 16 0 pointer_counts
     → ((at : ℕ) → at < d.blocks → get_or pointer_counts at 0 ≤ 1)
     → some_below d.blocks (twice_at d) ≡ []
 twice-never d pointer_counts most tally few = some_below-none d.blocks (twice_at d)
@@ -82,12 +87,14 @@ twice-never d pointer_counts most tally few = some_below-none d.blocks (twice_at
 
 module _ (d : Disk) (dir : ℕ) (entry_counts : List ℕ) where
   -- a directory that does not count has no entries
-  pub entry_counts-uncounted : counts d dir ≡ false → IsTally 10 (led_at d) dir 0 entry_counts → IsTally 10 (led_at d) (dir + 1) 0 entry_counts
+  pub entry_counts-uncounted : counts d dir ≡ false → IsTally 10 (led_at d) dir 0 entry_counts
+      → IsTally 10 (led_at d) (dir + 1) 0 entry_counts
   entry_counts-uncounted uncounted = tally-empty_row 10 (led_at d) dir entry_counts
       (λ inode k. rw (uncounted, and_right (is_live d inode) false refl) refl)
 
   module _ (k : ℕ) where
-    pub entry_counts-none : entry_of d dir k ≡ 0 → IsTally 10 (led_at d) dir k entry_counts → IsTally 10 (led_at d) dir (k + 1) entry_counts
+    pub entry_counts-none : entry_of d dir k ≡ 0 → IsTally 10 (led_at d) dir k entry_counts
+        → IsTally 10 (led_at d) dir (k + 1) entry_counts
     entry_counts-none zero = tally-none 10 (led_at d) dir k entry_counts
         (λ inode b. rw (
           eq-eqb (entry_of d dir k) 0 zero,
@@ -113,7 +120,8 @@ module _ (d : Disk) (dir : ℕ) (entry_counts : List ℕ) where
         → is_live d inode ≡ true
         → inode < length entry_counts → v ≡ get_or entry_counts inode 0 + 1
         → IsTally 10 (led_at d) dir k entry_counts → IsTally 10 (led_at d) dir (k + 1) (set entry_counts inode v)
-    entry_counts-live inode v counted some leads live within more = tally-one 10 (led_at d) dir k entry_counts inode v (dir, k)
+    entry_counts-live inode v counted some leads live within more =
+        tally-one 10 (led_at d) dir k entry_counts inode v (dir, k)
         (rw (live, counted, ne_eqb (entry_of d dir k) 0 some, eq-eqb (target_of d dir k) inode leads) refl)
         (λ other differ. rw (
           ne_eqb (target_of d dir k) other (λ e. differ (sym e ∙ leads)),
@@ -147,21 +155,25 @@ entry_counts-never d inode dead = omega (
 )
 
 -- more entries than links are listed only for a live inode
-pub low_links-many : (d : Disk) (inode links : ℕ) (entry_counts : List ℕ) → inode < length entry_counts → IsTally 10 (led_at d) 16 0 entry_counts
+pub low_links-many : (d : Disk) (inode links : ℕ) (entry_counts : List ℕ) → inode < length entry_counts
+    → IsTally 10 (led_at d) 16 0 entry_counts
     → links ≡ links_of d inode → links < get_or entry_counts inode 0
     → low_links_at d inode ≡ Some (LowLinks inode (get_or entry_counts inode 0) links)
 low_links-many d inode links entry_counts within tally is many = elim (cases_Bool (is_live d inode)) [
   | inl live ↦
-      let all : get_or entry_counts inode 0 ≡ length (entries_to d inode) = tally inode within ∙ entry_counts-all d inode live in
+      let all : get_or entry_counts inode 0 ≡ length (entries_to d inode) =
+      tally inode within ∙ entry_counts-all d inode live in
       rw (live, lt-ltb (links_of d inode) (length (entries_to d inode)) (omega (arith, is, all, many)), is, all) refl
   | inr dead ↦ absurd (omega (arith, tally inode within, entry_counts-never d inode dead))
 ]
 
-pub low_links-few : (d : Disk) (inode : ℕ) (entry_counts : List ℕ) → inode < length entry_counts → IsTally 10 (led_at d) 16 0 entry_counts
+pub low_links-few : (d : Disk) (inode : ℕ) (entry_counts : List ℕ) → inode < length entry_counts
+    → IsTally 10 (led_at d) 16 0 entry_counts
     → get_or entry_counts inode 0 ≤ links_of d inode → low_links_at d inode ≡ None
 low_links-few d inode entry_counts within tally few = elim (cases_Bool (is_live d inode)) [
   | inl live ↦
-      let all : get_or entry_counts inode 0 ≡ length (entries_to d inode) = tally inode within ∙ entry_counts-all d inode live in
+      let all : get_or entry_counts inode 0 ≡ length (entries_to d inode) =
+      tally inode within ∙ entry_counts-all d inode live in
       rw (live, le-ltb (links_of d inode) (length (entries_to d inode)) (rw (← all) few)) refl
   | inr dead ↦ rw dead refl
 ]
@@ -192,9 +204,11 @@ has_low_links-few d inode entry_counts within tally few = elim (cases_Bool (is_l
 ]
 
 -- no count is larger than the number of places before
-pub entry_counts-most : (d : Disk) (dir k inode : ℕ) (entry_counts : List ℕ) → inode < length entry_counts → IsTally 10 (led_at d) dir k entry_counts
+pub entry_counts-most : (d : Disk) (dir k inode : ℕ) (entry_counts : List ℕ) → inode < length entry_counts
+    → IsTally 10 (led_at d) dir k entry_counts
     → get_or entry_counts inode 0 ≤ 10 * dir + k
-entry_counts-most d dir k inode entry_counts within tally = omega (arith, tally inode within, count_before-most 10 (led_at d inode) dir k)
+entry_counts-most d dir k inode entry_counts within tally =
+    omega (arith, tally inode within, count_before-most 10 (led_at d inode) dir k)
 
 pub pointer_counts-most : (d : Disk) (inode slot block : ℕ) (pointer_counts : List ℕ) → block < length pointer_counts
     → IsTally 4 (named_at d) inode slot pointer_counts → get_or pointer_counts block 0 ≤ 4 * inode + slot

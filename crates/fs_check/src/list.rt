@@ -54,8 +54,8 @@ fn list_faults<A: Allocator + Copy>(
 }
 
 /// The faults of the image of a set, with what is demanded of it besides the six: those of [`faults`], then the two of
-/// the strict checker, by inode, then the one of half-done operations, then broken promises, by line. It fails only when
-/// out of memory.
+/// the strict checker, by inode, then the one of half-done operations, then broken promises, by line. It fails only
+/// when out of memory.
 pub fn faults_under<A: Allocator + Copy>(
     alloc: A,
     image: &Image<A>,

@@ -1,6 +1,7 @@
 //! Whether a set breaks what a script promises.
 
-ghost use Rattle.std.specs.Prelude.{◌≡◌, ◌<◌, ◌≤◌, ◌==◌, ◌&&◌, ◌++◌, ◌↔◌, [], None, Some, IsTrue, IfSome, OnOk, MatchOption};
+ghost use Rattle.std.specs.Prelude.{◌≡◌, ◌<◌, ◌≤◌, ◌==◌, ◌&&◌, ◌++◌, ◌↔◌, [], None, Some, IsTrue, IfSome, OnOk};
+ghost use Rattle.std.specs.Prelude.{MatchOption};
 ghost use Rattle.std.specs.List.{list_any, find};
 ghost use Rattle.crash_model.specs.Promises.{is_broken, is_allowed, is_spared, paths_show};
 ghost use Rattle.crash_model.specs.BrokenLines.{broken_lines};

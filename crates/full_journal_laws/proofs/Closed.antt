@@ -200,7 +200,8 @@ closed_log (o ∷ ops) n all whole links set d id t j c done closed lies before_
               let y_at : slice_get all p ≡ Some y.0 = ap (λ (m : ℕ). slice_get all m) (minus_two p id k later)
               ∙ lie (k + 1 + (p - (id + k + 1))) y.0 y.2 in
               closed (id + k + 1 + length cs) p parts.done y.0 done_at y_at to
-              (by_row whole links parts.done _ y.0 Done (InPlace y.1) t t parts.done_is y.3 (rw (same_test t) refl)) held
+              (by_row whole links parts.done _ y.0 Done (InPlace y.1) t t parts.done_is y.3
+              (rw (same_test t) refl)) held
         ];
         done_chained = before_done (id + k + 1 + length cs) parts.done (omega arith) done_at parts.done_is;
       },

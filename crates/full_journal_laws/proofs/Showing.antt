@@ -1,5 +1,5 @@
--- What equals a sound disk outside the journal shows it, and the disk after some operations is one of those that a script
--- passes through.
+-- What equals a sound disk outside the journal shows it, and the disk after some operations is one of those that a
+-- script passes through.
 use Rattle.std.proofs.Common.{◌≡◌, ℕ, zero, suc, ◌+◌, ◌<◌, ◌≤◌, inl, inr, List, [], ◌∷◌, ◌++◌, take, Bool, true, false}
 use Rattle.std.proofs.Common.{◌&&◌, ◌||◌, ◌==◌, not, arith, tests, refl, sym, ap, subst, ◌∙◌}
 use Rattle.std.specs.Prelude.{nat_le, nat_lt, bytes_eq, if◌then◌else◌}

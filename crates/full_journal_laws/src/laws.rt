@@ -58,8 +58,8 @@ pub fn nothing_that_the_script_keeps_is_lost()
         → IsCleanKeeping (Some kept) (image_after_replay (image_of base patches set)) }
 {}
 
-/// So a set fails only where it breaks a promise, whatever is demanded: of the image after replay none of the nine other
-/// faults holds, since it shows the disk after the operations that are committed.
+/// So a set fails only where it breaks a promise, whatever is demanded: of the image after replay none of the nine
+/// other faults holds, since it shows the disk after the operations that are committed.
 pub fn only_promises_can_be_broken()
     ensures { (rules : List Rule) → (whole : Bool) → (asked : Asked) → (base : Disk) → (steps : List Step)
         → (s : Tracing) → (patches : List Patch) → (set : ℕ) → (demands : Demands)

@@ -1,6 +1,6 @@
 -- What the searches found where an operation is accepted.
-use Rattle.std.proofs.Common.{◌≡◌, ◌≢◌, ℕ, ◌+◌, ◌-◌, ◌<◌, List, [], ◌∷◌, ◌++◌, false, Option, Some, None, Ok}
-use Rattle.std.specs.Prelude.{option_to_list, nat_lt, if◌then◌else◌}
+use Rattle.std.proofs.Common.{◌≡◌, ◌≢◌, ℕ, ◌+◌, ◌<◌, List, [], ◌∷◌, ◌++◌, false, Option, Some, None, Ok}
+use Rattle.std.specs.Prelude.{option_to_list}
 use Rattle.std.proofs.lemmas.Bool.{eqb-true, eqb-false, leb-false}
 use Rattle.soundness_laws.proofs.Answered.{then_ok-ok, unless-ok, with_found-ok, at_entry-ok, answer-ok, none-found}
 use Rattle.soundness_laws.proofs.Answered.{test-holds}

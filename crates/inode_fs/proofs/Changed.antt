@@ -140,7 +140,8 @@ write-made d path changes disk sound f =
     let one = map_set-makes d f.b disk block.high in
     let d1 = with_changes d (map_set f.b ∷ []) in
     let inside : is_data d f.b ≡ true = area d f.b (can.low, can.high) in
-    let generation : generation_of d target ≡ generation_of d1 target = sym (map-generation d f.b target disk block.high) in
+    let generation : generation_of d target ≡ generation_of d1 target =
+    sym (map-generation d f.b target disk block.high) in
     let two = block-makes d d1 InitFile f.b 0x46 target one.disk inside below generation (λ dir in_dir kind.
     let old_kind : t.kind dir ≡ 2 = ap (λ (x : Tables). x.kind dir) (sym one.tables) ∙ kind-at d1 dir in_dir ∙ kind in
     λ same. block-apart t dir f.b sound old_kind can.free
@@ -268,7 +269,8 @@ free-made d e i n disk sound below live size same_used empty few slots =
         disk = cleared.disk;
         tables = cleared.tables ∙ ap (λ (x : Tables). record x { used = cleared.used }) one.tables;
       };
-      frees = clears-free d e1 (with_changes e1 (some_below n (map_clear_at d i))) i n sound live few same cleared slots;
+      frees = clears-free d e1 (with_changes e1 (some_below n (map_clear_at d i))) i n sound live few same
+          cleared slots;
       keeps = free-keeps d e i disk below;
     }
 

@@ -1,5 +1,6 @@
 -- How many changes a plan has: at least one, and at most nine.
-use Rattle.std.proofs.Common.{ℕ, zero, suc, ◌+◌, ◌-◌, ◌≤◌, List, [], ◌∷◌, ◌++◌, Bool, true, false, Option, Some, None, Result, Ok}
+use Rattle.std.proofs.Common.{ℕ, zero, suc, ◌+◌, ◌-◌, ◌≤◌, List, [], ◌∷◌, true, false, Option, Some, None}
+use Rattle.std.proofs.Common.{Result, Ok}
 use Rattle.std.proofs.Common.{Err, length, arith, length-append, subst, sym, ◌∙◌, ap, ◌↔◌, ◌≡◌, ◌⊎◌, inl, inr, refl}
 use Rattle.std.specs.Prelude.{option_to_list, MatchResult, IfOk, nat_lt, if◌then◌else◌}
 use Rattle.crash_model.specs.Disk.{Disk}

@@ -24,7 +24,7 @@ use Rattle.crash_model.specs.declared.plans.Change.{Change}
 use Rattle.crash_model.specs.declared.plans.Role.{Role}
 use Rattle.crash_model.specs.declared.plans.Role.TheVariants.{InodeInit, InodeFree, InitFile, InitDir, LinkUp, LinkDown}
 use Rattle.crash_model.specs.declared.plans.Role.TheVariants.{EntrySet, EntryClear, Ptr, MapSet, MapClear, PtrClear}
-use Rattle.crash_model.specs.declared.plans.Role.TheVariants.{Touch, NewData}
+use Rattle.crash_model.specs.declared.plans.Role.TheVariants.{Touch}
 use Rattle.crash_model.proofs.Bytes.{length-overwrite}
 use Rattle.soundness_laws.proofs.Searches.{first_below-is_some}
 use Rattle.soundness_laws.proofs.OnTables.{counts-parts}
@@ -164,7 +164,8 @@ create-lands d path changes disk is_name f =
     let inode = first_below-is_some 16 (is_free_inode d) f.i f.inode in
     let place = first_below-is_some 10 (is_free_entry d f.dir) f.k f.place in
     subst (AllLand d) (sym f.are) (
-      inode-lands d InodeInit f.i 0 (1 ∷ 1 ∷ generation_of d f.i ∷ replicate 13 0) disk inode.below (omega arith) (omega arith),
+      inode-lands d InodeInit f.i 0 (1 ∷ 1 ∷ generation_of d f.i ∷ replicate 13 0) disk inode.below (omega arith)
+          (omega arith),
       (set-lands d f.dir f.k f.i path.last (free-counts d f.dir f.k place.holds) place.below is_name, tt),
     )
 
@@ -236,7 +237,8 @@ mkdir-lands d path changes disk is_name f =
     let block = first_below-is_some d.blocks (is_free_block d) f.b f.block in
     let place = first_below-is_some 10 (is_free_entry d f.dir) f.k f.place in
     subst (AllLand d) (sym f.are) (
-      inode-lands d InodeInit f.i 0 (2 ∷ 1 ∷ generation_of d f.i ∷ replicate 13 0) disk inode.below (omega arith) (omega arith),
+      inode-lands d InodeInit f.i 0 (2 ∷ 1 ∷ generation_of d f.i ∷ replicate 13 0) disk inode.below (omega arith)
+          (omega arith),
       (
         map-lands d MapSet f.b 1 disk block.below,
         (

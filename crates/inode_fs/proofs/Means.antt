@@ -10,13 +10,13 @@ use Rattle.crash_model.specs.Sound.{IsSound}
 use Rattle.crash_model.specs.View.{View, view_of}
 use Rattle.crash_model.specs.Meaning.{Becomes, nothing, with_name, IsLowest, IsFreeInode, IsFreeBlock, IsFreeSlot}
 use Rattle.crash_model.specs.Meaning.{IsKind, Walks, IsParent, IsTarget, Means, MeansUnlinkOne, MeansUnlinkLast}
-use Rattle.crash_model.specs.Meaning.{MeansReplaceOne, MeansReplaceLast, with_blocks_of, names_replaced}
+use Rattle.crash_model.specs.Meaning.{MeansReplaceOne, MeansReplaceLast, names_replaced}
 use Rattle.crash_model.specs.declared.operations.Op.{Op}
 use Rattle.crash_model.specs.declared.names.Path.{Path}
 use Rattle.crash_model.specs.declared.operations.Op.TheVariants.{Create, Write, Link, Unlink, Rename, Mkdir, Rmdir}
 use Rattle.crash_model.specs.declared.operations.Op.TheVariants.{Overwrite, Truncate, Replace}
 use Rattle.crash_model.specs.declared.plans.Change.{Change}
-use Rattle.soundness_laws.specs.Tables.{Tables, tables_of, tables_after_link, tables_after_unlink, tables_after_removal}
+use Rattle.soundness_laws.specs.Tables.{Tables, tables_of, tables_after_unlink, tables_after_removal}
 use Rattle.soundness_laws.specs.Tables.{view, SameView, Sound}
 use Rattle.soundness_laws.specs.Tables.Place.{Leads}
 use Rattle.soundness_laws.proofs.Answered.{then_ok-ok, Entered, directory_named-ok}
@@ -328,7 +328,8 @@ plan-means d (Replace old new) changes disk sound name e =
                 (replaced-last (view (tables_of d)) (view (tables_of d)) (view s) _ f.old_dir old.last target f.dir
                 new.last other
                 (tables_after_removal-becomes (tables_of d) f.dir f.k other new.last used mark t can)
-                (renamed s (tables_after_removal-sound (tables_of d) f.dir f.k other (name_spelling new.last) used mark t
+                (renamed s
+                (tables_after_removal-sound (tables_of d) f.dir f.k other (name_spelling new.last) used mark t
                 can) then));
           })
     ] in (

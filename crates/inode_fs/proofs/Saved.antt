@@ -1,5 +1,5 @@
 -- The tables of a sound disk after `overwrite`, `truncate` and `replace`.
-use Rattle.std.proofs.Common.{◌≡◌, ◌≢◌, ℕ, zero, suc, ◌+◌, ◌-◌, ◌<◌, ◌≤◌, inl, inr, List, [], ◌∷◌, ◌++◌, Bool, true}
+use Rattle.std.proofs.Common.{◌≡◌, ◌≢◌, ℕ, zero, suc, ◌+◌, ◌-◌, ◌<◌, inl, inr, List, [], ◌∷◌, ◌++◌, Bool, true}
 use Rattle.std.proofs.Common.{false, Option, Some, None, arith, refl, sym, ◌∙◌, ap, subst}
 use Rattle.std.specs.Prelude.{option_to_list}
 use mathlib.Core.Path.{fun_ext}
@@ -10,28 +10,28 @@ use Rattle.crash_model.specs.Lists.{some_below, when}
 use Rattle.crash_model.specs.Layout.{kind_of, links_of, pointer_of, is_data, target_of}
 use Rattle.crash_model.specs.Slots.{slot_number}
 use Rattle.crash_model.specs.Plan.{name_spelling, inode_free, map_clears, map_clear_at, entry_set, entry_clear}
-use Rattle.crash_model.specs.Plan.{link_count, name_dropped, new_data, new_data_at, new_data_in, touch, pointers_clear}
+use Rattle.crash_model.specs.Plan.{link_count, new_data, new_data_at, new_data_in, touch, pointers_clear}
 use Rattle.crash_model.specs.Plan.{with_changes}
 use Rattle.crash_model.specs.declared.names.Path.{Path}
 use Rattle.crash_model.specs.declared.operations.Slot.{Slot}
 use Rattle.crash_model.specs.declared.plans.Change.{Change}
 use Rattle.crash_model.specs.declared.plans.Role.TheVariants.{LinkUp, LinkDown}
-use Rattle.soundness_laws.specs.Tables.{Tables, Place, Mark, tables_of, place_of, with_value, with_links, with_entry}
+use Rattle.soundness_laws.specs.Tables.{Tables, Place, Mark, tables_of, with_value, with_links, with_entry}
 use Rattle.soundness_laws.specs.Tables.{with_place, tables_after_link, tables_after_unlink, tables_after_removal}
 use Rattle.soundness_laws.specs.Tables.{tables_after_truncate, KeepsMarks, Sound}
 use Rattle.soundness_laws.specs.Tables.Place.{Free, Leads}
 use Rattle.soundness_laws.proofs.Sums.{with_value-same, with_value-other, changed_twice-same, changed_twice-other}
 use Rattle.soundness_laws.proofs.Names.{left_back}
-use Rattle.soundness_laws.proofs.Puts.{same_tables, data-block}
+use Rattle.soundness_laws.proofs.Puts.{same_tables}
 use Rattle.soundness_laws.proofs.OnTables.{place-no_directory}
-use Rattle.soundness_laws.proofs.ByTables.{kind-at, entry-at}
+use Rattle.soundness_laws.proofs.ByTables.{kind-at}
 use Rattle.soundness_laws.proofs.Views.{links-at}
-use Rattle.soundness_laws.proofs.Steps.{Stands, links-makes, set-makes, clear-makes, touch-makes, data-makes}
+use Rattle.soundness_laws.proofs.Steps.{links-makes, set-makes, clear-makes, touch-makes, data-makes}
 use Rattle.soundness_laws.proofs.Steps.{clear_pointers-makes}
-use Rattle.soundness_laws.proofs.Kept.{IsPlace, CanLink, CanUnlink, CanRemove, CanCut, file-leaf}
+use Rattle.soundness_laws.proofs.Kept.{CanLink, CanUnlink, CanRemove, CanCut, file-leaf}
 use Rattle.soundness_laws.proofs.Meant.{tables_after_rename, with_value-back}
 use Rattle.inode_fs.proofs.Accepted.{OverwriteFound, TruncateFound, ReplaceFound}
-use Rattle.inode_fs.proofs.Searched.{walk-found, named-found, NamedEntry}
+use Rattle.inode_fs.proofs.Searched.{walk-found, named-found}
 use Rattle.inode_fs.proofs.Lands.{with_changes-size}
 use Rattle.inode_fs.proofs.Clears.{with_changes-append, clears-make, clears-free}
 use Rattle.inode_fs.proofs.Changed.{Made, along, stands, free-made}
@@ -175,7 +175,8 @@ can-replace : (t s : Tables) (old_dir old_k dir k target other : ℕ) (old_name 
     → t.entry old_dir old_k ≡ Leads target (name_spelling old_name) → target ≢ other → s.kind dir ≡ t.kind dir
     → s.kind target ≡ 1 → s.links target ≡ t.links target → t.links target < 8
     → s.entry ≡ with_place t.entry dir k Free → CanReplace s old_dir old_k dir k target old_name name
-can-replace t s old_dir old_k dir k target other old_name name sound in_place is_name two there old_there apart kind file
+can-replace t s old_dir old_k dir k target other old_name name sound in_place is_name two there old_there
+    apart kind file
     links few entry =
     let row : (h m : ℕ) → s.entry h m ≡ with_place t.entry dir k Free h m =
     λ h m. ap (λ (f : ℕ → ℕ → Place). f h m) entry in
@@ -268,7 +269,8 @@ replace-made d old new changes disk sound is_name f =
           let down = links-makes d4 LinkDown other left first.disk place.target_below in
           Remains left
           (record { there = place.leads; file = other_file; some = omega arith; links = omega arith })
-          (can-replace t s f.old_dir f.old_k f.dir f.k target other old.last new.last sound place.below is_name walk.kind
+          (can-replace t s f.old_dir f.old_k f.dir f.k target other old.last new.last sound place.below
+          is_name walk.kind
           place.leads entry.leads f.apart refl file (with_value-other t.links other left target f.apart) few refl)
           (along d changes (link_count LinkUp target (links_of d target + 1) ∷ entry_set d f.dir f.k target new.last
           ∷ entry_clear d f.old_dir f.old_k ∷ link_count LinkDown target (links_of d target)
@@ -297,7 +299,8 @@ replace-made d old new changes disk sound is_name f =
             frees = freed.frees;
             marks = keeps;
           })
-          (can-replace t s f.old_dir f.old_k f.dir f.k target other old.last new.last sound place.below is_name walk.kind
+          (can-replace t s f.old_dir f.old_k f.dir f.k target other old.last new.last sound place.below
+          is_name walk.kind
           place.leads entry.leads f.apart (with_value-other t.kind other 0 f.dir dir_apart)
           (with_value-other t.kind other 0 target f.apart ∙ file)
           (with_value-other t.links other 0 target f.apart) few refl)

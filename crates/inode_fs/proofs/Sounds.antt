@@ -119,8 +119,10 @@ plan-keeps d (Replace old new) changes disk sound name e =
     let other = target_of d f.dir f.k in
     elim (replace-made d old new changes disk t name f) [
       | Remains left can then made ↦ sound-made d changes _ made
-          (tables_after_rename-sound (tables_after_unlink (tables_of d) f.dir f.k other left) f.old_dir f.old_k f.dir f.k
-          target old.last new.last (tables_after_unlink-sound (tables_of d) f.dir f.k other (name_spelling new.last) left
+          (tables_after_rename-sound (tables_after_unlink (tables_of d) f.dir f.k other left) f.old_dir
+          f.old_k f.dir f.k
+          target old.last new.last
+          (tables_after_unlink-sound (tables_of d) f.dir f.k other (name_spelling new.last) left
           t can) then.link then.there)
       | Vanishes used mark can then made ↦ sound-made d changes _ made
           (tables_after_rename-sound (tables_after_removal (tables_of d) f.dir f.k other used mark) f.old_dir f.old_k

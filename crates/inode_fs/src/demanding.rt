@@ -18,7 +18,8 @@ use std::marker::Model;
 /// are not lost, and if its operations are to be atomic, that the image shows the base or the disk after one of the
 /// steps.
 ///
-/// A step that is no operation changes nothing, nor does a refused operation. Nothing is said of promises here. It fails only when out of memory.
+/// A step that is no operation changes nothing, nor does a refused operation. Nothing is said of promises here. It
+/// fails only when out of memory.
 pub fn demands<A: Allocator + Copy>(
     alloc: A,
     base: &Image<A>,

@@ -1,6 +1,7 @@
 -- Replay by a walk that copies while it goes.
 use Rattle.std.proofs.Common.{◌≡◌, ◌≢◌, ℕ, zero, suc, ◌+◌, ◌-◌, ◌*◌, ◌<◌, ◌≤◌, ◌⊎◌, inl, inr, List, [], ◌∷◌, ◌++◌}
-use Rattle.std.proofs.Common.{length, take, drop, get_or, Bool, true, false, Option, None, arith, refl, sym, ◌∙◌, ap, subst}
+use Rattle.std.proofs.Common.{length, take, drop, get_or, Bool, true, false, Option, None, arith, refl, sym, ◌∙◌, ap}
+use Rattle.std.proofs.Common.{subst}
 use Rattle.std.specs.Prelude.{slice_index, unwrap_or, option_map, if◌then◌else◌, ◌==◌}
 use Rattle.std.specs.List.{position, All}
 use Rattle.std.proofs.lemmas.List.{length-take, length-drop, length-take-le}

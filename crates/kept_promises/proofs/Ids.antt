@@ -1,8 +1,8 @@
 -- Sets of ids from one number on and below another, and whether patches from one on meet ranges.
-use Rattle.std.proofs.Common.{◌≡◌, ℕ, zero, suc, ◌+◌, ◌<◌, ◌≤◌, List, [], ◌∷◌, length, drop, map, get_or, Bool, true, false}
-use Rattle.std.proofs.Common.{nat_le, ◌||◌, arith, tests, refl, sym, ap, subst, ◌∙◌, bit_or, Some, ◌⊎◌, inl, inr}
+use Rattle.std.proofs.Common.{◌≡◌, ℕ, zero, suc, ◌+◌, ◌≤◌, List, [], ◌∷◌, drop, map, get_or, true}
+use Rattle.std.proofs.Common.{false}
+use Rattle.std.proofs.Common.{nat_le, arith, tests, refl, sym, ap, subst, ◌∙◌, bit_or, ◌⊎◌, inl, inr}
 use Rattle.std.specs.Prelude.{◌^◌}
-use Rattle.std.specs.List.{list_any}
 use Rattle.std.specs.Int.Bits.{or_zero_l, or_zero_r}
 use Rattle.std.proofs.Math.Seq.{drop-cons}
 use Rattle.std.proofs.lemmas.List.{drop-map}
@@ -42,7 +42,8 @@ with_all set more from id number so_far least (inl most) =
     let same : id ≡ number = omega (arith, least, most) in
     so_far ∙ ap (λ (n : ℕ). bit_or set (ids_between from n)) same
 with_all set more from id number so_far least (inr none) =
-    so_far ∙ ap (bit_or set) (ids_none from id (omega (arith, none)) ∙ sym (ids_none from number (omega (arith, least, none))))
+    so_far ∙ ap (bit_or set)
+    (ids_none from id (omega (arith, none)) ∙ sym (ids_none from number (omega (arith, least, none))))
 
 -- the set of one id, as a number
 pub only_id : (id : ℕ) → with_id 0 id ≡ 2 ^ id

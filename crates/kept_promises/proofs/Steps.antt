@@ -1,5 +1,6 @@
 -- The promises of a script, step by step.
-use Rattle.std.proofs.Common.{◌≡◌, ℕ, zero, suc, ◌+◌, ◌<◌, ◌≤◌, List, [], ◌∷◌, length, drop, map, get_or, Bool, Ok, Err, Result}
+use Rattle.std.proofs.Common.{◌≡◌, ℕ, zero, suc, ◌+◌, ◌<◌, ◌≤◌, List, [], ◌∷◌, length, drop, map, get_or, Bool, Ok, Err}
+use Rattle.std.proofs.Common.{Result}
 use Rattle.std.proofs.Common.{arith, refl, sym, ap, subst, ◌∙◌}
 use Rattle.std.proofs.Math.Seq.{drop-cons}
 use Rattle.std.proofs.lemmas.List.{length-map}
@@ -26,7 +27,8 @@ pub record IsPromising {A : Type 0} (kind : Module) (is_durable : Bool) (base : 
   pub same_kind : t.log.kind ≡ kind
   pub op_numbers : t.tracing.op_number ≤ i + 1
   pub accepted : (last : Tracing) × (trace_from kind t.tracing (drop i steps) ≡ Ok last)
-  pub found : all_finished kind is_durable t.tracing (drop i steps) (unders_of p) ≡ promises_of kind is_durable base steps
+  pub found : all_finished kind is_durable t.tracing (drop i steps) (unders_of p)
+      ≡ promises_of kind is_durable base steps
   pub at : AreAt p t.tracing
   pub durable : p.is_durable ≡ is_durable
 
@@ -64,7 +66,8 @@ module _ {A : Type 0} (kind : Module) (is_durable : Bool) (base : Disk) (steps :
 
     taken : (next : Tracing) × (step kind t.tracing x.line x.act ≡ Ok next)
         × (trace_from kind next (drop (i + 1) steps) ≡ Ok is.accepted.0)
-    taken = then_taken (step kind t.tracing x.line x.act) (λ next. trace_from kind next (drop (i + 1) steps)) is.accepted.0
+    taken = then_taken (step kind t.tracing x.line x.act)
+        (λ next. trace_from kind next (drop (i + 1) steps)) is.accepted.0
         (sym (ap (trace_from kind t.tracing) rest_is) ∙ is.accepted.1)
 
     pub step_accepted : (next : Tracing) × (step t.log.kind t.tracing x.line x.act ≡ Ok next)

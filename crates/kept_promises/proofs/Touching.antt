@@ -1,5 +1,6 @@
 -- Whether the patches between two places touch a path, and the ids that end its promise then.
-use Rattle.std.proofs.Common.{◌≡◌, ℕ, List, [], ◌∷◌, length, drop, map, Bool, true, false, not, ◌||◌, refl, sym, ap, ◌∙◌, bit_or}
+use Rattle.std.proofs.Common.{◌≡◌, ℕ, List, [], ◌∷◌, length, drop, map, Bool, true, false, not, ◌||◌, refl, sym, ap}
+use Rattle.std.proofs.Common.{◌∙◌, bit_or}
 use Rattle.std.specs.Prelude.{if◌then◌else◌}
 use Rattle.std.specs.List.{list_any}
 use Rattle.std.specs.Int.Bits.{or_zero_r}
@@ -16,7 +17,8 @@ use Rattle.crash_model.specs.declared.showing.Shown.{Shown}
 use Rattle.kept_promises.specs.Watched.{ends_by}
 
 any_meets : (ranges : List Range) (emitted : List Emitted)
-    → list_any (λ place. list_any (meets_range place) ranges) (map (λ e. e.place) emitted) ≡ list_any (meets ranges) emitted
+    → list_any (λ place. list_any (meets_range place) ranges) (map (λ e. e.place) emitted)
+    ≡ list_any (meets ranges) emitted
 any_meets ranges [] = refl
 any_meets ranges (e ∷ es) = ap (λ (b : Bool). list_any (meets_range e.place) ranges || b) (any_meets ranges es)
 

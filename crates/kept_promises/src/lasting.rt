@@ -21,8 +21,8 @@ use patch_sets::set::with;
 use path_lookup::{MOST_TOUCHED, meets, touched_ranges, way_shows};
 use std::alloc::{AllocError, Allocator};
 
-/// The path of an fsync that promises, the bytes of which a change touches the path, and what the directories on the way
-/// and the path show so far.
+/// The path of an fsync that promises, the bytes of which a change touches the path, and what the directories on the
+/// way and the path show so far.
 #[derive(Drop)]
 pub(crate) struct Lasting {
     pub path: Path,

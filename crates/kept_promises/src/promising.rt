@@ -14,8 +14,8 @@ use crash_model::steps::{Act, Step, Target};
 use disk_image::Promise;
 use std::alloc::{AllocError, Allocator};
 
-/// The promises of the steps so far, to which those of later steps can be added. `is_durable` says whether each fsync of
-/// a path promises, too.
+/// The promises of the steps so far, to which those of later steps can be added. `is_durable` says whether each fsync
+/// of a path promises, too.
 #[derive(Drop)]
 pub struct Promising<A: Allocator + Copy> {
     pub(crate) alloc: A,

@@ -25,7 +25,7 @@ impl<'a, A: Allocator + Copy> KnownBytes<'a, A> {
     {
         let end = JOURNAL_AT + self.base().journal();
         let mut values = self.values(block, offset);
-        for at in 4..end {
+        for at in JOURNAL_AT..end {
             values = self.with_copy(values, at, block, offset);
         }
         values

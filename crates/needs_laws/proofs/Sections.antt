@@ -1,5 +1,6 @@
 -- A section for a rule, and the number of failing sets without it.
-use Rattle.std.proofs.Common.{◌≡◌, ◌≢◌, ℕ, ◌<◌, ◌≤◌, List, [], ◌∷◌, ◌++◌, length, get_or, Option, arith, sym, subst, refl}
+use Rattle.std.proofs.Common.{◌≡◌, ◌≢◌, ℕ, ◌<◌, ◌≤◌, List, [], ◌∷◌, ◌++◌, length, get_or, Option, arith, sym, subst}
+use Rattle.std.proofs.Common.{refl}
 use Rattle.std.proofs.Common.{◌∙◌, length-append}
 use Rattle.std.specs.Prelude.{Some, None, IsSome, ◌↔◌, not}
 use mathlib.Core.Bool.{true≢false}

@@ -164,7 +164,8 @@ module _ (log : Log) (labels : List Label) (label : Label) (patch : Patch) (set 
             | inl w ↦
                 let same : w.0 ≡ other = some_same (sym w.1 ∙ other_at) in
                 let t = subst (λ (l : Label). IsTrue (groups_depend log.links (emitted_of label) (emitted_of l)
-                || waits_for (emitted_of label) p || list_any (λ rule. applies rule (emitted_of label) (emitted_of l)) log.rules)) same w.2 in
+                || waits_for (emitted_of label) p
+                || list_any (λ rule. applies rule (emitted_of label) (emitted_of l)) log.rules)) same w.2 in
                 subst (λ (b : Emitted). IsTrue (depends log.rules log.whole log.links e p b)) (sym is_it)
                 (or_rest (overlap e.place stood) (shares_block log.whole e (emitted_at stood other))
                 (groups_depend log.links e (emitted_at stood other)) (waits_for e p)

@@ -18,7 +18,8 @@ graph_of_log log rules base s is same_rules same_base same_emitted same_links sa
   undo = subst (λ (d : Disk). AreUndo d log.patches) same_base is.graph.undo;
   earlier = is.graph.earlier;
   exactly = λ q p later before less one two.
-      subst (λ (w : Bool). Has (slice_index (deps_of log.patches) q) p ↔ IsTrue (depends rules w s.links later p before))
+      subst (λ (w : Bool). Has (slice_index (deps_of log.patches) q) p ↔ IsTrue
+      (depends rules w s.links later p before))
       (sym same_whole)
       (subst (λ ls. Has (slice_index (deps_of log.patches) q) p ↔ IsTrue (depends rules log.whole ls later p before))
       (sym same_links)

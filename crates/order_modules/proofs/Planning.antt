@@ -50,7 +50,8 @@ module _ (kind : Module) (line : ℕ) (op : Op) (s : Tracing) (cs : List Change)
 
   pub planned_many : s.journal + journal_blocks kind s.disk.blocks cs ≤ 4 + s.disk.journal
       → 124 < length s.emitted + length (patches_by kind (with_changes s.disk cs) s.op_number s.journal
-      (origin_at line op s.current s.forced) cs) → trace_of_plan kind line op s (Ok cs) ≡ Err (fault.TooManyPatches line)
+      (origin_at line op s.current s.forced) cs)
+      → trace_of_plan kind line op s (Ok cs) ≡ Err (fault.TooManyPatches line)
   planned_many fits many = rw (
     nat_lt-false (4 + s.disk.journal) (s.journal + journal_blocks kind s.disk.blocks cs)
         fits,

@@ -16,8 +16,8 @@ use std::alloc::Allocator;
 ///
 /// A refused operation changes nothing; a step on groups, one that waits and one that promises are refused, since they
 /// are about traced patches. The journal is not touched, and a sound image stays sound. On a sound image each operation
-/// makes the disk gain and lose what it means, and a step is refused exactly as the disk before it requires. It takes no
-/// memory.
+/// makes the disk gain and lose what it means, and a step is refused exactly as the disk before it requires. It takes
+/// no memory.
 pub fn build_base<A: Allocator + Copy>(
     image: &mut Image<A>,
     steps: &[Step],

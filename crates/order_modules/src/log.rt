@@ -136,8 +136,9 @@ impl<'a, A: Allocator + Copy> PatchLog<'a, A> {
         forcing::forced_by_sync(self.ordering.module, self.labels.as_slice())
     }
 
-    /// The ids of the patches that a line `fsync` waits for: those that meet the ranges of its path; under a journal the
-    /// file data among them, and the commit of the last operation of which file data or a change in place is among them.
+    /// The ids of the patches that a line `fsync` waits for: those that meet the ranges of its path; under a journal
+    /// the file data among them, and the commit of the last operation of which file data or a change in place is among
+    /// them.
     pub fn forced_by_fsync(&self, ranges: &[Range]) -> u128
         ensures { result ≡ ids_from 0 (fsync_forces self.now.kind ranges.now self.now.emitted) self.now.emitted }
     {

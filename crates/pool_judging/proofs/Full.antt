@@ -11,7 +11,6 @@ use Rattle.crash_model.specs.Sound.{IsSound, HasZeroJournal}
 use Rattle.crash_model.specs.Trace.{trace_from}
 use Rattle.crash_model.specs.Tracing.{trace_start}
 use Rattle.crash_model.specs.declared.modules.Module.{Module}
-use Rattle.crash_model.specs.declared.modules.Module.TheVariants.{Full}
 use Rattle.crash_model.specs.declared.operations.Op.{Op}
 use Rattle.crash_model.specs.declared.operations.Op.TheVariants.{Create, Write, Link, Unlink, Rename, Mkdir, Rmdir}
 use Rattle.crash_model.specs.declared.operations.Op.TheVariants.{Overwrite, Truncate, Replace}

@@ -112,7 +112,8 @@ module _ (kind : FaultKind) (faults : List DecidedFault) (i : ℕ) (d : DecidedF
 -- the least for each kind whose place is below another
 abbrev pub AreLeastBelow : List DecidedFault → ℕ → List (Option ℕ) → Type 0
 AreLeastBelow faults i firsts =
-    (kind : FaultKind) → kind_number kind - 1 < i → IsLeastOfKind kind faults (get_or firsts (kind_number kind - 1) None)
+    (kind : FaultKind) → kind_number kind - 1 < i
+    → IsLeastOfKind kind faults (get_or firsts (kind_number kind - 1) None)
 
 -- the same with that of one more kind
 pub least_below_more : (faults : List DecidedFault) (i : ℕ) (firsts : List (Option ℕ)) (here : FaultKind)

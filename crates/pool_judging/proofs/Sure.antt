@@ -54,7 +54,8 @@ none_before (k ∷ keeps) places (y ∷ before) after x keep place is e =
     let whole : k ∷ (keeps ++ places) ≡ y ∷ (before ++ x ∷ after) = e in
     let first : k ≡ y = cc in
     let rest : keeps ++ places ≡ before ++ x ∷ after = cc in
-    ap (λ (ops : List Op). ops ++ ops_of before) (no_operation y.act (subst IsKeep first (All-head IsKeep k keeps keep)))
+    ap (λ (ops : List Op). ops ++ ops_of before)
+    (no_operation y.act (subst IsKeep first (All-head IsKeep k keeps keep)))
     ∙ none_before keeps places before after x (All-tail IsKeep k keeps keep) place is rest
 
 sure_act : (steps before : List Step) (act : Act) → IsTrue (is_place act || is_keep act) → HasNoGroups steps

@@ -231,7 +231,8 @@ module _ (rules : List Rule) (whole : Bool) (asked : Asked) (base : Disk) (steps
       (image_after_replay (image_of base patches set))
   broken_alone closed =
       only_broken asked base steps s patches set disk
-      (recovered rules whole base steps s patches set disk sound zeros (steps_give steps names) is_traced among graph closed) demands are
+      (recovered rules whole base steps s patches set disk sound zeros
+      (steps_give steps names) is_traced among graph closed) demands are
       ∙ ap (λ (ps : Option (List Promise)). broken_lines (promised ps) set
       (image_after_replay (image_of base patches set))) (are.promises
       ∙ ap (λ (kind : Module). when asked.promising (promises_of kind asked.durable base steps)) full)

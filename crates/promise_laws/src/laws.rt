@@ -24,11 +24,11 @@ ghost use Rattle.full_journal_laws.specs.Full.{ops_of, GivesNames};
 ghost use Rattle.promise_laws.specs.Waited.{HasNoGroups, EndBehind, IsWaitedFor, IsSureAt, RiskNoPromise};
 ghost use Rattle.promise_laws.specs.Waited.{AreAtRisk};
 
-/// In a script without groups no set that a crash can leave breaks the promise of a line `keep` for which the script has
-/// waited: the line stands before the first operation; or a `sync` stands before it, with no operation between; or it
-/// names one path, and an `fsync` of this path stands before it, with no operation between. `before` has the steps up to
-/// the line, and `here` is the place right behind it. This holds with any rules added to those of the journal, and with
-/// blocks that are written whole.
+/// In a script without groups no set that a crash can leave breaks the promise of a line `keep` for which the script
+/// has waited: the line stands before the first operation; or a `sync` stands before it, with no operation between; or
+/// it names one path, and an `fsync` of this path stands before it, with no operation between. `before` has the steps
+/// up to the line, and `here` is the place right behind it. This holds with any rules added to those of the journal,
+/// and with blocks that are written whole.
 pub fn what_is_waited_for_is_kept()
     ensures { (rules : List Rule) → (whole : Bool) → (base : Disk) → (before after : List Step) → (s here : Tracing)
         → (patches : List Patch) → (set line : ℕ) → (paths : List Path)
@@ -53,8 +53,8 @@ pub fn what_is_forced_lasts()
         → is_broken (durable Full line path here after) set (image_after_replay (image_of base patches set)) ≡ false }
 {}
 
-/// So the checker finds no broken promise of a line, if each promise of a line with this number is that of an `fsync`, or
-/// that of a `keep` for which the script has waited.
+/// So the checker finds no broken promise of a line, if each promise of a line with this number is that of an `fsync`,
+/// or that of a `keep` for which the script has waited.
 pub fn sure_lines_are_kept()
     ensures { (rules : List Rule) → (whole is_durable : Bool) → (base : Disk) → (steps : List Step) → (s : Tracing)
         → (patches : List Patch) → (set line : ℕ)
@@ -66,7 +66,8 @@ pub fn sure_lines_are_kept()
         (image_after_replay (image_of base patches set)) line ≡ false }
 {}
 
-/// So nothing fails, whatever is demanded, if this is so of each promise of a script, or if broken promises do not count.
+/// So nothing fails, whatever is demanded, if this is so of each promise of a script, or if broken promises do not
+/// count.
 pub fn nothing_fails_where_no_promise_is_at_risk()
     ensures { (rules : List Rule) → (whole : Bool) → (asked : Asked) → (base : Disk) → (steps : List Step)
         → (s : Tracing) → (patches : List Patch) → (set : ℕ) → (demands : Demands)
@@ -77,8 +78,9 @@ pub fn nothing_fails_where_no_promise_is_at_risk()
         → ¬ (IsFailingUnder demands base patches set) }
 {}
 
-/// And whatever is demanded, each fault that a crash leaves is a broken promise of a line that is not sure. So none of the
-/// nine other faults is left, and the promises that the script has waited for are kept beside those that are at risk.
+/// And whatever is demanded, each fault that a crash leaves is a broken promise of a line that is not sure. So none of
+/// the nine other faults is left, and the promises that the script has waited for are kept beside those that are at
+/// risk.
 pub fn only_promises_at_risk_are_broken()
     ensures { (rules : List Rule) → (whole : Bool) → (asked : Asked) → (base : Disk) → (steps : List Step)
         → (s : Tracing) → (patches : List Patch) → (set : ℕ) → (demands : Demands)

@@ -103,11 +103,12 @@ module _ (kind : Module) (s : Tracing) (x : Step) (xs : List Step) {r : Result T
     | Err _ ↦ 0
   ]) e
 
-  pub promises_at : (is_durable : Bool) → step kind s x.line x.act ≡ r → promises_from kind is_durable s (x ∷ xs) ≡ (elim r [
-    | Ok next ↦ option_to_list (promise_of kind is_durable x.line x.act next xs)
-        ++ promises_from kind is_durable next xs
-    | Err _ ↦ []
-  ])
+  pub promises_at : (is_durable : Bool) → step kind s x.line x.act ≡ r
+      → promises_from kind is_durable s (x ∷ xs) ≡ (elim r [
+        | Ok next ↦ option_to_list (promise_of kind is_durable x.line x.act next xs)
+            ++ promises_from kind is_durable next xs
+        | Err _ ↦ []
+      ])
   promises_at is_durable e = ap (λ (q : Result Tracing TraceFault). elim q [
     | Ok next ↦ option_to_list (promise_of kind is_durable x.line x.act next xs)
         ++ promises_from kind is_durable next xs
@@ -124,7 +125,8 @@ places_begin kind s (x ∷ xs) = by (step kind s x.line x.act) refl
     by (Ok next) e = (places_from kind next xs, places_at kind s x xs e)
     by (Err fault) e = ([], places_at kind s x xs e)
 
-only_rest : (s : Tracing) (b : Bool) → s ∷ [] ≡ (if b then (if b then s ∷ [] else []) else s ∷ (if b then s ∷ [] else []))
+only_rest : (s : Tracing) (b : Bool) → s ∷ []
+    ≡ (if b then (if b then s ∷ [] else []) else s ∷ (if b then s ∷ [] else []))
 only_rest s true = refl
 only_rest s false = refl
 
@@ -142,7 +144,8 @@ rests_split kind s (x ∷ xs) = by (step kind s x.line x.act) refl
         ∙ ap (λ (rests : List Tracing). after_it s rests) (sym (rests_at kind s x xs e)))
     by (Err fault) e =
         ap (λ (ss : List Tracing). rests_of ss) (places_at kind s x xs e)
-        ∙ (only_rest s (is_some s.current) ∙ ap (λ (rests : List Tracing). after_it s rests) (sym (rests_at kind s x xs e)))
+        ∙ (only_rest s (is_some s.current)
+        ∙ ap (λ (rests : List Tracing). after_it s rests) (sym (rests_at kind s x xs e)))
 
 -- ---- parts of a promise
 
@@ -195,8 +198,10 @@ module _ (kind : Module) (here : Tracing) (xs : List Step) where
 
 -- ---- one step
 
-module _ (kind : Module) (s next : Tracing) (x : Step) (xs : List Step) (goes : step kind s x.line x.act ≡ Ok next) where
-  spares_on : (paths : List Path) → spares_of kind paths s (x ∷ xs) ≡ spared paths s x.act ++ spares_of kind paths next xs
+module _ (kind : Module) (s next : Tracing) (x : Step) (xs : List Step)
+    (goes : step kind s x.line x.act ≡ Ok next) where
+  spares_on : (paths : List Path) → spares_of kind paths s (x ∷ xs) ≡ spared paths s x.act
+      ++ spares_of kind paths next xs
   spares_on [] = refl
   spares_on (path ∷ []) = spares_at kind s x xs path goes
   spares_on (path ∷ other ∷ others) = refl
@@ -228,7 +233,8 @@ module _ (kind : Module) (s next : Tracing) (x : Step) (xs : List Step) (goes : 
       } in
       let all : List StandIn = u.promise.spares ++ spares_of kind u.promise.paths s (x ∷ xs) in
       let ends : ℕ = finished_ends kind next xs v in
-      ap (λ (e : ℕ). promise_with u e (allowed_with u (rests_left kind s (x ∷ xs))) all) (ends_by u.lasts u.promise.ends u.ranges)
+      ap (λ (e : ℕ). promise_with u e (allowed_with u (rests_left kind s (x ∷ xs))) all)
+      (ends_by u.lasts u.promise.ends u.ranges)
       ∙ (ap (λ (rests : List Tracing). promise_with u ends (allowed_with u rests) all) rests_on
       ∙ (ap (λ (spares : List StandIn). promise_with u ends
       (allowed_with u (after_it next (rests_left kind next xs))) spares)

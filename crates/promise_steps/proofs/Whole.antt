@@ -1,10 +1,12 @@
 -- Promises do not depend on whether blocks are written whole.
-use Rattle.std.proofs.Common.{◌≡◌, ℕ, ◌+◌, ◌^◌, nat_lt, List, [], ◌∷◌, ◌++◌, length, map, Bool, true, false, refl, ap, ◌∙◌}
+use Rattle.std.proofs.Common.{◌≡◌, ℕ, ◌+◌, ◌^◌, nat_lt, List, [], ◌∷◌, ◌++◌, length, map, Bool, true, false, refl, ap}
+use Rattle.std.proofs.Common.{◌∙◌}
 use Rattle.std.specs.Prelude.{Option, Some, None, is_some, if◌then◌else◌, Result, Ok, Err, option_to_list, bit_or}
 use Rattle.crash_model.specs.Disk.{Disk}
 use Rattle.crash_model.specs.Lists.{when}
 use Rattle.crash_model.specs.Plan.{plan_of, unless, with_found, with_changes}
-use Rattle.crash_model.specs.Promises.{Promise, allowance, paths_show, with_allowance, with_rests, rests_of, places_from, spare_at}
+use Rattle.crash_model.specs.Promises.{Promise, allowance, paths_show, with_allowance, with_rests, rests_of}
+use Rattle.crash_model.specs.Promises.{places_from, spare_at}
 use Rattle.crash_model.specs.Promises.{spares_from, spares_of, touches, touching_from, ids_between}
 use Rattle.crash_model.specs.Promises.{kept, held, durable, promise_of, promises_from, promises_of}
 use Rattle.crash_model.specs.Paths.{is_same_path}
@@ -108,7 +110,8 @@ module _ (w : Bool) where
       by false more = ap (λ (rs : List Tracing). by_blocks s ∷ rs) more
 
   module _ (kind : Module) where
-    places_by : (s : Tracing) (xs : List Step) → places_from kind (by_blocks s) xs ≡ map by_blocks (places_from kind s xs)
+    places_by : (s : Tracing) (xs : List Step)
+        → places_from kind (by_blocks s) xs ≡ map by_blocks (places_from kind s xs)
     places_by s [] = refl
     places_by s (x ∷ xs) = places_at kind (by_blocks s) x xs (step_by kind s x.line x.act)
         ∙ by (step kind s x.line x.act)
@@ -153,10 +156,12 @@ module _ (w : Bool) where
         (λ next. touching_by path ranges next xs)
       where
         by : (r : Result Tracing TraceFault)
-            → ((next : Tracing) → touching_from kind path ranges (by_blocks next) xs ≡ touching_from kind path ranges next xs)
+            → ((next : Tracing) → touching_from kind path ranges (by_blocks next) xs
+            ≡ touching_from kind path ranges next xs)
             → ◌≡◌ {A = ℕ} (elim (result_by r) [
               | Ok next ↦ bit_or
-                  (if touches path ranges (by_blocks s) next then ids_between (length s.emitted) (length next.emitted) else 0)
+                  (if touches path ranges (by_blocks s) next
+                  then ids_between (length s.emitted) (length next.emitted) else 0)
                   (touching_from kind path ranges next xs)
               | Err _ ↦ 0
             ]) (elim r [
@@ -211,7 +216,8 @@ module _ (w : Bool) where
         (λ next. promises_by is_durable next xs)
       where
         by : (r : Result Tracing TraceFault)
-            → ((next : Tracing) → promises_from kind is_durable (by_blocks next) xs ≡ promises_from kind is_durable next xs)
+            → ((next : Tracing) → promises_from kind is_durable (by_blocks next) xs
+            ≡ promises_from kind is_durable next xs)
             → ◌≡◌ {A = List Promise} (elim (result_by r) [
               | Ok next ↦ option_to_list (promise_of kind is_durable x.line x.act next xs)
                   ++ promises_from kind is_durable next xs

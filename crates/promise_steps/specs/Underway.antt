@@ -2,7 +2,8 @@
 use Rattle.std.specs.Prelude.{ℕ, ◌^◌, List, [], ◌∷◌, ◌++◌, length, map, Bool, true, false, if◌then◌else◌, Option, Some}
 use Rattle.std.specs.Prelude.{None, is_some, Ok, Err, bit_or, option_to_list, option_map}
 use Rattle.crash_model.specs.Paths.{names_of}
-use Rattle.crash_model.specs.Promises.{Promise, allowance, paths_show, with_allowance, with_rests, rests_of, places_from}
+use Rattle.crash_model.specs.Promises.{Promise, allowance, paths_show, with_allowance, with_rests, rests_of}
+use Rattle.crash_model.specs.Promises.{places_from}
 use Rattle.crash_model.specs.Promises.{spare_at, spares_of, touched_ranges, touches, ids_between, touching_from}
 use Rattle.crash_model.specs.Promises.{promises_from}
 use Rattle.crash_model.specs.Lists.{when}
@@ -17,8 +18,8 @@ use Rattle.crash_model.specs.declared.steps.Act.TheVariants.{Fsync, Keep, Hold}
 use Rattle.crash_model.specs.declared.steps.Step.{Step}
 use Rattle.crash_model.specs.declared.steps.Target.TheVariants.{At}
 
--- what is promised so far; the least set, as a number, that may show what is shown at the next rest; and of an fsync its
--- path, with the ranges of which a change touches it
+-- what is promised so far; the least set, as a number, that may show what is shown at the next rest; and of an fsync
+-- its path, with the ranges of which a change touches it
 pub record Under : Type 0 where
   pub promise : Promise
   pub least : ℕ

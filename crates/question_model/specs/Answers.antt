@@ -1,5 +1,5 @@
--- The answer to a question, from a script's bytes and the settings. No worker, no explorer and no order of discovery is in
--- it.
+-- The answer to a question, from a script's bytes and the settings. No worker, no explorer and no order of discovery is
+-- in it.
 use Rattle.std.specs.Prelude.{ℕ, List}
 use Rattle.report_model.specs.Answer.{Answer, Refused, Reported, IsReported, IsVisited}
 use Rattle.report_model.specs.Untraced.{IsUntraced}

@@ -31,8 +31,8 @@ pub record IsMinimalLines (demands : Demands) (base : Disk) (rules : List Rule) 
   pub enough : AreEnoughLines demands base rules s lines
   pub minimal : (part : ℕ) → IsSubset part lines → part ≢ lines → ¬ (AreEnoughLines demands base rules s part)
 
--- a minimal group of lines of which one is needed: all lines but the group are not enough, and all but a smaller part of
--- it are
+-- a minimal group of lines of which one is needed: all lines but the group are not enough, and all but a smaller part
+-- of it are
 pub record IsNeededLines (demands : Demands) (base : Disk) (rules : List Rule) (s : Tracing) (group : ℕ) : Type 0 where
   pub places : IsSubset group (all_waits s.waits)
   pub some : group ≢ 0

@@ -60,9 +60,9 @@ abbrev pub IsListedGroup : Detail → List Rule → Disk → Tracing → ListedG
 IsListedGroup detail rules base s listed =
     HasGraphBy (rules_but rules listed.group) base s (λ patches. IsListedFirst detail base patches listed.fault)
 
--- how many patches and closed sets there are, what the patches are and what is promised if that is asked for; the minimal
--- sets of choices that are enough, the minimal groups of which one is needed, and the first fault of all choices. The
--- choices are the rules of the ordering, or the lines that wait.
+-- how many patches and closed sets there are, what the patches are and what is promised if that is asked for; the
+-- minimal sets of choices that are enough, the minimal groups of which one is needed, and the first fault of all
+-- choices. The choices are the rules of the ordering, or the lines that wait.
 pub record EnoughFound : Type 0 where
   pub patches : ℕ
   pub closed : ℕ
@@ -154,7 +154,8 @@ enough_bytes choices settings r =
 
 -- ---- the answer
 
--- a report on a graph that shows these sets and groups of choices; `number` is 1 if all choices are not enough, otherwise 0
+-- a report on a graph that shows these sets and groups of choices; `number` is 1 if all choices are not enough,
+-- otherwise 0
 pub record ShowsChoices (choices : Choices) (enough : List ℕ) (needs : List ListedGroup) (settings : Settings)
     (demands : Demands) (base : Disk) (last : Tracing) (patches : List Patch) (text : List ℕ) (number : ℕ)
     : Type 0 where

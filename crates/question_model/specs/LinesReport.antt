@@ -1,5 +1,6 @@
 -- What is reported of a script's lines that have to wait.
-use Rattle.std.specs.Prelude.{◌≡◌, ℕ, ◌≤◌, List, [], ◌++◌, length, map, flat_map, Some, Ok, Err, slice_get, codes, decimal}
+use Rattle.std.specs.Prelude.{◌≡◌, ℕ, ◌≤◌, List, [], ◌++◌, length, map, flat_map, Some, Ok, Err, slice_get, codes}
+use Rattle.std.specs.Prelude.{decimal}
 use Rattle.patch_sets.specs.Ends.{IsDifference}
 use Rattle.report_model.specs.Answer.{detail_of}
 use Rattle.report_model.specs.ScriptGraph.{HasBase, ordering_rules}

@@ -1,5 +1,5 @@
 -- What a search reports of the rules that all workloads together need.
-use Rattle.std.specs.Prelude.{◌≡◌, ℕ, List, [], ◌++◌, length, map, flat_map, if◌then◌else◌, codes, decimal}
+use Rattle.std.specs.Prelude.{◌≡◌, ℕ, List, ◌++◌, length, map, flat_map, if◌then◌else◌, codes, decimal}
 use Rattle.std.specs.Prelude.{Bool, ◌==◌}
 use Rattle.std.specs.List.{All}
 use Rattle.patch_sets.specs.Sets.{AreAllInOrder}

@@ -21,8 +21,8 @@ use Rattle.crash_model.specs.Refused.{refusal_of}
 use Rattle.crash_model.specs.declared.fault_kind.FaultKind.{FaultKind}
 use Rattle.crash_model.specs.declared.refusal.Refusal.{Refusal}
 
--- what a search is asked: the ordering, the checker, the base, the promises that each workload begins with, the pool, and
--- the most steps of a workload
+-- what a search is asked: the ordering, the checker, the base, the promises that each workload begins with, the pool,
+-- and the most steps of a workload
 pub record Search : Type 0 where
   pub ordering : Module
   pub rules : List Rule

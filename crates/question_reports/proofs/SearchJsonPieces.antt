@@ -79,7 +79,8 @@ pub kind_pieces : {A : Type 0} (numbers : Bool) (pool : List Step) (k : KindCras
     → seven ≡ six ++ join_of 44 (map (write_json n) k.section.writes.items)
     → after ≡ seven ++ codes "]}"
     → after ≡ before ++ kind_json numbers (listed_kind pool k)
-kind_pieces numbers pool k n before one two three shown four five six seven after n_is first second third shows fourth fifth
+kind_pieces numbers pool k n before one two three shown four five six seven after n_is first second third shows
+    fourth fifth
     sixth seventh eighth =
     let texts = join_of 44 (map (λ step. json_string (step_text step)) (listed_kind pool k).steps) in
     let writes = join_of 44 (map (write_json k.patches) k.section.writes.items) in

@@ -22,7 +22,8 @@ use Rattle.question_reports.specs.declared.search_rules.findings.NeededWorkload.
 use Rattle.question_reports.specs.declared.search_rules.findings.SearchRulesFindings.{SearchRulesFindings}
 
 -- the object of a group
-pub need_pieces : {A : Type 0} (numbers : Bool) (rules : List Rule) (pool : List Step) (needed : NeededWorkload A) (n : ℕ)
+pub need_pieces : {A : Type 0} (numbers : Bool) (rules : List Rule) (pool : List Step)
+    (needed : NeededWorkload A) (n : ℕ)
     (before one two three shown four five six seven after : List ℕ) → n ≡ needed.patches
     → one ≡ before ++ group_head numbers (rule_choices rules) needed.group (listed_first needed.fault)
     → two ≡ one ++ codes "\"set\":"
@@ -34,7 +35,8 @@ pub need_pieces : {A : Type 0} (numbers : Bool) (rules : List Rule) (pool : List
     → seven ≡ six ++ join_of 44 (map (write_json n) needed.fault.section.writes.items)
     → after ≡ seven ++ codes "]}"
     → after ≡ before ++ need_json numbers rules (listed_need pool needed)
-need_pieces numbers rules pool needed n before one two three shown four five six seven after n_is first second third shows
+need_pieces numbers rules pool needed n before one two three shown four five six seven after n_is first second
+    third shows
     fourth fifth sixth seventh eighth =
     let head = group_head numbers (rule_choices rules) needed.group (listed_first needed.fault) in
     let fault = fault_head numbers needed.fault.decided.fault in

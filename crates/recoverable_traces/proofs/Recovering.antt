@@ -5,7 +5,6 @@ use Rattle.crash_model.specs.Disk.{Disk}
 use Rattle.crash_model.specs.Trace.{trace_from, IsGraphOf}
 use Rattle.crash_model.specs.Tracing.{Tracing, trace_start}
 use Rattle.crash_model.specs.declared.modules.Module.{Module}
-use Rattle.crash_model.specs.declared.modules.Module.TheVariants.{Full}
 use Rattle.crash_model.specs.declared.patches.Patch.{Patch}
 use Rattle.crash_model.specs.declared.rules.Rule.{Rule}
 use Rattle.crash_model.specs.declared.steps.Step.{Step}
@@ -24,7 +23,8 @@ both P Q R (Err e) follows p q = tt
 module _ (ordering : Module) (rules : List Rule) (whole : Bool) (base : Disk) (steps : List Step)
     (is : IsRecoverable ordering rules base) where
   module _ (s : Tracing) (patches : List Patch) (names : All GivesNames steps)
-      (traced : trace_from ordering (trace_start whole base) steps ≡ Ok s) (graph : IsGraphOf rules base s patches) where
+      (traced : trace_from ordering (trace_start whole base) steps ≡ Ok s)
+      (graph : IsGraphOf rules base s patches) where
     pub recovers : IsFullSafe whole base steps patches
     recovers = traced_is_safe ordering rules whole base steps s patches is.journal.full is.journal.all is.disk is.sound
         is.zeros names traced graph

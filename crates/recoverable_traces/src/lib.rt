@@ -1,8 +1,9 @@
-//! Traces of scripts, with the promise of the full journal: from each crash, replay recovers the committed operations, and
-//! nothing fails but a promise that is at risk.
+//! Traces of scripts, with the promise of the full journal: from each crash, replay recovers the committed operations,
+//! and nothing fails but a promise that is at risk.
 //!
-//! [`trace`] traces a whole script, and [`finish`] ends the trace of a workload. Both trace as `order_modules` does. Their
-//! contracts add what `full_journal_laws` and `promise_laws` prove, so that the tracer does not depend on these proofs.
+//! [`trace`] traces a whole script, and [`finish`] ends the trace of a workload. Both trace as `order_modules` does.
+//! Their contracts add what `full_journal_laws` and `promise_laws` prove, so that the tracer does not depend on these
+//! proofs.
 #![tactic(auto)]
 
 ghost use Rattle.std.specs.Prelude.{◌≡◌, ◌<◌, List, Bool, Ok, IfOk, All};

@@ -1,5 +1,6 @@
 -- Items of an array in parts, and the objects of a list of sets with those of the sets behind it.
-use Rattle.std.proofs.Common.{◌≡◌, ℕ, suc, ◌+◌, List, [], ◌∷◌, ◌++◌, length, map, refl, sym, ap, arith, ◌∙◌, append_assoc}
+use Rattle.std.proofs.Common.{◌≡◌, ℕ, suc, ◌+◌, List, [], ◌∷◌, ◌++◌, length, map, refl, sym, ap, arith, ◌∙◌}
+use Rattle.std.proofs.Common.{append_assoc}
 use Rattle.std.proofs.lemmas.List.{append-nil, length-map, map-append}
 use Rattle.crash_model.specs.Disk.{Disk}
 use Rattle.crash_model.specs.Lists.{join_of}
@@ -53,7 +54,8 @@ module _ (how : Form) (detail : Detail) (base : Disk) (patches : List Patch) whe
   sections_none text = record { sections = []; are = refl; whole = sym (append-nil text) }
 
   -- objects after objects, which are in a text of their own
-  pub sections_joined : (sets others old text part new : List ℕ) → WritesSections how detail base patches 0 sets old text
+  pub sections_joined : (sets others old text part new : List ℕ)
+      → WritesSections how detail base patches 0 sets old text
       → WritesSections how detail base patches (length sets) others [] part → new ≡ text ++ part
       → WritesSections how detail base patches 0 (sets ++ others) old new
   sections_joined sets others old text part new first next more = record {

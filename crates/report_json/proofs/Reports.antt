@@ -52,7 +52,8 @@ section_more form detail base patches sets place i old so_far after text s withi
       length-take i sets,
     )
 
-pub fault_more : {A : Type 0} (form : Form) (detail : Detail) (base : Disk) (patches : List Patch) (rows : List FaultRow)
+pub fault_more : {A : Type 0} (form : Form) (detail : Detail) (base : Disk) (patches : List Patch)
+    (rows : List FaultRow)
     (i : ℕ) (d : FaultRow) (old so_far after text : List ℕ) (s : code.Section A) → i < length rows
     → WritesFaults form detail base patches (take i rows) old so_far
     → IsSection detail base patches (get_or rows i d).first s

@@ -19,7 +19,8 @@ fault_numbers (Dangling d k i) =
 fault_numbers (Twice b) = codes "{\"block\":" ++ decimal b ++ codes ",\"kind\":2}"
 fault_numbers (Unwritten i s b) = pointer_json 3 i s b
 fault_numbers (LowLinks i e l) =
-    codes "{\"entries\":" ++ decimal e ++ codes ",\"inode\":" ++ decimal i ++ codes ",\"kind\":4,\"links\":" ++ decimal l
+    codes "{\"entries\":" ++ decimal e ++ codes ",\"inode\":" ++ decimal i ++ codes ",\"kind\":4,\"links\":"
+    ++ decimal l
     ++ codes "}"
 fault_numbers (MarkedFree i s b) = pointer_json 5 i s b
 fault_numbers (Wild i s b) = pointer_json 6 i s b

@@ -3,7 +3,6 @@ use Rattle.std.specs.Prelude.{ℕ, List, Bool, ◌++◌, map, codes, decimal}
 use Rattle.patch_sets.specs.Sets.{ids_of}
 use Rattle.crash_model.specs.Lists.{join_of}
 use Rattle.crash_model.specs.declared.separators.TheConstants.{COMMA}
-use Rattle.report_model.specs.Parts.{numbers}
 
 abbrev pub json_string : List ℕ → List ℕ
 json_string text = codes "\"" ++ text ++ codes "\""

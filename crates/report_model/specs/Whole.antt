@@ -12,8 +12,8 @@ pub data Body : Type 0 where
   Faults : List CountedFault → Body
   Rules : List ListedRule → Body
 
--- how many patches, closed sets and failing sets there are; what the patches are, and what is promised, if that is asked
--- for; and the body
+-- how many patches, closed sets and failing sets there are; what the patches are, and what is promised, if that is
+-- asked for; and the body
 pub record Report : Type 0 where
   pub patches : ℕ
   pub closed : ℕ

@@ -1,5 +1,5 @@
 -- Lists of what is shown, as the report's definition sees them.
-use Rattle.std.proofs.Common.{◌≡◌, List, [], Some, None, Bool, true, false, is_some, refl}
+use Rattle.std.proofs.Common.{◌≡◌, List, [], Some, None, false, is_some, refl}
 use Rattle.std.specs.Prelude.{Option, Vec}
 use Rattle.arrayvec.specs.ArrayVec.{ArrayVec}
 use Rattle.crash_model.specs.declared.showing.Shown.{Shown}

@@ -14,7 +14,8 @@ use Rattle.script_text.specs.declared.line.Line.TheVariants as line
 use Rattle.script_text.specs.declared.line.LineFault.{LineFault}
 use Rattle.script_text.specs.declared.line.LineFault.TheVariants.{BadUtf8, BadLine, BadPath}
 use Rattle.script_text.specs.declared.verb.Verb.{Verb}
-use Rattle.script_text.specs.declared.verb.Verb.TheVariants.{Link, Rename, Overwrite, Replace, Depend, Keep, Spare, Start}
+use Rattle.script_text.specs.declared.verb.Verb.TheVariants.{Link, Rename, Overwrite, Replace, Depend, Keep, Spare}
+use Rattle.script_text.specs.declared.verb.Verb.TheVariants.{Start}
 use Rattle.script_text.specs.Words.{some_act, form, spelling, operands_of, IsNoVerb, SaysWords, SaysLine}
 use Rattle.script_text.specs.Words.{IsOperandFault, IsLineFault}
 use Rattle.script_text.proofs.Acts.{verb_once, verb_of_act, start_words}

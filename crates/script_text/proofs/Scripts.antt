@@ -6,7 +6,7 @@ use Rattle.std.proofs.lemmas.Bool.{false≢true}
 use Rattle.std.proofs.lemmas.List.Elements.{All-nil, All-cons, All-append}
 use denote.Ref.{Bor}
 use Rattle.crash_model.specs.Script.{AreLines, AreSteps, IsScript, Line, Reads}
-use Rattle.crash_model.specs.ScriptRefusals.{AreAccepted, IsFirstRefused, IsBadLine, IsScriptRefusal}
+use Rattle.crash_model.specs.ScriptRefusals.{AreAccepted, IsScriptRefusal}
 use Rattle.crash_model.specs.Script as script
 use Rattle.crash_model.specs.declared.refusals.ScriptFault.{ScriptFault}
 use Rattle.crash_model.specs.declared.refusals.ScriptFault.TheVariants as fault

@@ -62,7 +62,8 @@ module _ (promises : List Promise) (set : ℕ) (d : Disk) where
       ∙ (ap (λ (o : Option (List Shown)). lists ++ option_to_list o) none ∙ more faults i x lists within are)
 
   pub pushed_more : {X : Type 0} (items : X → List Shown) (faults : List Fault) (i : ℕ) (x : Fault)
-      (before after : List X) (list : X) → i < length faults → map items before ≡ broken_shown promises set d (take i faults)
+      (before after : List X) (list : X) → i < length faults
+      → map items before ≡ broken_shown promises set d (take i faults)
       → Some (items list) ≡ shown_for promises set d (get_or faults i x) → after ≡ before ++ list ∷ []
       → map items after ≡ broken_shown promises set d (take (i + 1) faults)
   pushed_more items faults i x before after list within are some pushed =

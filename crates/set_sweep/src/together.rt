@@ -40,8 +40,8 @@ where
     /// Visits each closed set of a graph once.
     ///
     /// For every number of workers and every schedule, an answer other than out of memory is the one that is defined
-    /// without threads: the tally of all closed sets in ascending number, or that they are more than the limit. They are
-    /// not counted first: a caller that knows their number can refuse before any is visited.
+    /// without threads: the tally of all closed sets in ascending number, or that they are more than the limit. They
+    /// are not counted first: a caller that knows their number can refuse before any is visited.
     pub fn sweep_with<V>(
         &self,
         visitor: &V,

@@ -12,7 +12,8 @@ use Rattle.crash_model.specs.Sound.{IsSound, ReachedIn}
 use Rattle.crash_model.proofs.Clean.{no_fault_clean}
 use Rattle.crash_model.specs.Generations.{generation_of, mark_generation}
 use Rattle.soundness_laws.proofs.ByTables.{current-parts}
-use Rattle.soundness_laws.specs.Tables.{tables_of, mark_at, is_current, HasPointer as PointerIn, ReachedIn as ReachedBy, count_to}
+use Rattle.soundness_laws.specs.Tables.{tables_of, mark_at, is_current, HasPointer as PointerIn, ReachedIn as ReachedBy}
+use Rattle.soundness_laws.specs.Tables.{count_to}
 use Rattle.soundness_laws.specs.Tables.{SoundNames, Sound}
 use Rattle.soundness_laws.specs.Tables.Place.{Leads}
 use Rattle.soundness_laws.specs.Tables.Mark.{Plain, FileOf, DirectoryOf}

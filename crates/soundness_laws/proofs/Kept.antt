@@ -5,7 +5,8 @@ use Rattle.crash_model.specs.Names.{IsName}
 use Rattle.crash_model.specs.Plan.{name_spelling}
 use Rattle.soundness_laws.specs.Tables.{Tables, with_value, with_place, tables_after_create, tables_after_write}
 use Rattle.soundness_laws.specs.Tables.{tables_after_link, tables_after_unlink, tables_after_removal}
-use Rattle.soundness_laws.specs.Tables.{tables_after_mkdir, tables_after_truncate, KeepsMarks, Mark, count_to, SoundNames}
+use Rattle.soundness_laws.specs.Tables.{tables_after_mkdir, tables_after_truncate, KeepsMarks, Mark, count_to}
+use Rattle.soundness_laws.specs.Tables.{SoundNames}
 use Rattle.soundness_laws.specs.Tables.{SoundCounts, Sound}
 use Rattle.soundness_laws.specs.Tables.Place.{Free, Leads}
 use Rattle.soundness_laws.specs.Tables.Mark.{FileOf, DirectoryOf}

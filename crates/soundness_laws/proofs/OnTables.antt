@@ -8,7 +8,6 @@ use Rattle.std.proofs.lemmas.Bool.Decides.{nat_tests}
 use Rattle.std.proofs.lemmas.Grind.{elements, same_number_lists}
 use Rattle.crash_model.specs.Disk.{Disk, IsDisk, byte, overwrite}
 use Rattle.crash_model.specs.Layout.{kind_of, links_of, pointer_of, map_of, is_data, counts, entry_of, spelling_of}
-use Rattle.crash_model.specs.Layout.{is_owned}
 use Rattle.crash_model.specs.Generations.{generation_of, mark_generation, next_generation}
 use Rattle.crash_model.specs.Plan.{inode_init, inode_free, entry_set, entry_clear, name_spelling, with_changes}
 use Rattle.crash_model.proofs.Bytes.{length-overwrite, overwrite-inside}
@@ -17,7 +16,8 @@ use Rattle.soundness_laws.specs.Tables.{within}
 use Rattle.soundness_laws.specs.Tables.Place.{Free, Leads}
 use Rattle.soundness_laws.proofs.Puts.{with_bytes_at, SameBlock, same-block, byte-outside, range-outside, place-same}
 use Rattle.soundness_laws.proofs.Puts.{mark-same, mark-kept, data-block, within-with_value, within-same, same_tables}
-use Rattle.soundness_laws.proofs.Puts.{tables-inode, marks-inode, generation-same, mark_generation-same, with_value-kept}
+use Rattle.soundness_laws.proofs.Puts.{tables-inode, marks-inode, generation-same, mark_generation-same}
+use Rattle.soundness_laws.proofs.Puts.{with_value-kept}
 
 pub byte-inside : (xs : List ℕ) (at : ℕ) (new : List ℕ) (o p : ℕ) → at + length new ≤ length xs → o < length new
     → p ≡ at + o → get_or (overwrite xs at new) p 0 ≡ get_or new o 0

@@ -21,7 +21,8 @@ with_bytes_at d at new = record d { bytes = overwrite d.bytes at new }
 -- what tables read of a block: not its byte 3
 pub record SameBlock (d e : Disk) (b : ℕ) : Type 0 where
   pub bytes : (o : ℕ) → o < 128 → o ≢ 3 → byte e b o ≡ byte d b o
-  pub spellings : (o : ℕ) → 8 ≤ o → o + 11 ≤ 128 → take 11 (drop (128 * b + o) e.bytes) ≡ take 11 (drop (128 * b + o) d.bytes)
+  pub spellings : (o : ℕ) → 8 ≤ o → o + 11 ≤ 128
+      → take 11 (drop (128 * b + o) e.bytes) ≡ take 11 (drop (128 * b + o) d.bytes)
 
 -- bytes outside of what is written
 pub byte-outside : (xs : List ℕ) (at : ℕ) (new : List ℕ) (j : ℕ) → at + length new ≤ length xs → (j < at)
@@ -72,7 +73,8 @@ all_same kind kind' inside inside' first first' owned owned' entry entry' sp sp'
 -- ---- generations
 
 -- with other bytes, of which that of the generation is the same
-pub generation-same : (d : Disk) (bytes : List ℕ) (i : ℕ) → get_or bytes (258 + 16 * i) 0 ≡ get_or d.bytes (258 + 16 * i) 0
+pub generation-same : (d : Disk) (bytes : List ℕ) (i : ℕ)
+    → get_or bytes (258 + 16 * i) 0 ≡ get_or d.bytes (258 + 16 * i) 0
     → generation_of (record d { bytes = bytes }) i ≡ generation_of d i
 unfolding generation_of
 generation-same d bytes i same = ap (λ (x : ℕ). cond d.generations x 0) same
@@ -103,7 +105,8 @@ place-same d bytes dir k less same_kind same_pointer same_generation same =
           let bs : take 11 (drop (128 * p + (8 + 12 * k) + 1) bytes)
           ≡ take 11 (drop (128 * p + (8 + 12 * k) + 1) d.bytes) =
           rw spot (b.spellings (9 + 12 * k) (omega arith) (omega arith)) in
-          let mark : mark_generation e p ≡ mark_generation d p = mark_generation-same d bytes p (b.bytes 2 (omega arith) (λ z. omega arith))
+          let mark : mark_generation e p ≡ mark_generation d p =
+          mark_generation-same d bytes p (b.bytes 2 (omega arith) (λ z. omega arith))
           in
           let owned : is_owned e (pointer_of e dir 0) dir ≡ is_owned d p dir =
           ap (λ (x : ℕ). is_owned e x dir) same_pointer
@@ -246,7 +249,8 @@ inode-other d i from new j o p disk below fits other less e =
 -- the other inodes have their generations
 generation-other : (d : Disk) (i from : ℕ) (new : List ℕ) (j : ℕ) → IsDisk d → i < 16 → from + length new ≤ 16 → j ≢ i
     → generation_of (with_bytes_at d (256 + 16 * i + from) new) j ≡ generation_of d j
-generation-other d i from new j disk below fits other = generation-same d (overwrite d.bytes (256 + 16 * i + from) new) j
+generation-other d i from new j disk below fits other =
+    generation-same d (overwrite d.bytes (256 + 16 * i + from) new) j
     (inode-other d i from new j 2 (258 + 16 * j) disk below fits other (omega arith) (omega arith))
 
 -- a mark of another inode is as it was, and where the inode's generation is, so is each mark
@@ -265,7 +269,8 @@ mark-inode d i from new b disk below fits why =
       ]
       | inr other ↦ generation-other d i from new (byte d b 1) disk below fits other
     ])
-    (λ h o less. (same-block d at new b inside (inr (let p = data-block d b h in omega arith))).bytes o (omega arith) (λ z. omega arith))
+    (λ h o less. (same-block d at new b inside (inr (let p = data-block d b h in omega arith))).bytes o (omega arith)
+    (λ z. omega arith))
 
 pub marks-inode : (d : Disk) (i from : ℕ) (new : List ℕ) → IsDisk d → i < 16 → from + length new ≤ 16
     → (let e = with_bytes_at d (256 + 16 * i + from) new in

@@ -8,18 +8,20 @@ use Rattle.crash_model.specs.Disk.{Disk, IsDisk, byte, overwrite}
 use Rattle.crash_model.specs.Layout.{kind_of, links_of, pointer_of, map_of, is_data, counts, entry_of, entry_offset}
 use Rattle.crash_model.specs.Generations.{generation_of, mark_generation, next_generation}
 use Rattle.crash_model.specs.Plan.{inode_init, inode_free, link_count, pointer_set, map_set, map_clear, init_block}
-use Rattle.crash_model.specs.Plan.{new_data, entry_set, entry_clear, name_spelling, with_changes, change, touch}
+use Rattle.crash_model.specs.Plan.{new_data, entry_set, entry_clear, name_spelling, with_changes, touch}
 use Rattle.crash_model.specs.Plan.{touched_of, pointers_clear}
 use Rattle.crash_model.specs.declared.plans.Change.{Change}
 use Rattle.crash_model.specs.declared.plans.Role.{Role}
 use Rattle.soundness_laws.specs.Tables.{Tables, tables_of, place_at, place_of, mark_at, within, with_value, with_inode}
-use Rattle.soundness_laws.specs.Tables.{with_links, with_pointer, with_used, with_mark, with_entry, is_current, KeepsMarks}
+use Rattle.soundness_laws.specs.Tables.{with_links, with_pointer, with_used, with_mark, with_entry, is_current}
+use Rattle.soundness_laws.specs.Tables.{KeepsMarks}
 use Rattle.soundness_laws.specs.Tables.Place.{Free, Leads}
 use Rattle.soundness_laws.specs.Tables.Mark.{DirectoryOf}
 use Rattle.soundness_laws.proofs.Puts.{with_bytes_at, SameBlock, same-block, byte-outside, place-same, mark-same}
 use Rattle.soundness_laws.proofs.Puts.{data-block, within-with_value, within-same, with_value-kept, same_tables}
-use Rattle.soundness_laws.proofs.Puts.{tables-inode, marks-inode, marks-kept, generation-same, mark_generation-same}
-use Rattle.soundness_laws.proofs.OnTables.{byte-inside, behind_three, place-no_directory, counts-parts, tables-inode_init}
+use Rattle.soundness_laws.proofs.Puts.{tables-inode, marks-inode, marks-kept, generation-same}
+use Rattle.soundness_laws.proofs.OnTables.{byte-inside, behind_three, place-no_directory, counts-parts}
+use Rattle.soundness_laws.proofs.OnTables.{tables-inode_init}
 use Rattle.soundness_laws.proofs.OnTables.{tables-inode_free, tables-map, tables-entry_set, tables-entry_clear}
 use Rattle.soundness_laws.proofs.OnTables.{tables-pointers_clear, tables-touched, tables-data, generation-written}
 use Rattle.soundness_laws.proofs.ByTables.{kind-at, pointer-at, counts-by_tables, disk-with_bytes_at}
@@ -201,7 +203,8 @@ pointer-kind d i s b disk below small = byte-outside d.bytes (256 + 16 * i + (4 
     (omega (arith, disk.whole, disk.least)) (inl (omega arith))
 
 -- a block that has a directory's mark and nothing else has no entries, whichever directory it is given to
-pub empty-place : (d' d : Disk) (role : Role) (i b mark : ℕ) → IsDisk d → i < 16 → 4 ≤ b → b < d.blocks → (m : ℕ) → m < 10
+pub empty-place : (d' d : Disk) (role : Role) (i b mark : ℕ) → IsDisk d → i < 16 → 4 ≤ b → b < d.blocks
+    → (m : ℕ) → m < 10
     → (let e = with_changes d (init_block d' role b mark i ∷ []) in
     place_of (with_bytes_at e (256 + 16 * i + (4 + 0)) (b ∷ [])) i m ≡ Free)
 empty-place d' d role i b mark disk below low high m small =

@@ -39,7 +39,8 @@ emitted_is (e ∷ es) (suc id) within = emitted_is es id (omega arith)
 
 -- the dependency on a patch, by whether there is one
 abbrev dependency_if : TracedPatches → Emitted → Emitted → ℕ → Bool → Option Dependency
-dependency_if t q p earlier test = when test (record { id = earlier; reasons = reasons t.rules t.whole t.links q earlier p })
+dependency_if t q p earlier test =
+    when test (record { id = earlier; reasons = reasons t.rules t.whole t.links q earlier p })
 
 found_at : (t : TracedPatches) (q p : Emitted) (earlier : ℕ) → slice_get t.emitted earlier ≡ Some p
     → dependency_at t q earlier ≡ dependency_if t q p earlier (depends t.rules t.whole t.links q earlier p)
@@ -64,7 +65,8 @@ some_is n = grind (arith, nat_tests)
 -- where there are some, they are those of the dependency
 pub dependency_is : (t : TracedPatches) (q p : Emitted) (earlier n : ℕ) (texts : List (List ℕ))
     → slice_get t.emitted earlier ≡ Some p → depends t.rules t.whole t.links q earlier p ≡ not (n == 0) → 0 < n
-    → texts ≡ reasons t.rules t.whole t.links q earlier p → dependency_at t q earlier ≡ Some (record { id = earlier; reasons = texts })
+    → texts ≡ reasons t.rules t.whole t.links q earlier p
+    → dependency_at t q earlier ≡ Some (record { id = earlier; reasons = texts })
 dependency_is t q p earlier zero texts at some any are = absurd (omega arith)
 dependency_is t q p earlier (suc n) texts at some any are =
     found_at t q p earlier at ∙ (ap (dependency_if t q p earlier) (some ∙ sym (some_is n))

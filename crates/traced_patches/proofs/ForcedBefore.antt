@@ -1,5 +1,6 @@
 -- What lines of a set force before a line, found one after another.
-use Rattle.std.proofs.Common.{◌≡◌, ℕ, ◌+◌, ◌<◌, ◌≤◌, List, [], ◌∷◌, length, drop, Bool, true, false, cond, bit_or, inl, inr}
+use Rattle.std.proofs.Common.{◌≡◌, ℕ, ◌+◌, ◌<◌, ◌≤◌, List, length, drop, Bool, true, false, cond, bit_or, inl}
+use Rattle.std.proofs.Common.{inr}
 use Rattle.std.proofs.Common.{arith, tests, refl, sym, ap, subst, ◌∙◌}
 use Rattle.std.specs.Prelude.{◌&&◌, nat_lt}
 use Rattle.std.specs.List.{slice_index_or}
@@ -82,7 +83,8 @@ module _ (waits : List Wait) (chosen line : ℕ) where
         ∙ (ap (bit_or forced) (sym here) ∙ so_far))
 
     forced_same : of_wait wait ≡ 0 → AreForced (place + 1) forced
-    forced_same none = ap (λ (n : ℕ). bit_or n (forced_at (place + 1) (drop (place + 1) waits))) (sym (or_zero_r forced))
+    forced_same none =
+        ap (λ (n : ℕ). bit_or n (forced_at (place + 1) (drop (place + 1) waits))) (sym (or_zero_r forced))
         ∙ forced_more 0 none
 
     module _ (next : ℕ) where

@@ -521,7 +521,8 @@ paths_for (word ∷ words) all =
 
 -- the lawful operands that words say
 operands_for : (likes : List Operand) (words : List (List ℕ)) → Fits likes words → HasPaths likes words
-    → HasSlots likes words → (operands : List Operand) × HaveKinds likes operands × AreLawful operands × (words ≡ texts operands)
+    → HasSlots likes words → (operands : List Operand) × HaveKinds likes operands × AreLawful operands
+    × (words ≡ texts operands)
 operands_for [] [] fits paths slots = ([], tt, tt, refl)
 operands_for [] (word ∷ words) fits paths slots = absurd fits
 operands_for (PathOperand _ ∷ likes) [] fits paths slots = absurd fits

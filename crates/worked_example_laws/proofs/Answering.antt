@@ -55,7 +55,8 @@ based_is d (Ok base) e = refl
 -- the disk at the start line, and the graph of the steps after it
 module _ (settings : Settings) (before after : List Act) (read : are_acts before ≡ true)
     (read_too : are_acts after ≡ true) (geometry : is_geometry settings ≡ true) where
-  pub start : has_base (base_from (new_disk settings.blocks settings.journal settings.generations) (numbered_steps 1 before)) ≡ true
+  pub start : has_base
+      (base_from (new_disk settings.blocks settings.journal settings.generations) (numbered_steps 1 before)) ≡ true
       → HasBase (script before after) settings (base_of settings before) (trace_steps before after)
   start whole = record {
     before = numbered_steps 1 before;
@@ -65,7 +66,8 @@ module _ (settings : Settings) (before after : List Act) (read : are_acts before
         (base_from (new_disk settings.blocks settings.journal settings.generations) (numbered_steps 1 before)) whole;
   }
 
-  pub has_graph : has_base (base_from (new_disk settings.blocks settings.journal settings.generations) (numbered_steps 1 before)) ≡ true
+  pub has_graph : has_base
+      (base_from (new_disk settings.blocks settings.journal settings.generations) (numbered_steps 1 before)) ≡ true
       → is_accepted (trace_from settings.module (trace_start settings.whole_blocks (base_of settings before))
       (trace_steps before after))
       ≡ true
@@ -94,7 +96,8 @@ refused_base settings limit before after fault read read_too geometry is =
 -- an act after it is refused
 pub refused_trace : (settings : Settings) (limit : ℕ) (before after : List Act) (fault : TraceFault)
     → are_acts before ≡ true → are_acts after ≡ true → is_geometry settings ≡ true
-    → has_base (base_from (new_disk settings.blocks settings.journal settings.generations) (numbered_steps 1 before)) ≡ true
+    → has_base
+    (base_from (new_disk settings.blocks settings.journal settings.generations) (numbered_steps 1 before)) ≡ true
     → trace_from settings.module (trace_start settings.whole_blocks (base_of settings before))
     (trace_steps before after) ≡ Err fault
     → IsListed (script before after) settings limit (Refused (run_of_trace fault))
@@ -129,7 +132,8 @@ quickly_is settings limit before after closed failing =
     (graph settings before after)) refl
 
 -- the report, of each failing set
-pub reported : (settings : Settings) (limit : ℕ) (before after : List Act) (closed : ℕ) (failing : List ℕ) (text : List ℕ)
+pub reported : (settings : Settings) (limit : ℕ) (before after : List Act) (closed : ℕ) (failing : List ℕ)
+    (text : List ℕ)
     → is_reported_quickly settings limit before after closed failing ≡ true
     → text ≡ report settings (record {
       patches = length (graph settings before after);
@@ -158,7 +162,9 @@ reported settings limit before after closed failing text reported_quickly is =
     let one = and_parts (are_acts before) _ listed in
     let two = and_parts (are_acts after) _ one.1 in
     let three = and_parts (is_geometry settings) _ two.1 in
-    let four = and_parts (has_base (base_from (new_disk settings.blocks settings.journal settings.generations) (numbered_steps 1 before)))
+    let four = and_parts
+    (has_base
+    (base_from (new_disk settings.blocks settings.journal settings.generations) (numbered_steps 1 before)))
     _ three.1 in
     let five = and_parts (is_accepted (trace_from settings.module (trace_start settings.whole_blocks base) steps)) _
     four.1 in
@@ -219,7 +225,8 @@ refused_geometry settings limit before after read read_too none =
 -- more closed sets than the limit
 pub refused_limit : (settings : Settings) (limit : ℕ) (before after : List Act)
     → are_acts before ≡ true → are_acts after ≡ true → is_geometry settings ≡ true
-    → has_base (base_from (new_disk settings.blocks settings.journal settings.generations) (numbered_steps 1 before)) ≡ true
+    → has_base
+    (base_from (new_disk settings.blocks settings.journal settings.generations) (numbered_steps 1 before)) ≡ true
     → is_accepted (trace_from settings.module (trace_start settings.whole_blocks (base_of settings before))
     (trace_steps before after))
     ≡ true

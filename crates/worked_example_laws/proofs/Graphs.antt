@@ -100,7 +100,8 @@ module _ (rules : List Rule) (base : Disk) (s : Tracing) where
   -- what the graph of a trace asks of its dependencies
   exactly : (q p : ℕ) (later before : Emitted) → p < q → slice_get s.emitted q ≡ Some later
       → slice_get s.emitted p ≡ Some before
-      → (Has (slice_index (deps_of (graph_of rules base s)) q) p ↔ IsTrue (depends rules s.whole s.links later p before))
+      → (Has (slice_index (deps_of (graph_of rules base s)) q) p ↔ IsTrue
+      (depends rules s.whole s.links later p before))
   exactly q p later before less at_q at_p =
       let below : q < length s.emitted = get_within s.emitted q later at_q in
       let same : depends_if rules s.whole s.links (slice_get s.emitted q) p (slice_get s.emitted p)
@@ -110,7 +111,8 @@ module _ (rules : List Rule) (base : Disk) (s : Tracing) where
         λ dep. sym same ∙ ((from_set_below q (λ p. depends_if rules s.whole s.links (slice_get s.emitted q)
             p (slice_get s.emitted p)) p (subst (λ d. Has d p) (deps_is q below) dep)).1),
         λ is. subst (λ d. Has d p) (sym (deps_is q below)) (to_set_below q
-            (λ p. depends_if rules s.whole s.links (slice_get s.emitted q) p (slice_get s.emitted p)) p less (same ∙ is)),
+            (λ p. depends_if rules s.whole s.links (slice_get s.emitted q) p (slice_get s.emitted p)) p less
+            (same ∙ is)),
       )
 
   pub graph_is : IsGraphOf rules base s (graph_of rules base s)

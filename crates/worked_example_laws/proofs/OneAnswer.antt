@@ -38,7 +38,8 @@ module _ (settings : Settings) (by : ReportBy) (limit : ℕ) (base : Disk) (last
       let same : is.sets ≡ also.sets = one_list (IsFailingUnder demands base patches) is.sets also.sets is.exactly
       also.exactly in
       let numbers : failing ≡ more = is.number ∙ (ap (λ (some : List ℕ). length some) same ∙ sym also.number) in
-      let bodies : is.body ≡ also.body = body_one settings by limit demands base last patches also.sets is.body also.body
+      let bodies : is.body ≡ also.body =
+      body_one settings by limit demands base last patches also.sets is.body also.body
       (subst (λ some. IsBody settings by limit demands base last patches some is.body) same is.listed) also.listed in
       let texts : text ≡ other = is.whole ∙ ((λ i. report settings (record {
         patches = length patches;
@@ -64,7 +65,8 @@ module _ (settings : Settings) (by : ReportBy) (limit : ℕ) (base : Disk) (last
       (λ demands. IsReport settings by limit demands base last patches text failing) same is.2) also.2
 
 module _ (settings : Settings) (by : ReportBy) (limit : ℕ) (base : Disk) (steps : List Step) where
-  traced_one : (r : Result Tracing TraceFault) (answer other : Answer) → ComesOfTrace settings by limit base steps r answer
+  traced_one : (r : Result Tracing TraceFault) (answer other : Answer)
+      → ComesOfTrace settings by limit base steps r answer
       → ComesOfTrace settings by limit base steps r other → answer ≡ other
   traced_one (Err fault) answer other is also = is ∙ sym also
   traced_one (Ok s) answer other is also =
@@ -85,7 +87,8 @@ module _ (settings : Settings) (by : ReportBy) (limit : ℕ) where
   steps_answer_one base steps answer other (inl is) (inr also) = absurd (is.0 also.0)
   steps_answer_one base steps answer other (inr is) (inl also) = absurd (also.0 is.0)
   steps_answer_one base steps answer other (inr is) (inr also) =
-      based_one (base_from (new_disk settings.blocks settings.journal settings.generations) base) steps answer other is.1 also.1
+      based_one (base_from (new_disk settings.blocks settings.journal settings.generations) base) steps answer other
+      is.1 also.1
 
   script_answer_one : (bytes : List ℕ) (answer other : Answer) → ComesOfScript settings by limit bytes answer
       → ComesOfScript settings by limit bytes other → answer ≡ other

@@ -142,7 +142,8 @@ module _ (detail : Detail) (base : Disk) (patches changed : List Patch) where
   without_one limit w v is also =
       let closed : w.closed ≡ v.closed = one_number (IsClosed (deps_of changed)) w.closed v.closed is.counted
       also.counted in
-      let same : is.sets ≡ also.sets = one_list (IsFailingUnder detail.demands base changed) is.sets also.sets is.exactly
+      let same : is.sets ≡ also.sets =
+      one_list (IsFailingUnder detail.demands base changed) is.sets also.sets is.exactly
       also.exactly in
       let failing : w.failing ≡ v.failing = is.number ∙ (ap (λ (some : List ℕ). length some) same ∙ sym also.number) in
       let first : w.first ≡ v.first = first_new_one also.sets w.first v.first

@@ -10,7 +10,8 @@ use Rattle.crash_model.specs.Disk.{Disk, byte, block_of}
 use Rattle.crash_model.specs.Faults.{each_slot, each_entry, namers, entries_to, faults, is_twice, has_low_links}
 use Rattle.crash_model.specs.Faults.{is_dangling, is_unwritten, is_marked_free, is_wild, is_right_mark, names_block}
 use Rattle.crash_model.specs.Faults.{leads_to}
-use Rattle.crash_model.specs.Layout.{is_owned, kind_of, links_of, map_of, pointer_of, is_live, is_data, is_pointer, counts}
+use Rattle.crash_model.specs.Layout.{is_owned, kind_of, links_of, map_of, pointer_of, is_live, is_data, is_pointer}
+use Rattle.crash_model.specs.Layout.{counts}
 use Rattle.crash_model.specs.Layout.{is_entry, entry_offset, target_of}
 use Rattle.crash_model.specs.Lists.{each_below, some_below, when}
 use Rattle.crash_model.specs.Replay.{headers, copy_after, image_after_replay}

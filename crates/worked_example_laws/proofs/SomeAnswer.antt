@@ -111,7 +111,8 @@ module _ (settings : Settings) (by : ReportBy) (limit : ℕ) (bytes : List ℕ) 
       by_base : IsGeometry settings.blocks settings.journal → (r : Result Disk TraceFault)
           → base_from (new_disk settings.blocks settings.journal settings.generations) before ≡ r
           → (answer : Answer) × IsVisited bytes settings by limit answer
-      by_base geometry (Err fault) is = (Refused (run_of_trace fault), untraced _ (bad_base before steps fault read geometry is))
+      by_base geometry (Err fault) is =
+          (Refused (run_of_trace fault), untraced _ (bad_base before steps fault read geometry is))
       by_base geometry (Ok base) is = from_base base steps
           (record { before = before; read = read; geometry = geometry; built = is })
 
@@ -125,6 +126,7 @@ module _ (settings : Settings) (by : ReportBy) (limit : ℕ) (bytes : List ℕ) 
   some_answer = by_reading (some_reading bytes)
     where
       by_reading : ((base : List Step) × (steps : List Step) × IsScript bytes base steps)
-          ⊎ ((fault : ScriptFault) × IsScriptRefusal bytes fault) → (answer : Answer) × IsVisited bytes settings by limit answer
+          ⊎ ((fault : ScriptFault) × IsScriptRefusal bytes fault)
+          → (answer : Answer) × IsVisited bytes settings by limit answer
       by_reading (inl script) = from_steps script.0 script.1 script.2
       by_reading (inr refused) = (Refused (run_of_script refused.0), untraced _ (bad_script refused.0 refused.1))

@@ -16,7 +16,8 @@ use Rattle.crash_model.specs.declared.steps.Target.{Target}
 use Rattle.crash_model.specs.declared.steps.Target.TheVariants.{Root, At}
 use Rattle.worked_example_laws.specs.Examples.{numbered_steps}
 use Rattle.uniqueness_laws.specs.Words.{is_word}
-use Rattle.worked_example_laws.specs.Spelled.{is_path, is_target, are_lawful, is_act, line_of, is_plain, are_acts, script}
+use Rattle.worked_example_laws.specs.Spelled.{is_path, is_target, are_lawful, is_act, line_of, is_plain, are_acts}
+use Rattle.worked_example_laws.specs.Spelled.{script}
 use Rattle.patch_sets.proofs.Ids.{true_from_eq}
 
 pub word_if : (passes : ℕ → Bool) (word : List ℕ) → is_word passes word ≡ true → IsWord passes word

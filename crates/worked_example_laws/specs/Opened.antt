@@ -14,7 +14,8 @@ planner = tt
 
 -- the six faults of a disk, where no line promises
 unfoldable pub checker : Unit {0}
-unfolding overwrite each_below some_below first_below generation_of mark_generation each_slot each_entry namers entries_to
+unfolding overwrite each_below some_below first_below generation_of mark_generation each_slot each_entry namers
+    entries_to
     faults broken_lines
 checker = tt
 

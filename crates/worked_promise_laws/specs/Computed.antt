@@ -1,6 +1,6 @@
 -- What a script forces and promises, and which closed sets break a promise, computed.
-use Rattle.std.specs.Prelude.{ℕ, ◌+◌, ◌^◌, List, [], ◌∷◌, length, map, filter, Bool, true, false, not, ◌&&◌, ◌||◌}
-use Rattle.std.specs.Prelude.{Option, Some, None, Ok, Err, slice_get}
+use Rattle.std.specs.Prelude.{ℕ, ◌^◌, List, [], length, map, filter, Bool, false, not, ◌&&◌, ◌||◌}
+use Rattle.std.specs.Prelude.{Option, Some, Ok, Err, slice_get}
 use Rattle.std.specs.List.{range_with_len, list_all, list_any}
 use Rattle.patch_sets.specs.Sets.{has, ids_of}
 use Rattle.crash_model.specs.Disk.{Disk}

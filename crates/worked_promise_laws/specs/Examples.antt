@@ -4,16 +4,13 @@ use Rattle.crash_model.specs.Disk.{Disk, empty_disk}
 use Rattle.crash_model.specs.Plan.{plan_of}
 use Rattle.crash_model.specs.StepDisks.{with_plan}
 use Rattle.crash_model.specs.declared.operations.Op.{Op}
-use Rattle.crash_model.specs.declared.operations.Op.TheVariants.{Create, Write, Link, Unlink, Rename, Mkdir}
+use Rattle.crash_model.specs.declared.operations.Op.TheVariants.{Create, Write, Link, Mkdir}
 use Rattle.crash_model.specs.declared.names.Path.{Path}
 use Rattle.crash_model.specs.declared.showing.Shown.{Shown}
 use Rattle.crash_model.specs.declared.showing.Shown.TheVariants.{File}
-use Rattle.crash_model.specs.declared.showing.ShownSlot.{ShownSlot}
 use Rattle.crash_model.specs.declared.showing.ShownSlot.TheVariants.{Hole, Begins}
 use Rattle.crash_model.specs.declared.steps.Act.{Act}
-use Rattle.crash_model.specs.declared.steps.Act.TheVariants.{Do, Group, End, Sync, Fsync, Keep, Hold, Spare}
-use Rattle.crash_model.specs.declared.steps.Target.{Target}
-use Rattle.crash_model.specs.declared.steps.Target.TheVariants.{Root, At}
+use Rattle.crash_model.specs.declared.steps.Act.TheVariants.{Do, Keep}
 use Rattle.crash_model.specs.declared.steps.Step.{Step}
 
 -- ---- paths

@@ -6,7 +6,8 @@ ghost use Rattle.crash_model.specs.declared.operations.Op.TheVariants.{Create};
 ghost use Rattle.crash_model.specs.declared.steps.Act.TheVariants.{Do, Sync, Fsync};
 ghost use Rattle.crash_model.specs.declared.steps.Target.TheVariants.{Root, At};
 ghost use Rattle.worked_promise_laws.specs.Computed.{forced};
-ghost use Rattle.worked_promise_laws.specs.Examples.{fresh, with_d, journaled_with_d, some_files_then, lines, a, b, c, d};
+ghost use Rattle.worked_promise_laws.specs.Examples.{fresh, with_d, journaled_with_d, some_files_then, lines, a, b, c};
+ghost use Rattle.worked_promise_laws.specs.Examples.{d};
 ghost use Rattle.worked_promise_laws.specs.Examples.{d_a};
 
 /// An fsync forces what meets the ranges of its path: the inodes on the way and their directories' blocks, and the

@@ -35,6 +35,7 @@ loop-place-preserved g c =
     ]
 
 pub returns : goal.returns
-returns g c = all_placed c.args.traced.now.emitted c.waits-waits.result.now c.args.found.now.first c.args.found.now.fault
+returns g c =
+    all_placed c.args.traced.now.emitted c.waits-waits.result.now c.args.found.now.first c.args.found.now.fault
     c.loop-place.place c.args.traced.now.waits c.loop-place.lines c.waits-waits.ensures c.loop-place-test.false
     c.loop-place.invariant

@@ -1,4 +1,4 @@
-use Rattle.std.proofs.Common.{List, ℕ, length, map, sym, subst, ap, ◌∙◌}
+use Rattle.std.proofs.Common.{ℕ, length, map, sym, subst, ap, ◌∙◌}
 use Rattle.std.specs.Int.{from_bool}
 use Rattle.std.specs.Prelude.{None, option_map, if◌then◌else◌}
 use Rattle.patch_sets.specs.Closed.{AreEarlier}

@@ -17,7 +17,8 @@ use Rattle.crash_text.specs.BaseRefusal.{IsBaseRefusal}
 use Rattle.crash_text.specs.Searching.{IsPoolRefusal, IsSearchOf}
 use Rattle.crash_text.specs.SearchingRules.{IsRuleSearchOf}
 use Rattle.crash_text.specs.Traced.{IsTraced, IsTraceRefusal, RisksNothing, FindsRisksAlone}
-use Rattle.crash_text.proofs.Answering.{has_base, nothing_at_risk, finds_risks, refused_script, refused_base, refused_steps}
+use Rattle.crash_text.proofs.Answering.{has_base, nothing_at_risk, finds_risks, refused_script, refused_base}
+use Rattle.crash_text.proofs.Answering.{refused_steps}
 use Rattle.crash_text.proofs.Answering.{reported_on, reported_visit, refused_visit, refused_pool, reported_pool}
 use Rattle.crash_text.proofs.Answering.{reported_rules, refused_lines, refused_waits, whole_steps}
 use Rattle.crash_text.proofs.Pools.{are_acts}
@@ -350,7 +351,8 @@ returns-in-Search-clause-reported g c =
     (Reported (string_bytes outcome.text) outcome.number))) (sym c.in-Search.is)
     (IfOk-weaker c.searched.result _ _
     (λ outcome reported.
-    reported_pool c.args.script.now asked.settings c.in-Search.longest base read.traced.items (string_bytes outcome.text)
+    reported_pool c.args.script.now asked.settings c.in-Search.longest base read.traced.items
+    (string_bytes outcome.text)
     outcome.number start
     (subst (λ s. IsSearchOf asked.settings c.in-Search.longest base s (string_bytes outcome.text) outcome.number)
     c.deref-in-Search.ensures.value reported))
@@ -397,7 +399,8 @@ returns-clause-reported g c =
     (λ outcome reported.
     reported_rules c.args.script.now asked.settings c.in-SearchRules.longest base read.traced.items
     (string_bytes outcome.text) outcome.number start
-    (subst (λ s. IsRuleSearchOf asked.settings c.in-SearchRules.longest base s (string_bytes outcome.text) outcome.number)
+    (subst (λ s. IsRuleSearchOf asked.settings c.in-SearchRules.longest base s
+    (string_bytes outcome.text) outcome.number)
     c.deref-in-SearchRules.ensures.value reported))
     c.searched_for_rules.ensures.reported)
 

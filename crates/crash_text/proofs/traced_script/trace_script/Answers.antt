@@ -48,7 +48,8 @@ returns-clause-full g c = λ full none risk.
     let are = subst (λ asked. AreDemands asked base steps demands)
     (same_asked settings c.asked_of.result ordering.«module» steps same.kind c.asked_of.ensures)
     c.in_ok-demands.ensures in
-    c.in_ok-traced.ensures.safe (record { full = same.kind ∙ full; all = all }) (asked_by settings steps) demands full are
+    c.in_ok-traced.ensures.safe (record { full = same.kind ∙ full; all = all })
+    (asked_by settings steps) demands full are
     risk
 
 pub returns-clause-at_risk : goal.returns-clause-at_risk
@@ -57,7 +58,8 @@ returns-clause-at_risk g c = λ full none last patches demands run graph are set
     let base = c.args.base.now in
     let steps = c.args.steps.now in
     let among = full_rules settings (ordering_rules settings) full none refl in
-    let traced = subst (λ (m : Module). trace_from m (trace_start settings.whole_blocks base) steps ≡ Ok last) full run in
+    let traced =
+    subst (λ (m : Module). trace_from m (trace_start settings.whole_blocks base) steps ≡ Ok last) full run in
     at_risk_alone (ordering_rules settings) settings.whole_blocks (asked_by settings steps) base steps last patches set
     demands c.blocks-blocks.ensures.disk c.requires.sound.0 c.requires.sound.1 c.in_ok-traced.ensures.names traced among
     graph full are closed

@@ -28,4 +28,5 @@ loop-other-preserved g c = record {
 
 pub returns-clause-whole : goal.returns-clause-whole
 returns-clause-whole g c = whole_end (λ (output : WorkerOutput). output.seat.share) c.loop-other.all.seat.share
-    c.loop-other.others.items (omega (arith, c.in_default.ensures.cases.0, c.loop-other.others.ok)) c.loop-other.invariant.shares
+    c.loop-other.others.items (omega (arith, c.in_default.ensures.cases.0, c.loop-other.others.ok))
+    c.loop-other.invariant.shares

@@ -26,7 +26,8 @@ returns-clause-ready g c =
         of = seat.0;
         free = seat.1;
         own = rw c.new-2.ensures.scratch c.in_ok-scratch.ensures;
-        recent = rw c.new-2.ensures.recent (met_copies c.in_ok-recent.recent c.start.result worker.seat.seen c.in_ok-recent.ensures
+        recent = rw c.new-2.ensures.recent
+            (met_copies c.in_ok-recent.recent c.start.result worker.seat.seen c.in_ok-recent.ensures
             (rw c.start.ensures has));
       };
       unclaimed = seat.2;

@@ -21,7 +21,8 @@ loop-promise-preserved g c =
           (λ set d. breaks_line (take (i + 1) ps) set d line) w.either-answer.result
           (λ set d. line_more ps line i p c.loop-promise-test.true c.promise-item.is set d
           (sym same ∙ w.if-promise-line.true))
-          (w.either-answer.ensures f (λ set d. breaks_line (take i ps) set d line) (is_broken p) c.loop-promise.invariant
+          (w.either-answer.ensures f (λ set d. breaks_line (take i ps) set d line)
+          (is_broken p) c.loop-promise.invariant
           w.is_broken_by.ensures))
       | else-promise-line w ↦ rw w.answer-is
           (known_as f (λ set d. breaks_line (take i ps) set d line)

@@ -1,6 +1,6 @@
-use Rattle.std.proofs.Common.{◌≡◌, ◌<◌, List, [], sym, ap, subst, ◌∙◌}
+use Rattle.std.proofs.Common.{◌<◌, List, sym, ap, subst, ◌∙◌}
 use Rattle.std.specs.List.{All, filter_map}
-use Rattle.fs_check.specs.References.{fault_of, wrong_pointers}
+use Rattle.fs_check.specs.References.{fault_of}
 use Rattle.fs_check.specs.declared.references.Pointer.{Pointer}
 use Rattle.fs_check.proofs.Found.{wrong-held}
 use Rattle.fs_check.proofs.PointersPass.{passes-from_none, none-from_passes}

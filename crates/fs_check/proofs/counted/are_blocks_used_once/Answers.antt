@@ -1,4 +1,4 @@
-use Rattle.std.proofs.Common.{ℕ, ◌<◌, length, arith, sym, ◌∙◌, below_more}
+use Rattle.std.proofs.Common.{◌<◌, length, arith, sym, ◌∙◌, below_more}
 use Rattle.std.proofs.lemmas.Bool.{false≢true}
 use Rattle.fs_check.proofs.Tallied.{is_twice-many, is_twice-few}
 use Rattle.fs_check.proofs.counted.are_blocks_used_once.Goals as goal
@@ -14,7 +14,8 @@ returns-then-pointer_counts-block-gt1 g c =
       c.fits-pointer_counts,
     ) in (
       λ is. absurd (false≢true is),
-      λ none. absurd (false≢true (sym (none block (omega (arith, c.loop-block-test.true, c.blocks-blocks.ensures.value)))
+      λ none. absurd
+          (false≢true (sym (none block (omega (arith, c.loop-block-test.true, c.blocks-blocks.ensures.value)))
           ∙ is_twice-many c.args.image.now block counts within c.requires c.if-pointer_counts-block-gt1.true)),
     )
 

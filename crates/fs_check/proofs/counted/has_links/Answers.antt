@@ -1,4 +1,4 @@
-use Rattle.std.proofs.Common.{ℕ, ◌≡◌, ◌<◌, length, arith, sym, ◌∙◌, below_more}
+use Rattle.std.proofs.Common.{◌<◌, length, arith, sym, ◌∙◌, below_more}
 use Rattle.std.proofs.lemmas.Bool.{false≢true}
 use Rattle.fs_check.proofs.Tallied.{has_low_links-many, has_low_links-few}
 use Rattle.fs_check.proofs.counted.has_links.Goals as goal

@@ -1,4 +1,4 @@
-use Rattle.std.proofs.Common.{◌≡◌, ℕ, sym, ap, ◌∙◌, below_more}
+use Rattle.std.proofs.Common.{sym, ap, ◌∙◌, below_more}
 use Rattle.std.specs.Prelude.{is_some}
 use Rattle.std.proofs.lemmas.Bool.{false≢true}
 use Rattle.crash_model.specs.Strict.{lacks_block}

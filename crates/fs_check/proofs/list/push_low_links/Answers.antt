@@ -14,11 +14,13 @@ loop-inode-preserved g c =
     let within : inode < length entry_counts = omega (arith, c.loop-inode-test.true, c.fits-entry_counts) in
     elim c.if-links-entries.branch [
       | then-links-entries+in_ok-push w ↦ rw w.found-is (pushed (low_links_at d) inode
-          (LowLinks inode (get_or entry_counts inode 0) c.links-links.result) c.args.found.now.items c.loop-inode.found.items _
+          (LowLinks inode (get_or entry_counts inode 0) c.links-links.result) c.args.found.now.items
+          c.loop-inode.found.items _
           (low_links-many d inode c.links-links.result entry_counts within c.requires c.links-links.ensures
           w.if-links-entries.true) w.in_ok-push.ensures.items c.loop-inode.invariant)
       | else-links-entries w ↦ rw w.found-is (passed_over (low_links_at d) inode c.args.found.now.items
           c.loop-inode.found.items
-          (low_links-few d inode entry_counts within c.requires (omega (arith, c.links-links.ensures, w.if-links-entries.false)))
+          (low_links-few d inode entry_counts within c.requires
+          (omega (arith, c.links-links.ensures, w.if-links-entries.false)))
           c.loop-inode.invariant)
     ]

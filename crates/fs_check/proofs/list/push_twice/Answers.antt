@@ -5,7 +5,8 @@ use Rattle.fs_check.specs.References.{twice_at}
 use Rattle.fs_check.proofs.Found.{pushed, passed_over}
 use Rattle.fs_check.proofs.Tallied.{twice-many, twice-few, twice-never}
 use Rattle.fs_check.proofs.list.push_twice.Goals as goal
-use Rattle.fs_check.proofs.list.push_twice.Goals.{then-pointer_counts-block-gt1+in_ok-push, else-pointer_counts-block-gt1}
+use Rattle.fs_check.proofs.list.push_twice.Goals.{then-pointer_counts-block-gt1+in_ok-push}
+use Rattle.fs_check.proofs.list.push_twice.Goals.{else-pointer_counts-block-gt1}
 
 pub returns-then-most-lt2 : goal.returns-then-most-lt2
 returns-then-most-lt2 g c =
@@ -17,7 +18,11 @@ returns-then-most-lt2 g c =
       c.most.ensures at (omega (arith, below, c.blocks-blocks.ensures.range.1)),
       c.if-most-lt2.true,
     ) in
-    rw (twice-never d pointer_counts (omega (arith, c.blocks-blocks.ensures.range.1, c.told-pointer_counts)) c.requires small, append-nil)
+    rw (
+      twice-never d pointer_counts (omega (arith, c.blocks-blocks.ensures.range.1, c.told-pointer_counts)) c.requires
+          small,
+      append-nil,
+    )
     refl
 
 pub loop-block-preserved : goal.loop-block-preserved
@@ -34,7 +39,8 @@ loop-block-preserved g c =
     elim c.if-pointer_counts-block-gt1.branch [
       | then-pointer_counts-block-gt1+in_ok-push w ↦ rw w.found-is (pushed (twice_at d) block (Twice block)
           c.args.found.now.items c.loop-block.found.items _
-          (twice-many d block pointer_counts within c.requires w.if-pointer_counts-block-gt1.true) w.in_ok-push.ensures.items
+          (twice-many d block pointer_counts within c.requires w.if-pointer_counts-block-gt1.true)
+          w.in_ok-push.ensures.items
           c.loop-block.invariant)
       | else-pointer_counts-block-gt1 w ↦ rw w.found-is (passed_over (twice_at d) block c.args.found.now.items
           c.loop-block.found.items

@@ -1,5 +1,4 @@
-use Rattle.std.proofs.Common.{sym, ap, ◌∙◌}
-use Rattle.std.specs.Prelude.{not}
+use Rattle.std.proofs.Common.{sym, ◌∙◌}
 use Rattle.fs_check.proofs.BrokenLines.{kept_from_none, none_from_kept, is_false, not_false}
 use Rattle.fs_check.proofs.promises.keeps_promises.Goals as goal
 

@@ -1,8 +1,8 @@
-use Rattle.std.proofs.Common.{◌≡◌, ◌+◌, ◌<◌, ℕ, List, true, take, arith, sym, ap, subst, ◌∙◌}
+use Rattle.std.proofs.Common.{◌≡◌, ◌+◌, ◌<◌, ℕ, List, take, arith, sym, ap, subst, ◌∙◌}
 use Rattle.std.specs.Prelude.{Some, IfSome}
 use Rattle.std.proofs.lemmas.Bool.{false≢true}
 use Rattle.std.proofs.lemmas.List.{take_all}
-use Rattle.crash_model.specs.Promises.{Promise, is_broken}
+use Rattle.crash_model.specs.Promises.{Promise}
 use Rattle.fs_check.specs.Broken.{line_behind, IsNextBroken}
 use Rattle.fs_check.proofs.BrokenLines.{next_taken, next_left}
 use Rattle.fs_check.proofs.promises.next_broken.Goals as goal

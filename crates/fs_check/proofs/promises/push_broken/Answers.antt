@@ -1,4 +1,4 @@
-use Rattle.std.proofs.Common.{◌+◌, arith, refl}
+use Rattle.std.proofs.Common.{arith, refl}
 use Rattle.std.proofs.lemmas.List.{append-nil}
 use Rattle.crash_model.proofs.EachBelow.{some_below-zero}
 use Rattle.fs_check.specs.Broken.{line_behind}

@@ -17,7 +17,8 @@ overflow_add-pointer_counts g c =
 pub returns-then-is_data : goal.returns-then-is_data
 returns-then-is_data g c =
     let pointer = c.args.pointer in
-    pointer_counts-tame c.args.image.now pointer.inode c.args.pointer_counts.now pointer.slot pointer.block _ c.requires.live
+    pointer_counts-tame c.args.image.now pointer.inode c.args.pointer_counts.now pointer.slot pointer.block _
+    c.requires.live
     c.requires.block c.requires.some
     (sym c.is_data.ensures.value ∙ c.if-is_data.true) (omega
     (arith, c.is_data.ensures.within c.if-is_data.true, c.fits-pointer_counts)) refl c.requires.pointer_counts
@@ -25,5 +26,6 @@ returns-then-is_data g c =
 pub returns-else-is_data : goal.returns-else-is_data
 returns-else-is_data g c =
     let pointer = c.args.pointer in
-    pointer_counts-wild c.args.image.now pointer.inode c.args.pointer_counts.now pointer.slot pointer.block c.requires.block
+    pointer_counts-wild c.args.image.now pointer.inode c.args.pointer_counts.now pointer.slot pointer.block
+    c.requires.block
     (sym c.is_data.ensures.value ∙ c.if-is_data.false) c.requires.pointer_counts

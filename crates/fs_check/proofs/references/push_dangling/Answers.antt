@@ -31,6 +31,7 @@ loop-dir-preserved g c =
       | else-counts w ↦ rw (w.found-is, w.entry_counts-is) (record {
         found = row_passed rows dir old before (dangling-uncounted d dir (sym c.counts.ensures ∙ w.if-counts.false))
             all.found;
-        entry_counts = entry_counts-uncounted d dir c.loop-dir.entry_counts (sym c.counts.ensures ∙ w.if-counts.false) all.entry_counts;
+        entry_counts = entry_counts-uncounted d dir c.loop-dir.entry_counts
+            (sym c.counts.ensures ∙ w.if-counts.false) all.entry_counts;
       })
     ]

@@ -12,7 +12,11 @@ use Rattle.fs_check.proofs.references.push_dangling_of.Goals.{then-entry-ne0+the
 use Rattle.fs_check.proofs.references.push_dangling_of.Goals.{then-entry-ne0+else-is_live+in_ok-push, else-entry-ne0}
 
 pub loop-k-init : goal.loop-k-init
-loop-k-init g c = record { found = rw (some_below-zero, append-nil) refl; size = c.told-entry_counts; entry_counts = c.requires.entry_counts }
+loop-k-init g c = record {
+  found = rw (some_below-zero, append-nil) refl;
+  size = c.told-entry_counts;
+  entry_counts = c.requires.entry_counts;
+}
 
 pub overflow_add-entry_counts : goal.overflow_add-entry_counts
 overflow_add-entry_counts g c =
@@ -22,7 +26,11 @@ overflow_add-entry_counts g c =
       live-below c.args.image.now inode (sym c.is_live.ensures ∙ c.if-is_live.true),
       c.loop-k.invariant.size,
     ) in
-    omega (arith, entry_counts-most c.args.image.now c.args.dir c.loop-k.k inode c.loop-k.entry_counts within c.loop-k.invariant.entry_counts)
+    omega (
+      arith,
+      entry_counts-most c.args.image.now c.args.dir c.loop-k.k inode c.loop-k.entry_counts within
+          c.loop-k.invariant.entry_counts,
+    )
 
 pub loop-k-preserved : goal.loop-k-preserved
 loop-k-preserved g c =
@@ -41,9 +49,11 @@ loop-k-preserved g c =
       | then-entry-ne0+then-is_live w ↦
           let live = sym w.is_live.ensures ∙ w.if-is_live.true in
           rw (w.found-is, w.entry_counts-is) (record {
-            found = passed_over (dangling_at d dir) k old before (dangling-entry_counts d dir k entry is live) all.found;
+            found = passed_over (dangling_at d dir) k old before
+                (dangling-entry_counts d dir k entry is live) all.found;
             size = length-set entry_counts (entry - 1) _ ∙ all.size;
-            entry_counts = entry_counts-live d dir entry_counts k (entry - 1) _ c.requires.counts (λ e. w.if-entry-ne0.true (here ∙ e)) leads live
+            entry_counts = entry_counts-live d dir entry_counts k (entry - 1) _ c.requires.counts
+                (λ e. w.if-entry-ne0.true (here ∙ e)) leads live
                 (omega (arith, live-below d (entry - 1) live, all.size)) refl all.entry_counts;
           })
       | then-entry-ne0+else-is_live+in_ok-push w ↦
@@ -64,5 +74,6 @@ loop-k-preserved g c =
     ]
 
 pub returns-clause-entry_counts : goal.returns-clause-entry_counts
-returns-clause-entry_counts g c = tally-row 10 (led_at c.args.image.now) c.args.dir c.loop-k.k c.loop-k.entry_counts (omega arith)
+returns-clause-entry_counts g c =
+    tally-row 10 (led_at c.args.image.now) c.args.dir c.loop-k.k c.loop-k.entry_counts (omega arith)
     c.loop-k.invariant.entry_counts

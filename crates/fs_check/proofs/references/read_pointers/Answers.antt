@@ -31,6 +31,7 @@ loop-inode-preserved g c =
         wrong = row_passed rows inode [] c.loop-inode.wrong.items
             (wrong-dead d inode (sym c.is_live.ensures ∙ w.if-is_live.false)) all.wrong;
         room = omega (arith, all.room);
-        pointer_counts = pointer_counts-dead d inode c.loop-inode.pointer_counts (sym c.is_live.ensures ∙ w.if-is_live.false) all.pointer_counts;
+        pointer_counts = pointer_counts-dead d inode c.loop-inode.pointer_counts
+            (sym c.is_live.ensures ∙ w.if-is_live.false) all.pointer_counts;
       })
     ]

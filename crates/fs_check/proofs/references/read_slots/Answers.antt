@@ -46,10 +46,12 @@ loop-slot-preserved g c =
         wrong = passed_over (wrong_at d inode) slot old before (wrong-none d inode slot (points ∙ w.if-block-ne0.false))
             all.wrong;
         room = omega (arith, all.room);
-        pointer_counts = pointer_counts-none d inode c.loop-slot.pointer_counts slot (points ∙ w.if-block-ne0.false) all.pointer_counts;
+        pointer_counts = pointer_counts-none d inode c.loop-slot.pointer_counts slot
+            (points ∙ w.if-block-ne0.false) all.pointer_counts;
       })
     ]
 
 pub returns-clause-pointer_counts : goal.returns-clause-pointer_counts
-returns-clause-pointer_counts g c = tally-row 4 (named_at c.args.image.now) c.args.inode c.loop-slot.slot c.loop-slot.pointer_counts
+returns-clause-pointer_counts g c =
+    tally-row 4 (named_at c.args.image.now) c.args.inode c.loop-slot.slot c.loop-slot.pointer_counts
     (omega arith) c.loop-slot.invariant.pointer_counts

@@ -1,4 +1,4 @@
-use Rattle.std.proofs.Common.{◌≡◌, ℕ, Option, sym, ◌∙◌}
+use Rattle.std.proofs.Common.{◌≡◌, sym, ◌∙◌}
 use Rattle.std.specs.Prelude.{None}
 use Rattle.crash_model.proofs.Demanded.{clean_parts, clean_from_parts}
 use Rattle.fs_check.proofs.strict.is_clean_under.Goals as goal

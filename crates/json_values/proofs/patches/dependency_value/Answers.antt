@@ -28,4 +28,5 @@ returns g c = λ q at.
     (dependency_is t q there.0 c.args.earlier (length c.list-reasons.result.items)
     (map reason_text c.list-reasons.result.items) there.1 (c.list-reasons.ensures.some t q c.args.earlier there.0 are)
     (let some : length c.list-reasons.result.items ≢ 0 = eqb-false (length c.list-reasons.result.items) 0
-    (sym c.is_empty.ensures ∙ c.if-is_empty.false) in omega arith) (c.list-reasons.ensures.texts t q c.args.earlier there.0 are)))
+    (sym c.is_empty.ensures ∙ c.if-is_empty.false) in omega arith)
+    (c.list-reasons.ensures.texts t q c.args.earlier there.0 are)))

@@ -1,4 +1,4 @@
-use Rattle.std.proofs.Common.{◌≡◌, ◌+◌, List, ◌∷◌, Bool, true, false, ◌||◌, drop, sym, ap, ◌∙◌}
+use Rattle.std.proofs.Common.{◌+◌, List, Bool, ◌||◌, drop, sym, ap, ◌∙◌}
 use Rattle.std.specs.List.{list_any}
 use Rattle.crash_model.specs.Patches.{Place, places_of}
 use Rattle.crash_model.specs.Waiting.{meets_range}

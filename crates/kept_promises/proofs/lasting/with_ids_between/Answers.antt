@@ -1,4 +1,4 @@
-use Rattle.std.proofs.Common.{◌≤◌, inl, inr, length, arith, refl, ◌∙◌}
+use Rattle.std.proofs.Common.{inl, inr, length, arith, refl, ◌∙◌}
 use Rattle.kept_promises.proofs.Ids.{with_none, with_next, with_all}
 use Rattle.kept_promises.proofs.lasting.with_ids_between.Goals as goal
 

@@ -9,4 +9,5 @@ pub returns-then-is_file_data : goal.returns-then-is_file_data
 returns-then-is_file_data c =
     let patch = c.args.patch.now in
     let e = emitted_at (place patch.block patch.offset patch.new.items) c.args.label.now in
-    both (is_file_data_patch e) (meets c.args.ranges.now e) c.meets.result (sym c.if-is_file_data.ensures) c.meets.ensures
+    both (is_file_data_patch e) (meets c.args.ranges.now e) c.meets.result
+    (sym c.if-is_file_data.ensures) c.meets.ensures

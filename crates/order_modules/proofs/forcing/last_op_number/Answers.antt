@@ -9,7 +9,8 @@ use Rattle.order_modules.proofs.forcing.last_op_number.Goals as goal
 use Rattle.order_modules.proofs.forcing.last_op_number.Goals.{then-has_contents, else-has_contents}
 
 pub loop-id-init : goal.loop-id-init
-loop-id-init g c = last_none (has_contents c.args.ranges.now) (emitted_by (places_of c.args.graph.now) c.args.labels.now)
+loop-id-init g c =
+    last_none (has_contents c.args.ranges.now) (emitted_by (places_of c.args.graph.now) c.args.labels.now)
 
 pub loop-id-preserved : goal.loop-id-preserved
 loop-id-preserved g c =

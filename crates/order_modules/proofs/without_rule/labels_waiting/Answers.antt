@@ -1,8 +1,7 @@
-use Rattle.std.proofs.Common.{List, length, map, take, ap, ◌∙◌}
+use Rattle.std.proofs.Common.{List, length, map, ap, ◌∙◌}
 use Rattle.std.proofs.lemmas.List.{take_all, length-map}
 use Rattle.crash_model.specs.ChosenWaits.{emitted_waiting, forced_before}
 use Rattle.crash_model.specs.Patches.{places_of}
-use Rattle.crash_model.specs.Trace.{Emitted}
 use Rattle.crash_model.specs.Waiting.{Wait}
 use Rattle.traced_patches.specs.Labels.{emitted_by}
 use Rattle.traced_patches.specs.declared.labels.Label.{Label}

@@ -1,4 +1,5 @@
-use Rattle.std.proofs.Common.{◌≡◌, ℕ, ◌+◌, ◌*◌, ◌-◌, arith, List, [], ◌∷◌, take, drop, length, slice_index, sym, ap, ◌∙◌}
+use Rattle.std.proofs.Common.{◌≡◌, ℕ, ◌+◌, ◌*◌, ◌-◌, arith, List, [], ◌∷◌, take, drop, length, slice_index, sym, ap}
+use Rattle.std.proofs.Common.{◌∙◌}
 use Rattle.path_lookup.proofs.Slots.{four_first}
 use Rattle.path_lookup.proofs.showing.first_bytes.Goals as goal
 

@@ -17,7 +17,8 @@ use Rattle.question_laws.proofs.ScriptedLines.{lines_needed}
 use Rattle.question_laws.proofs.examples.the_sync_before_a_promise_is_needed.Goals as goal
 
 pub returns : goal.returns
-unfolding planner checker forced_before forced_by_sync names_show path_shows is_broken promises_of fault_text text_enough
+unfolding planner checker forced_before forced_by_sync names_show path_shows is_broken promises_of fault_text
+    text_enough
     json_enough digits
 returns c = lines_needed ordered []
     (Do (Create (root (codes "a"))) ∷ Sync ∷ Keep (record { items = root (codes "a") ∷ [] }) ∷ Sync ∷ []) 3 _ refl

@@ -1,5 +1,4 @@
 use Rattle.std.proofs.Common.{◌≡◌, ℕ, ◌-◌, IsAscii, take, drop, refl, ap₂, ◌∙◌, arith}
-use Rattle.report_sections.specs.Numbers.{number_start}
 use Rattle.report_sections.specs.declared.numbers.TheConstants.{COMMAS}
 use Rattle.report_sections.proofs.NumberTables.{ascii_from, part_is}
 use Rattle.report_sections.proofs.numbers.numbers_after_commas.Goals as goal

@@ -1,4 +1,4 @@
-use Rattle.std.proofs.Common.{◌≡◌, ◌≤◌, ◌+◌, ◌-◌, ◌++◌, filter, string_bytes}
+use Rattle.std.proofs.Common.{◌≡◌, ◌+◌, ◌-◌, ◌++◌, filter, string_bytes}
 use Rattle.std.specs.List.{range_with_len}
 use Rattle.patch_sets.specs.Sets.{has}
 use Rattle.crash_model.specs.declared.fault_kind.TheConstants.{KINDS}

@@ -22,7 +22,8 @@ loop-row-preserved g c =
     let rows = c.args.rows.now in
     let before = c.loop-row.invariant in
     let listed = c.in_ok-write_fault.ensures.listed in
-    let is = subst (λ (m : Reported). IsSection m.detail m.base m.patches (get_or rows c.loop-row.row-index no_row).first
+    let is = subst
+    (λ (m : Reported). IsSection m.detail m.base m.patches (get_or rows c.loop-row.row-index no_row).first
     listed.0) before.maker listed.1 in
     record {
       listed = fault_more maker.detail maker.base maker.patches rows c.loop-row.row-index c.args.patches no_row _ _ _

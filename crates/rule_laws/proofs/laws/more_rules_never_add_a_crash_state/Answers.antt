@@ -8,5 +8,6 @@ pub returns-clause-failing : goal.returns-clause-failing
 returns-clause-failing c = failing_more
 
 pub returns-clause-strict : goal.returns-clause-strict
-returns-clause-strict c = λ demands some all base s few more set among graph wider. failing_under_more some all base s few
+returns-clause-strict c =
+    λ demands some all base s few more set among graph wider. failing_under_more some all base s few
     more set among graph wider demands

@@ -4,7 +4,8 @@ use Rattle.crash_model.specs.ChosenWaits.{forced_before}
 use Rattle.traced_patches.proofs.ForcedBefore as ids
 use Rattle.traced_patches.proofs.labels.forced_before.Goals as goal
 use Rattle.traced_patches.proofs.labels.forced_before.Goals.{then-has+then-wait-line, else-has}
-use Rattle.traced_patches.proofs.labels.forced_before.Goals.{else-has-via-then-has+else-wait-line, else-has-via-else-has}
+use Rattle.traced_patches.proofs.labels.forced_before.Goals.{else-has-via-then-has+else-wait-line}
+use Rattle.traced_patches.proofs.labels.forced_before.Goals.{else-has-via-else-has}
 
 pub loop-place-init : goal.loop-place-init
 loop-place-init c = ids.forced_first c.args.waits.now c.args.chosen c.args.line
@@ -24,7 +25,8 @@ loop-place-preserved c =
       | then-has+then-wait-line w ↦ ids.forced_with waits c.args.chosen line place forced wait inside is so_far next
           (w.if-has.ensures.0 refl) w.if-wait-line.true w.forced-is
       | else-has w ↦ elim w.else-has.branch [
-        | else-has-via-then-has+else-wait-line v ↦ ids.forced_behind waits c.args.chosen line place forced wait inside is
+        | else-has-via-then-has+else-wait-line v
+            ↦ ids.forced_behind waits c.args.chosen line place forced wait inside is
             so_far next v.if-wait-line.false w.forced-is
         | else-has-via-else-has v ↦ ids.forced_unchosen waits c.args.chosen line place forced wait inside is so_far next
             (λ has. let not : IsTrue false = v.if-has.ensures.1 has in absurd (cc)) w.forced-is

@@ -18,7 +18,8 @@ use Rattle.worked_example_laws.proofs.answers.a_file_that_loses_its_names_is_rep
 pub returns-clause-strict : goal.returns-clause-strict
 unfolding strict_checker fault_text text_report json_report digits
 returns-clause-strict c = reported (strict_settings_of Soft 16 0 true) 4096 (Do (Create (root (codes "a"))) ∷ [])
-    (Do (Link (root (codes "a")) (root (codes "b"))) ∷ Do (Unlink (root (codes "a"))) ∷ []) 8 (4 ∷ 5 ∷ 13 ∷ []) _ refl refl
+    (Do (Link (root (codes "a")) (root (codes "b"))) ∷ Do (Unlink (root (codes "a"))) ∷ []) 8
+    (4 ∷ 5 ∷ 13 ∷ []) _ refl refl
 
 pub returns-clause-unasked : goal.returns-clause-unasked
 unfolding planner checker fault_text text_report json_report digits

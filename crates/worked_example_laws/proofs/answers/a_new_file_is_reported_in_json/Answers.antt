@@ -17,4 +17,5 @@ use Rattle.worked_example_laws.proofs.answers.a_new_file_is_reported_in_json.Goa
 
 pub returns : goal.returns
 unfolding planner checker fault_text text_report json_report digits
-returns c = reported (settings_of Async 16 0 true) 4096 ([]) (Do (Create (root (codes "a"))) ∷ []) 4 (2 ∷ []) _ refl refl
+returns c =
+    reported (settings_of Async 16 0 true) 4096 ([]) (Do (Create (root (codes "a"))) ∷ []) 4 (2 ∷ []) _ refl refl

@@ -13,5 +13,6 @@ pub returns-clause-list : goal.returns-clause-list
 returns-clause-list c = λ base patches sets others are also. one_list (IsFailing base patches) sets others are also
 
 pub returns-clause-under : goal.returns-clause-under
-returns-clause-under c = λ demands base patches sets others are also. one_list (IsFailingUnder demands base patches) sets
+returns-clause-under c =
+    λ demands base patches sets others are also. one_list (IsFailingUnder demands base patches) sets
     others are also

@@ -1,4 +1,4 @@
-use Rattle.std.proofs.Common.{rules, ◌≡◌, ℕ, List, [], ◌∷◌, ◌++◌, codes, sym, ap, ◌∙◌}
+use Rattle.std.proofs.Common.{rules, List, ◌∷◌, ◌++◌, codes, sym, ap, ◌∙◌}
 use Rattle.std.proofs.Output.{has_written_of_eq}
 use Rattle.std.specs.List.{flat_map}
 use Rattle.crash_model.specs.Lists.{join_of}
@@ -14,5 +14,6 @@ returns-in-Keep-clause-writes g c plain ok =
     has_written_of_eq _ _ _ _ _
     (ap (λ (paths : List Path). codes "keep" ++ flat_map (λ (path : Path). 32 ∷ path_text path) paths)
     c.as_slice.ensures.value
-    ∙ (join_paths (codes "keep") c.in-Keep.paths.items ∙ sym (ap (λ (act : Act). join_of 32 (words_of act)) c.in-Keep.is)))
+    ∙ (join_paths (codes "keep") c.in-Keep.paths.items
+    ∙ sym (ap (λ (act : Act). join_of 32 (words_of act)) c.in-Keep.is)))
     (search rules)

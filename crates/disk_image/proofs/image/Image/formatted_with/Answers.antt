@@ -13,6 +13,10 @@ returns-clause-sound g c =
       most = omega arith;
       room = omega arith;
     } in
-    let made : c.put-3.new.self ≡ new_disk c.args.blocks c.args.journal c.args.generations = grind (arith, common_steps) in
-    subst (λ (d : Disk). IsSound d × HasZeroJournal d) (sym made)
-    (sound-new_disk c.args.blocks c.args.journal c.args.generations good, zero-journal-new_disk c.args.blocks c.args.journal c.args.generations good)
+    let made : c.put-3.new.self ≡ new_disk c.args.blocks c.args.journal c.args.generations =
+    grind (arith, common_steps) in
+    subst (λ (d : Disk). IsSound d × HasZeroJournal d) (sym made) (
+      sound-new_disk c.args.blocks c.args.journal c.args.generations good,
+      zero-journal-new_disk c.args.blocks
+          c.args.journal c.args.generations good,
+    )

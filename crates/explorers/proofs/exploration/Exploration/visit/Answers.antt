@@ -15,7 +15,8 @@ returns-in-Err-clause-sees g c = rw c.stop.ensures (subst (λ (s : Known). SeesO
     (c.at-word.ensures.same ∙ c.claim.ensures.yes (search rules)) c.expand.ensures.sees)
 
 pub returns-in-Ok-clause-ready : goal.returns-in-Ok-clause-ready
-returns-in-Ok-clause-ready g c = record { free = c.expand.ensures.free; unclaimed = c.in-Ok.ensures.ended; counted = c.expand.ensures.counted }
+returns-in-Ok-clause-ready g c =
+    record { free = c.expand.ensures.free; unclaimed = c.in-Ok.ensures.ended; counted = c.expand.ensures.counted }
 
 pub expand-requires-clause-free : goal.expand-requires-clause-free
 expand-requires-clause-free g c =

@@ -9,7 +9,8 @@ use Rattle.failing_sets.proofs.finder.Finder.explored_on_board.Goals as goal
 pub returns-clause-total : goal.returns-clause-total
 returns-clause-total g c =
     subst (λ s. CountsClosed s.patches c.in_ok-found.found.total) c.new-space.ensures
-    (c.exploring_finds_the_failing_sets.ensures.total c.in_ok-found.found.total (rw c.in_ok-found.was at c.explore_in_room-exploring.ensures.found).total)
+    (c.exploring_finds_the_failing_sets.ensures.total c.in_ok-found.found.total
+    (rw c.in_ok-found.was at c.explore_in_room-exploring.ensures.found).total)
 
 pub returns-clause-failing : goal.returns-clause-failing
 returns-clause-failing g c =

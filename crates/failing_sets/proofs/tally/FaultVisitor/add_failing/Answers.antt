@@ -13,7 +13,8 @@ returns-clause-tallied g c = λ sets tallied.
     let images = c.args.scratch.now.images in
     let same : c.self.inside.demands.now ≡ v.demands = ap (λ (w : Crashes). w.demands) c.self.view_is in
     let moved = moved_faults c.self.inside.demands.now v.demands v.base v.patches images images set
-    c.image.result.now same c.requires.own (ap (λ (s : ℕ). record images { set = s }) c.requires.moved) c.image.ensures in
+    c.image.result.now same c.requires.own
+    (ap (λ (s : ℕ). record images { set = s }) c.requires.moved) c.image.ensures in
     let found : c.deref.result.now ≡ faults_after v.demands v.base v.patches set = c.deref.ensures.value
     ∙ (c.in_ok-list_faults_under.ensures ∙ moved) in
     failing_set (faults_after v.demands v.base v.patches) sets set c.args.tally.now.failing _ c.args.tally.now.summary

@@ -1,4 +1,4 @@
-use Rattle.std.proofs.Common.{◌≡◌, List, [], ◌∷◌, ◌++◌, length, map, arith, subst, ap, ◌∙◌, append_assoc}
+use Rattle.std.proofs.Common.{◌≡◌, [], ◌∷◌, ◌++◌, map, arith, subst, ap, ◌∙◌, append_assoc}
 use Rattle.promise_steps.specs.Underway.{all_ended}
 use Rattle.kept_promises.specs.Watched.{under_of}
 use Rattle.kept_promises.proofs.Each.{all_taken, ended_pushed}

@@ -1,4 +1,4 @@
-use Rattle.std.proofs.Common.{◌≡◌, ℕ, ◌++◌, length, map, Ok}
+use Rattle.std.proofs.Common.{◌≡◌, ◌++◌, length, map, Ok}
 use Rattle.std.specs.List.{All}
 use Rattle.crash_model.specs.Trace.{step as step_of}
 use Rattle.crash_model.specs.Tracing.{Tracing}

@@ -7,7 +7,8 @@ use Rattle.crash_model.specs.declared.patches.Patch.{Patch}
 use Rattle.traced_patches.specs.Labels.{links_by, emitted_at}
 use Rattle.order_modules.specs.Log.{Log, log_of}
 use Rattle.traced_patches.specs.declared.labels.Label.{Label}
-use Rattle.order_modules.proofs.Emitting.{written_blocks, emit_fields, emitted_new, waits_read, deps_read, undo_read, put_read}
+use Rattle.order_modules.proofs.Emitting.{written_blocks, emit_fields, emitted_new, waits_read, deps_read, undo_read}
+use Rattle.order_modules.proofs.Emitting.{put_read}
 use Rattle.order_modules.proofs.log.PatchLog.emit.Goals as goal
 
 pub block-requires : goal.block-requires

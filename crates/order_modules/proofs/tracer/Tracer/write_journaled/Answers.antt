@@ -65,7 +65,8 @@ returns-clause-ok g c =
     c.as_slice-2.result.now c.in_ok-emit_transaction.ensures.ok c.as_slice.ensures.value
     c.as_slice-2.ensures.value in
     subst (λ (t : Trace). Moves t (trace_of c.emit_transaction.new.self c.apply.new.image (i.op_number + 1)
-    (i.next + 1 + c.len.result) (group_by i.current) (names_by i.opened.items) (names_by i.ended.items) i.forced (waits_by i.waits.items))
+    (i.next + 1 + c.len.result) (group_by i.current) (names_by i.opened.items) (names_by i.ended.items) i.forced
+    (waits_by i.waits.items))
     (trace_of_plan t.log.kind c.args.line c.args.op.now t.tracing (Ok cs))) c.self.view_is
     (moves_journaled old c.args.line c.args.op.now cs c.emit_transaction.new.self c.apply.new.image (i.op_number + 1)
     (i.next + 1 + c.len.result) refl refl refl c.apply.ensures.changes targets order are adds refl

@@ -9,6 +9,7 @@ returns-clause-text g c =
     let numbers = c.args.known.now.numbers in
     let faults = ap (λ (fs : List Fault). string_bytes c.args.out.now ++ faults_head numbers fs)
     c.deref.ensures.value in
-    kind_head_pieces numbers c.args.crash.now c.number-number.result c.name-name.result.now (string_bytes c.args.out.now)
+    kind_head_pieces numbers c.args.crash.now c.number-number.result c.name-name.result.now
+    (string_bytes c.args.out.now)
     _ _ _ c.number-number.ensures c.name-name.ensures (c.in_ok-push_faults_head.ensures.text ∙ faults)
     c.in_ok-write.ensures.bytes c.in_ok-push_replay.ensures

@@ -22,7 +22,8 @@ returns g c =
     ++ join_of 44 (map (λ step. json_string (step_text step)) (steps_at pool places))) c.as_slice.ensures.value in
     let writes = ap (λ (ws : List BlockWrite). string_bytes c.push_str-3.new.self
     ++ join_of 44 (map (write_json known) ws)) c.deref.ensures.value in
-    need_pieces c.args.numbers c.args.ordering.now.rules.items pool c.args.needed.now known (string_bytes c.args.out.now)
+    need_pieces c.args.numbers c.args.ordering.now.rules.items pool c.args.needed.now known
+    (string_bytes c.args.out.now)
     _ _ _ _ _ _ _ _ _
     (ap (λ (f : Form). f.patches) (c.in_ok-write_group_head.ensures.known ∙ made))
     (c.in_ok-write_group_head.ensures.text ∙ head)

@@ -17,5 +17,6 @@ returns-in-Some-clause-text g c =
 pub returns-clause-text : goal.returns-clause-text
 returns-clause-text g c =
     runs_pushed c.args.self.now c.push_str-2.result c.args.ids (string_bytes c.in_ok-lines.lines)
-    (string_bytes c.args.out.now) (string_bytes c.push_str-2.new.self) c.in_ok-lines.ensures (rw c.as_str-2.ensures.value
+    (string_bytes c.args.out.now) (string_bytes c.push_str-2.new.self) c.in_ok-lines.ensures
+    (rw c.as_str-2.ensures.value
     at c.push_str-2.ensures.bytes)
