@@ -20,8 +20,8 @@ COLUMNS = {**{it: (it, "") for it in MODULES}, "meta, delayed": ("meta", ".delay
 HEAD = """# How programs save
 
 Here is what {count} commands of Debian 12 do to a file that they save, recorded by `./crashmap-record`, and what a
-crash can leave of it. The question is the same for all: does a crash leave the old contents, the new ones, or a complete
-backup or journal of the program, whenever it comes?
+crash can leave of it. The question is the same for all: does a crash leave the old contents, the new ones, or a
+complete backup or journal of the program, whenever it comes?
 
 `python3 -m saves.page --write` makes this page from the scripts in [saves](../saves). `python3 -m saves.record` records
 the programs again, and other versions of them may do other things. [RECORDING.md](RECORDING.md) says how a recording is
@@ -30,9 +30,9 @@ them. The suite makes them again, and compares each with the reference program.
 
 Under **async** nothing orders the writes of the disk. **soft** has soft updates, **meta** a journal of metadata like
 that of ext3, and **full** a journal of everything. In **meta, delayed** a file gets its new blocks where it is forced
-or at the end, as with the delayed allocation of ext4 and XFS. A cell says *kept*, or what the smallest crash leaves of the
-file, and how many patches that crash has on the disk. *gone*: no file has that name. *empty*: the file has no block.
-*torn*: the file has some of its blocks, or old and new ones together.
+or at the end, as with the delayed allocation of ext4 and XFS. A cell says *kept*, or what the smallest crash leaves of
+the file, and how many patches that crash has on the disk. *gone*: no file has that name. *empty*: the file has no
+block. *torn*: the file has some of its blocks, or old and new ones together.
 
 A verdict is about crashmap's model, and a real file system can do more. ext4 mounted with `auto_da_alloc`, which is the
 default, writes the new file where it replaces an old one by a rename.
@@ -50,10 +50,10 @@ NOTES = """
   fsync under soft updates: that of the new file, before it deletes the backup.
 - **sqlite's journal** stands in for the database. A promise about the database file alone would be broken, since the
   file is torn while sqlite writes it, and sqlite puts it in order from the journal when it opens it again. So the
-  script says `spare /f /fjournal`: the file may be torn as long as the complete journal is there. sqlite keeps this promise
-  under every ordering. It needs two of its waits for that, the one for the journal and the one for the database. The
-  others serve what this promise does not ask, which is that a commit stays once sqlite has reported it. With
-  `synchronous=off` the database can be torn.
+  script says `spare /f /fjournal`: the file may be torn as long as the complete journal is there. sqlite keeps this
+  promise under every ordering. It needs two of its waits for that, the one for the journal and the one for the
+  database. The others serve what this promise does not ask, which is that a commit stays once sqlite has reported it.
+  With `synchronous=off` the database can be torn.
 
 In the sections below, *needs* has a smallest set of waits that is enough, out of those that the program makes. A dash
 stands where all of them together are not enough.

@@ -46,8 +46,8 @@ class Help(unittest.TestCase):
         self.assertTrue(all(len(line) > 30 for line in explained.splitlines()), explained)
 
     def test_a_strict_run_is_explained_by_what_a_user_loses(self):
-        self.assertIn("a crash loses a file or directory that is there before `start` and that the script never removes",
-                      " ".join(answer("--help")[1].decode().split()))
+        loses = "a crash loses a file or directory that is there before `start` and that the script never removes"
+        self.assertIn(loses, " ".join(answer("--help")[1].decode().split()))
 
     def test_the_faults_that_can_count_go_to_the_same_number_as_in_the_error(self):
         words = " ".join(answer("--help")[1].decode().split())

@@ -144,13 +144,14 @@ class Refusals(Recording):
         answer = subprocess.run(["sh", "-c", command, "sh", PYTHON, RECORDER, "--", "true"], cwd=self.folder,
                                 capture_output=True, text=True, check=False)
         self.assertEqual((answer.returncode, answer.stdout), (2, ""))
-        self.assertRegex(answer.stderr, r"^crashmap-record: the directory cannot be read, or .*/gone \(deleted\): No such ")
+        self.assertRegex(answer.stderr,
+                         r"^crashmap-record: the directory cannot be read, or .*/gone \(deleted\): No such ")
 
     def test_interrupted(self):
         """Ctrl-C is for the command, and the recorder tells what it did until then."""
-        with subprocess.Popen([PYTHON, RECORDER, "--", "sh", "-c", "echo new > f; echo; exec sleep 60"], cwd=self.folder,
-                              stdin=subprocess.DEVNULL, stdout=subprocess.PIPE, stderr=subprocess.PIPE, text=True,
-                              start_new_session=True) as run:
+        command = "echo new > f; echo; exec sleep 60"
+        with subprocess.Popen([PYTHON, RECORDER, "--", "sh", "-c", command], cwd=self.folder, stdin=subprocess.DEVNULL,
+                              stdout=subprocess.PIPE, stderr=subprocess.PIPE, text=True, start_new_session=True) as run:
             self.assertEqual(run.stderr.readline(), "\n")
             os.killpg(run.pid, signal.SIGINT)
             output, errors = run.communicate(timeout=600)
