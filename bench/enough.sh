@@ -9,11 +9,7 @@
 set -eu
 top=$(cd "$(dirname "${BASH_SOURCE[0]}")/.." && pwd)
 . "$top/launch/programs.sh"
-program=${CRASHMAP_PROGRAM:-}
-if [ -z "$program" ]; then
-    is_built crashmap || build crashmap
-    program=$(program_of crashmap)
-fi
+program=$(program_to_time)
 work=$(mktemp -d)
 trap 'rm -rf "$work"' EXIT
 cd "$top"

@@ -39,8 +39,16 @@ build() {
     python3 "$top/launch/prove.py" "$top" "$1" </dev/null || exit 2
 }
 
+# program_to_time: the program that CRASHMAP_PROGRAM names, or else the one that is proved and built here
+program_to_time() {
+    if [ -z "${CRASHMAP_PROGRAM:-}" ]; then
+        is_built crashmap || build crashmap >&2
+    fi
+    echo "${CRASHMAP_PROGRAM:-$(program_of crashmap)}"
+}
+
 # How long a first proof takes from nothing.
-first_proof="15 to 40 minutes on four processors"
+first_proof="20 to 60 minutes on four processors"
 
 # need_unproved NAME: says in one line that an unproved program answers. Where none is kept it compiles one first, with
 # checks in place of proofs, or ends with status 2.
