@@ -1,12 +1,12 @@
 //! Std's readers and writers as devices.
 
-ghost use Rattle.std.specs.Prelude.{◌≡◌, None};
+ghost use Rattle.std.specs.Prelude.{◌≡◌};
 
 use crate::sink::Sink;
 use crate::source::{DeviceFault, Source};
-use std::io::{self, Read, Write};
+use std::io::{Read, Write};
 
-/// A reader or a writer of std with the number of its failures, and the error of the last read that failed.
+/// A reader or a writer of std with the number of its failures.
 ///
 /// An error of std is a failure, whatever its kind. A write that takes nothing is a failure too. A failed call is not
 /// tried again.
@@ -14,18 +14,16 @@ use std::io::{self, Read, Write};
 pub struct Counted<D> {
     pub device: D,
     pub failures: usize,
-    pub error: Option<io::Error>,
 }
 
 impl<D> Counted<D> {
     /// The device, which has not failed yet.
     pub fn new(device: D) -> Counted<D>
-        ensures { result ≡ record { device = device; failures = 0; error = None } }
+        ensures { result ≡ record { device = device; failures = 0 } }
     {
         Counted {
             device,
             failures: 0,
-            error: None,
         }
     }
 }
@@ -38,8 +36,7 @@ impl<R: Read> Source for Counted<R> {
     fn read(&mut self, into: &mut [u8]) -> Result<usize, DeviceFault> {
         match self.device.read(into) {
             Ok(count) => Ok(count),
-            Err(error) => {
-                self.error = Some(error);
+            Err(_) => {
                 self.failures += 1;
                 Err(DeviceFault)
             }

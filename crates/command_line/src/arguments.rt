@@ -108,17 +108,19 @@ in place (InPlace), or FileData, Copy, Commit, Done.
 
 Examples:
   printf 'start\\ncreate /a\\n' | crashmap --module async
-  printf 'start\\ncreate /a\\nwrite /a\\n' | crashmap --without Ptr:InitFile --explain --summary
+  printf 'start\\ncreate /a\\nwrite /a\\n' | crashmap --without Ptr:InitFile --explain --decide
 
 Words of reports:
   base      the disk that the lines before `start` build
   closed    a set of patches with every patch that they wait for: what a crash can leave on disk
-  pairs     how many pairs of a script's patches a rule orders
   in place  a change where it belongs on the disk, and not its copy in the journal
 
 A script has one operation a line (create, write, overwrite, truncate, link, unlink, rename, replace, mkdir, rmdir, with
 paths), groups (group A, end, depend B A), lines that wait (sync, fsync P) and that promise (keep P, hold P, spare P Q),
 comments (#) and one line `start`: the lines before it build the disk, those after it are explored.
+
+Hints: `./crashmap` says on standard error what helps, such as that a rule orders nothing. It does so on a terminal; in
+scripts and CI it does with --hints always, and with --hints never it does not.
 
 Exit status: 0 no failing set, 1 at least one, 2 a refusal (one line on standard error).";
 
@@ -219,13 +221,7 @@ pub(crate) static HEADS: [Head; 5] = [
             Entry {
                 name: "limit",
                 takes: Takes::Number("L", LIMIT),
-                help: "Most closed sets to explore, 1 to 1000000000",
-            },
-            Entry {
-                name: "explorer",
-                takes: Takes::OneOf("E", &["auto", "board", "sweep"], "auto"),
-                help: "How to explore: a board that workers share, up to a limit of 32768, or a sweep without a \
-                       table",
+                help: "Most closed sets to explore, 1 to 32768",
             },
             Entry {
                 name: "workers",
@@ -234,34 +230,26 @@ pub(crate) static HEADS: [Head; 5] = [
             },
             Entry {
                 name: "decide",
-                takes: Takes::NothingWithout(&["limit", "explorer", "summary", "needs"]),
+                takes: Takes::NothingWithout(&["limit"]),
                 help: "Find each fault of any closed set, with the first set that has it, however many closed sets \
                        there are",
             },
             Entry {
                 name: "enough",
-                takes: Takes::NothingWithout(&["decide", "limit", "explorer", "summary", "needs"]),
+                takes: Takes::NothingWithout(&["decide", "limit"]),
                 help: "Find the smallest sets of the ordering's rules that are enough, and each group of which one \
                        rule is needed, with the crash that comes without it; with --search for all workloads together, \
                        except those that fail already",
             },
             Entry {
                 name: "syncs",
-                takes: Takes::NothingBeside(
-                    &["enough"],
-                    &["decide", "limit", "explorer", "summary", "needs", "search"],
-                ),
+                takes: Takes::NothingBeside(&["enough"], &["decide", "limit", "search"]),
                 help: "With --enough ask about the script's lines `sync` and `fsync` in place of the rules: which of \
                        them have to wait, and which crash comes without them",
             },
             Entry {
                 name: "search",
-                takes: Takes::NumberWithout(
-                    "N",
-                    1,
-                    MAX_OPERATIONS as i64,
-                    &["decide", "limit", "explorer", "summary", "needs"],
-                ),
+                takes: Takes::NumberWithout("N", 1, MAX_OPERATIONS as i64, &["decide", "limit"]),
                 help: "Try every workload of up to N operations, 1 to 8, from the script's lines after `start`, and \
                        show the first that fails for each kind of fault",
             },
@@ -277,16 +265,6 @@ pub(crate) static HEADS: [Head; 5] = [
                 help: "Say what each patch is, why it waits for others, and what replay changes",
             },
             Entry {
-                name: "summary",
-                takes: Takes::Nothing,
-                help: "List each fault once, with the first set that has it, in place of the failing sets",
-            },
-            Entry {
-                name: "needs",
-                takes: Takes::NothingWithout(&["summary"]),
-                help: "Show what a crash can leave without each rule of the ordering, in place of the failing sets",
-            },
-            Entry {
                 name: "json",
                 takes: Takes::Nothing,
                 help: "Report as JSON in place of text",
@@ -296,11 +274,6 @@ pub(crate) static HEADS: [Head; 5] = [
                 takes: Takes::NothingBeside(&["json"], &[]),
                 help: "With --json also give the numbers in the text of each fault by name, the number of the form of \
                        reports, and the size of the disk",
-            },
-            Entry {
-                name: "hints",
-                takes: Takes::OneOf("WHEN", &["auto", "always", "never"], "auto"),
-                help: "Say on standard error what helps: if that is a terminal, always or never",
             },
             Entry {
                 name: "options",

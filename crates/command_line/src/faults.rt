@@ -18,7 +18,6 @@ pub(crate) enum Value<'a> {
     /// A word in the place of a rule.
     Word(&'a str),
     Rule(Rule),
-    Limit(usize),
     /// A word in the place of numbers of faults.
     Numbers(&'a str),
 }
@@ -27,7 +26,6 @@ impl Value<'_> {
     /// What help calls a value of this kind.
     fn symbol(&self) -> &'static str {
         match self {
-            Value::Limit(_) => "L",
             Value::Numbers(_) => "K,..",
             _ => "RULE",
         }
@@ -39,7 +37,6 @@ impl fmt::Display for Value<'_> {
         match self {
             Value::Word(word) => word.fmt(f),
             Value::Rule(rule) => rule.fmt(f),
-            Value::Limit(limit) => limit.fmt(f),
             Value::Numbers(word) => word.fmt(f),
         }
     }

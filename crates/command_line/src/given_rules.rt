@@ -13,11 +13,9 @@ use clap::ArgMatches;
 use crash_model::modules::Module;
 use crash_model::rule_lists::{RuleList, has_rule};
 use crash_model::rules::Rule;
-use std::alloc::Global;
 
 /// The rules that an option was given, in their order: each once, and at most 16. `long` is the option's word.
 pub(crate) fn given_rules<'a>(
-    heap: Global,
     matches: &ArgMatches<'a>,
     words: &[&str],
     option: &'static str,
@@ -27,7 +25,7 @@ pub(crate) fn given_rules<'a>(
 {
     let mut rules = RuleList::new();
     for word in matches.get_strs(option).unwrap_or(&[]) {
-        match next_rule(heap, words, long, &rules, word) {
+        match next_rule(words, long, &rules, word) {
             Ok(rule) => rules.push(rule),
             Err(why) => {
                 let value = Value::Word(word);
@@ -42,7 +40,6 @@ pub(crate) fn given_rules<'a>(
 ///
 /// `clap` does not promise that its values are among the words, so the rule is looked up there.
 fn next_rule<'a>(
-    heap: Global,
     words: &[&str],
     long: &str,
     rules: &RuleList,
@@ -54,7 +51,7 @@ fn next_rule<'a>(
 {
     let rule = match Rule::read(word) {
         Some(rule) if is_given_by(words, long, word) => rule,
-        _ => return Err(why_no_rule(heap, word)),
+        _ => return Err(why_no_rule(word)),
     };
     if has_rule(rules.as_slice(), rule) {
         return Err(Why::GivenTwice);

@@ -10,7 +10,6 @@ mod arguments;
 mod faults;
 mod given_by;
 mod given_rules;
-mod hints;
 mod numbers;
 mod option_list;
 mod rule_words;
@@ -19,11 +18,10 @@ mod values;
 use crate::arguments::command;
 use crate::faults::WordFault;
 use crate::given_rules::{check_with, check_without, given_rules};
-pub use crate::hints::Hints;
 use crate::numbers::{BLOCKS, JOURNAL, WORKERS};
 use crate::option_list::option_list;
 use crate::rule_words::rules_page;
-use crate::values::{counted_of, hints_of, module_of, number_of, question_of};
+use crate::values::{counted_of, module_of, number_of, question_of};
 use clap::error::ErrorKind;
 use clap::{ArgMatches, Command, Error};
 use crash_model::modules::Module;
@@ -34,12 +32,11 @@ use std::alloc::{AllocError, Global};
 
 /// What the words of a command line ask for.
 ///
-/// `script` is the file to read, or none for standard input. No answer depends on `hints`.
+/// `script` is the file to read, or none for standard input.
 #[derive(Debug, PartialEq, Eq, Drop)]
 pub struct Call<'a> {
     pub script: Option<&'a str>,
     pub request: Request,
-    pub hints: Hints,
 }
 
 /// Reads the words of a command line, without the program's name.
@@ -74,7 +71,7 @@ fn call_by<'a>(
     if let Some(shown) = page_shown(heap, &matches)? {
         return Err(shown);
     }
-    match call_of(heap, &matches, words) {
+    match call_of(&matches, words) {
         Ok(call) => Ok(call),
         Err(fault) => Err(refusal(heap, command, &fault)?),
     }
@@ -112,11 +109,7 @@ fn help_with(heap: Global, page: &str) -> Result<Error, AllocError> {
 }
 
 /// What these matches of the words ask for.
-fn call_of<'a>(
-    heap: Global,
-    matches: &ArgMatches<'a>,
-    words: &[&str],
-) -> Result<Call<'a>, WordFault<'a>>
+fn call_of<'a>(matches: &ArgMatches<'a>, words: &[&str]) -> Result<Call<'a>, WordFault<'a>>
     ensures ranges { IfOk result (λ call. IsInRanges call.request) }
     ensures without { IfOk result (λ call.
         AreGiven (codes "--without") words.now call.request.settings.without.items) }
@@ -124,7 +117,7 @@ fn call_of<'a>(
     ensures lawful { IfOk result (λ call. AreLawful call.request.settings) }
 {
     let module = module_of(matches);
-    let (without, with) = rules_for(heap, matches, words, module)?;
+    let (without, with) = rules_for(matches, words, module)?;
     let settings = Settings {
         module,
         without,
@@ -144,17 +137,15 @@ fn call_of<'a>(
     Ok(Call {
         script: matches.get_str("SCRIPT"),
         request: Request {
-            question: question_of(matches)?,
+            question: question_of(matches),
             settings,
             workers: number_of(matches, "workers", WORKERS),
         },
-        hints: hints_of(matches),
     })
 }
 
 /// The rules to take out of the module's, and those to put in.
 fn rules_for<'a>(
-    heap: Global,
     matches: &ArgMatches<'a>,
     words: &[&str],
     ordering: Module,
@@ -164,8 +155,8 @@ fn rules_for<'a>(
     ensures lawful { IfOk result (λ rules. AreAllIn (rules_of ordering) rules.0.items
         × AreNoneIn rules.0.items rules.1.items) }
 {
-    let without = given_rules(heap, matches, words, "without", "--without")?;
-    let with = given_rules(heap, matches, words, "with", "--with")?;
+    let without = given_rules(matches, words, "without", "--without")?;
+    let with = given_rules(matches, words, "with", "--with")?;
     check_without(without.as_slice(), ordering.rules(), ordering)?;
     check_with(with.as_slice(), without.as_slice())?;
     Ok((without, with))

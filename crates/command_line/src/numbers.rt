@@ -29,7 +29,7 @@ pub(crate) const JOURNAL: Numbers = Numbers {
 /// The most closed sets that a run explores.
 pub(crate) const LIMIT: Numbers = Numbers {
     least: 1,
-    most: 1_000_000_000,
+    most: 32_768,
     usual: 4096,
     shown: "4096",
 };

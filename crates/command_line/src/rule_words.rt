@@ -5,10 +5,6 @@ use crash_model::modules::Module;
 use crash_model::rules::{Rule, RulePart};
 use std::alloc::{AllocError, Global};
 use std::fmt;
-use strsim::levenshtein;
-
-/// How many letters of a part may differ from the part that was meant.
-const MOST_EDITS: usize = 3;
 
 /// What the page of rules says before the parts.
 const ABOUT_PARTS: &str = "
@@ -191,22 +187,18 @@ static RULES: [Meaning; 20] = [
 pub(crate) enum Why<'a> {
     /// It has no colon.
     NoColon,
-    /// It has a part that no rule names. Perhaps another was meant.
-    NoPart {
-        part: &'a str,
-        nearest: Option<&'a str>,
-    },
+    /// It has a part that no rule names.
+    NoPart(&'a str),
     GivenTwice,
     TooMany,
     /// The rule is not one of the module's.
     NotOf(Module),
     TakenOut,
-    BoardIsSmaller,
     NoFaultNumbers,
 }
 
 /// Why the word is no rule.
-pub(crate) fn why_no_rule(heap: Global, word: &str) -> Why<'_> {
+pub(crate) fn why_no_rule(word: &str) -> Why<'_> {
     let Some((later, rest)) = word.split_once(":") else {
         return Why::NoColon;
     };
@@ -214,47 +206,18 @@ pub(crate) fn why_no_rule(heap: Global, word: &str) -> Why<'_> {
         Some(earlier) => earlier,
         None => rest.strip_prefix("before-").unwrap_or(rest),
     };
-    let part = if RulePart::read(later).is_none() {
-        later
+    if RulePart::read(later).is_none() {
+        Why::NoPart(later)
     } else {
-        earlier
-    };
-    let nearest = nearest_part(heap, part);
-    Why::NoPart { part, nearest }
-}
-
-/// The first of the parts that differ from the word by the fewest letters. They are at most three, and at most half of
-/// the part's.
-fn nearest_part(heap: Global, word: &str) -> Option<&'static str> {
-    let (mut nearest, mut fewest) = (None, MOST_EDITS + 1);
-    for part in &PARTS {
-        match levenshtein(heap, word, part.word) {
-            Ok(edits) if edits < fewest && edits <= part.word.len() / 2 => {
-                (nearest, fewest) = (Some(part.word), edits);
-            }
-            _ => {}
-        }
+        Why::NoPart(earlier)
     }
-    nearest
 }
 
 impl fmt::Display for Why<'_> {
     fn fmt<W: fmt::Write>(&self, f: &mut fmt::Formatter<W>) -> fmt::Result {
         match *self {
             Why::NoColon => f.write_str("it is no rule, which is written LATER:EARLIER"),
-            Why::NoPart {
-                part,
-                nearest: Some(nearest),
-            } => {
-                write!(
-                    f,
-                    "it is no rule: no part is called '{part}'; did you mean '{nearest}'?"
-                )
-            }
-            Why::NoPart {
-                part,
-                nearest: None,
-            } => {
+            Why::NoPart(part) => {
                 write!(
                     f,
                     "it is no rule: no part is called '{part}'; --rules lists them"
@@ -264,7 +227,6 @@ impl fmt::Display for Why<'_> {
             Why::TooMany => f.write_str("more than 16 rules are given"),
             Why::NotOf(module) => write_rules_of(f, module),
             Why::TakenOut => f.write_str("'--without' takes it out"),
-            Why::BoardIsSmaller => f.write_str("the board holds at most 32768 sets"),
             Why::NoFaultNumbers => {
                 write!(
                     f,

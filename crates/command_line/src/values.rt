@@ -1,18 +1,14 @@
 //! The values of the options that take one, and what the flags ask for.
 
-ghost use Rattle.std.specs.Prelude.{◌≤◌, IfOk};
-ghost use Rattle.crash_model.specs.Visits.{IsExplorable};
-ghost use Rattle.question_model.specs.Asked.{CanBeAsked};
+ghost use Rattle.std.specs.Prelude.{◌≤◌};
 
 use crate::faults::{Value, WordFault};
-use crate::hints::Hints;
 use crate::numbers::{LIMIT, Numbers};
 use crate::rule_words::Why;
 use clap::ArgMatches;
 use crash_model::fault_kind::KINDS;
 use crash_model::modules::Module;
-use crash_model::visit::{Explorer, MAX_BOARD, ReportBy, Visit};
-use question_model::{Question, WorkloadLength};
+use question_model::{Question, SetLimit, WorkloadLength};
 
 /// The number given, which the parser has kept among those that the option takes.
 pub(crate) fn number_of(matches: &ArgMatches<'_>, name: &str, numbers: Numbers) -> usize
@@ -76,71 +72,28 @@ pub(crate) fn module_of(matches: &ArgMatches<'_>) -> Module {
     }
 }
 
-/// Which explorer to use: the board or the sweep, or else the one that the limit decides.
-fn explorer_of(matches: &ArgMatches<'_>) -> Explorer {
-    match matches.get_str("explorer") {
-        Some("board") => Explorer::Board,
-        Some("sweep") => Explorer::Sweep,
-        _ => Explorer::Auto,
+/// The most sets to explore, which the parser has kept in its range.
+fn limit_of(matches: &ArgMatches<'_>) -> SetLimit {
+    match SetLimit::new(number_of(matches, "limit", LIMIT)) {
+        Some(limit) => limit,
+        None => unreachable!(),
     }
-}
-
-/// When hints are given: always or never, or else on a terminal.
-pub(crate) fn hints_of(matches: &ArgMatches<'_>) -> Hints {
-    match matches.get_str("hints") {
-        Some("always") => Hints::Always,
-        Some("never") => Hints::Never,
-        _ => Hints::Auto,
-    }
-}
-
-/// What the report lists: failing sets, faults or rules.
-fn report_by(matches: &ArgMatches<'_>) -> ReportBy {
-    if matches.get_flag("needs") {
-        ReportBy::ByRule
-    } else if matches.get_flag("summary") {
-        ReportBy::ByFault
-    } else {
-        ReportBy::BySet
-    }
-}
-
-/// How to visit each closed set. The board takes no limit that is more than it holds.
-fn visit_of<'a>(matches: &ArgMatches<'a>) -> Result<Visit, WordFault<'a>>
-    ensures { IfOk result IsExplorable }
-{
-    let visit = Visit {
-        report: report_by(matches),
-        limit: number_of(matches, "limit", LIMIT),
-        explorer: explorer_of(matches),
-    };
-    if visit.explorer == Explorer::Board && visit.limit > MAX_BOARD {
-        return Err(WordFault {
-            option: "limit",
-            value: Value::Limit(visit.limit),
-            why: Why::BoardIsSmaller,
-        });
-    }
-    Ok(visit)
 }
 
 /// What to find out: each failing set, each fault with `--decide`, which rules are enough with `--enough`, or which
 /// lines that wait with `--syncs` beside it, which workloads fail with `--search`, or which rules are enough for all of
 /// them with `--enough` beside it.
-pub(crate) fn question_of<'a>(matches: &ArgMatches<'a>) -> Result<Question, WordFault<'a>>
-    ensures { IfOk result CanBeAsked }
-{
+pub(crate) fn question_of(matches: &ArgMatches<'_>) -> Question {
     if matches.get_flag("decide") {
-        return Ok(Question::Decide);
+        return Question::Decide;
     }
-    let question = match (longest_workload(matches), matches.get_flag("enough")) {
+    match (longest_workload(matches), matches.get_flag("enough")) {
         (Some(longest), true) => Question::SearchRules(longest),
         (Some(longest), false) => Question::Search(longest),
         (None, true) if matches.get_flag("syncs") => Question::EnoughLines,
         (None, true) => Question::Enough,
-        (None, false) => Question::Visit(visit_of(matches)?),
-    };
-    Ok(question)
+        (None, false) => Question::FailingSets(limit_of(matches)),
+    }
 }
 
 /// How many operations the longest workloads have, if workloads are to be searched.

@@ -38,7 +38,6 @@ pub mod Checker
 pub mod PromiseLines
 pub mod FaultOrder
 pub mod FirstSets
-pub mod FaultRows
 pub mod ChosenWaits
 pub mod PathTexts
 pub mod Targets
@@ -48,6 +47,4 @@ pub mod Texts
 pub mod PatchTexts
 pub mod ShownTexts
 pub mod Reasons
-pub mod RuleUse
 pub mod OtherRules
-pub mod Visits

@@ -116,11 +116,3 @@ fn numbers(kind: u8, first: u8, second: u8, third: u8) -> [usize; 4]
         usize::from(third),
     ]
 }
-
-/// A fault in a summary: how many failing sets have it, and which of them is the first in canonical order.
-#[derive(Clone, Copy, Debug, PartialEq, Eq, Drop)]
-pub struct FaultRow {
-    pub fault: Fault,
-    pub sets: u64,
-    pub first: u128,
-}

@@ -24,4 +24,3 @@ pub mod separators;
 pub mod settings;
 pub mod showing;
 pub mod steps;
-pub mod visit;

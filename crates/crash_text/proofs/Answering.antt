@@ -1,7 +1,7 @@
 -- What the parts of a run find makes its answer.
 use Rattle.std.proofs.Common.{◌≡◌, ℕ, ◌≤◌, List, length, Ok, Err, Some, ap, subst, sym, inl, inr, ◌∙◌}
 use Rattle.std.specs.Prelude.{slice_get}
-use Rattle.report_model.specs.Answer.{Refused, Reported, IsReport, IsReported, untraced, too_many, reported}
+use Rattle.report_model.specs.Answer.{Refused, Reported, IsReport, IsReported, untraced, too_many}
 use Rattle.report_model.specs.ScriptGraph.{HasBase, HasGraph, asked_by}
 use Rattle.report_model.specs.Untraced.{IsUntraced, bad_script, bad_geometry, bad_base, bad_trace}
 use Rattle.crash_model.specs.Checker.{Demands}
@@ -22,12 +22,10 @@ use Rattle.crash_model.specs.declared.refusals.ScriptFault.{ScriptFault}
 use Rattle.crash_model.specs.declared.refusals.TraceFault.{TraceFault}
 use Rattle.crash_model.specs.declared.settings.Settings.{Settings}
 use Rattle.crash_model.specs.declared.steps.Step.{Step}
-use Rattle.crash_model.specs.declared.visit.Visit.{Visit}
 use Rattle.question_model.specs.Answers.{IsAnswerTo}
 use Rattle.question_model.specs.declared.question.Question.{Question}
-use Rattle.question_model.specs.declared.question.Question.TheVariants as asks
-use Rattle.question_model.specs.declared.question.Question.TheVariants.{Decide, Enough, EnoughLines, Search}
-use Rattle.question_model.specs.declared.question.Question.TheVariants.{SearchRules}
+use Rattle.question_model.specs.declared.question.Question.TheVariants.{FailingSets, Decide, Enough}
+use Rattle.question_model.specs.declared.question.Question.TheVariants.{EnoughLines, Search, SearchRules}
 use Rattle.question_model.specs.declared.question.TheConstants.{MAX_SYNCS}
 use Rattle.question_model.specs.LinesReport as lines
 use Rattle.question_model.specs.LinesReport.{IsLinesRefusal}
@@ -90,7 +88,7 @@ module _ (bytes : List ℕ) (settings : Settings) where
   -- without a base each question is refused alike
   refused_to : (question : Question) (fault : RunFault) → HasNone → IsUntraced bytes settings fault
       → IsAnswerTo question bytes settings (Refused fault)
-  refused_to (asks.Visit visit) fault none is = untraced fault is
+  refused_to (FailingSets limit) fault none is = untraced fault is
   refused_to Decide fault none is = is
   refused_to Enough fault none is = is
   refused_to EnoughLines fault none is = lines.before_the_trace fault is none
@@ -156,19 +154,12 @@ module _ (bytes : List ℕ) (settings : Settings) where
     report = is are.last are.trace;
   }
 
-  -- what a visit reports, and the one other reason to refuse it
-  pub reported_visit : {A : Type 0} (visit : Visit) (base : Disk) (steps : List Step) (s : TracedScript A)
-      (text : List ℕ) (number : ℕ) → HasBase bytes settings base steps → IsTraced settings base steps s
-      → IsReportOn (IsReport settings visit.report visit.limit) settings s text number
-      → IsAnswerTo (asks.Visit visit) bytes settings (Reported text number)
-  reported_visit visit base steps s text number start are is = reported text number
-      (reported_on (IsReport settings visit.report visit.limit) base steps s text number start are is)
-
-  pub refused_visit : {A : Type 0} (visit : Visit) (base : Disk) (steps : List Step) (s : TracedScript A)
+  -- and more closed sets than the limit are the one other reason not to report the failing sets
+  pub refused_sets : {A : Type 0} (limit : ℕ) (base : Disk) (steps : List Step) (s : TracedScript A)
       (fault : RunFault) → HasBase bytes settings base steps → IsTraced settings base steps s → fault ≡ TooMany
-      → ExceedsLimit s.traced.patches visit.limit → IsAnswerTo (asks.Visit visit) bytes settings (Refused fault)
-  refused_visit visit base steps s fault start are same more =
-      subst (λ f. IsAnswerTo (asks.Visit visit) bytes settings (Refused f)) (sym same)
+      → ExceedsLimit s.traced.patches limit → IsAnswerTo (FailingSets limit) bytes settings (Refused fault)
+  refused_sets limit base steps s fault start are same more =
+      subst (λ f. IsAnswerTo (FailingSets limit) bytes settings (Refused f)) (sym same)
       (too_many s.base.now are.last s.traced.patches (has_graph base steps s start are) more)
 
   -- a step up to the limit of lines that wait is refused

@@ -1,6 +1,7 @@
 -- What a decision reports makes it the report that is asked for.
-use Rattle.std.proofs.Common.{◌≡◌, ℕ, List, length, map, All, sym, subst, ap, ◌∙◌}
+use Rattle.std.proofs.Common.{◌≡◌, ℕ, List, length, map, All, arith, sym, subst, ap, ◌∙◌}
 use Rattle.std.specs.Prelude.{None, if◌then◌else◌}
+use Rattle.std.proofs.Math.ListN.{get_or-map}
 use Rattle.std.proofs.lemmas.List.{length-map}
 use Rattle.std.proofs.lemmas.Simd.{map-map}
 use Rattle.std.proofs.lemmas.List.Elements.{All-map}
@@ -23,8 +24,12 @@ use Rattle.question_model.specs.ListedFault.{ListedFault}
 use Rattle.question_model.specs.declared.decided_fault.DecidedFault.{DecidedFault}
 use Rattle.traced_patches.specs.Traced.{TracedPatches}
 use Rattle.report_sections.specs.Bodies.{AreClosed, explanation_by}
-use Rattle.crash_text.proofs.Bodies.{all_of, same_explanation}
+use Rattle.crash_text.proofs.FoundSets.{same_explanation}
 use Rattle.crash_text.specs.Traced.{IsTraceOf}
+
+-- what holds of each image holds of each item's image
+all_of : {X Y : Type 0} (P : X → Type 0) (f : Y → X) (ys : List Y) → All P (map f ys) → All (λ y. P (f y)) ys
+all_of P f ys all k d within = subst P (get_or-map f ys k d) (all k (f d) (omega (arith, within, length-map ys f)))
 
 -- a crash can leave the first sets of decided faults
 pub decided_closed : (demands : Demands) (base : Disk) (patches : List Patch) (faults : List DecidedFault)

@@ -1,12 +1,11 @@
 pub mod Answering
 pub mod LineReports
-pub mod Needing
 pub mod Pools
 pub mod PoolReports
 pub mod RuleReports
 pub mod Serving
 pub mod Sparing
-pub mod Bodies
+pub mod FoundSets
 pub mod Decisions
 pub mod Safe
 pub mod Limit

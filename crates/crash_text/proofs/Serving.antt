@@ -3,7 +3,7 @@ use Rattle.std.proofs.Common.{◌≡◌, ℕ, ◌<◌, ◌≤◌, List, ◌++◌
 use Rattle.std.proofs.Common.{sym, subst, ap, ◌∙◌, append-nil, arith}
 use Rattle.std.specs.Prelude.{◌≢◌, Result, Ok, Err, IfErr}
 use Rattle.std.specs.Io.KnownBytes.{Consumes, IsAtEnd}
-use Rattle.report_model.specs.Answer.{Answer, Refused, Reported, IsVisited, untraced, too_many, reported}
+use Rattle.report_model.specs.Answer.{Refused, IsSetsRefusal, untraced, too_many}
 use Rattle.report_model.specs.Untraced.{IsUntraced, bad_script, bad_geometry, bad_base, bad_trace}
 use Rattle.crash_model.specs.Refusals.{run_of_script, run_of_trace}
 use Rattle.crash_model.specs.declared.refusals.RunFault.{RunFault}
@@ -14,12 +14,11 @@ use Rattle.crash_model.specs.declared.refusals.ScriptFault.TheVariants as script
 use Rattle.crash_model.specs.declared.refusals.TraceFault.{TraceFault}
 use Rattle.crash_model.specs.declared.refusals.TraceFault.TheVariants as trace
 use Rattle.crash_model.specs.declared.settings.Settings.{Settings}
-use Rattle.crash_model.specs.declared.visit.ReportBy.{ReportBy}
 use Rattle.byte_io.specs.Counted.{IsReadFault}
 use Rattle.question_model.specs.Answers.{IsAnswerTo}
 use Rattle.question_model.specs.declared.question.Question.{Question}
-use Rattle.question_model.specs.declared.question.Question.TheVariants.{Visit, Decide, Enough, EnoughLines, Search}
-use Rattle.question_model.specs.declared.question.Question.TheVariants.{SearchRules}
+use Rattle.question_model.specs.declared.question.Question.TheVariants.{FailingSets, Decide, Enough}
+use Rattle.question_model.specs.declared.question.Question.TheVariants.{EnoughLines, Search, SearchRules}
 use Rattle.question_model.specs.declared.question.Request.{Request}
 use Rattle.question_model.specs.SearchReport.{IsSearchRefusal, before_the_pool, no_operation}
 use Rattle.question_model.specs.LinesReport as lines
@@ -83,15 +82,10 @@ untraced_is_of_run (bad_geometry before steps read none) = refl
 untraced_is_of_run (bad_base before steps fault read geometry is) = trace_is_of_run fault
 untraced_is_of_run (bad_trace base steps fault start is) = trace_is_of_run fault
 
-abbrev answer_is_of_run : Answer → Bool
-answer_is_of_run (Refused fault) = is_of_run fault
-answer_is_of_run (Reported text failing) = true
-
-visit_is_of_run : {bytes : List ℕ} {settings : Settings} {by : ReportBy} {limit : ℕ} {answer : Answer}
-    → IsVisited bytes settings by limit answer → answer_is_of_run answer ≡ true
-visit_is_of_run (untraced fault is) = untraced_is_of_run is
-visit_is_of_run (too_many base last patches has more) = refl
-visit_is_of_run (reported text failing report) = refl
+sets_is_of_run : {limit : ℕ} {bytes : List ℕ} {settings : Settings} {fault : RunFault}
+    → IsSetsRefusal limit bytes settings fault → is_of_run fault ≡ true
+sets_is_of_run (untraced fault is) = untraced_is_of_run is
+sets_is_of_run (too_many base last patches has more) = refl
 
 search_is_of_run : {bytes : List ℕ} {settings : Settings} {fault : RunFault} → IsSearchRefusal bytes settings fault
     → is_of_run fault ≡ true
@@ -106,7 +100,7 @@ lines_is_of_run (lines.too_many base steps last wait start is past) = refl
 
 refusal_is_of_run : (question : Question) (bytes : List ℕ) (settings : Settings) (fault : RunFault)
     → IsAnswerTo question bytes settings (Refused fault) → is_of_run fault ≡ true
-refusal_is_of_run (Visit visit) bytes settings fault is = visit_is_of_run is
+refusal_is_of_run (FailingSets limit) bytes settings fault is = sets_is_of_run is
 refusal_is_of_run Decide bytes settings fault is = untraced_is_of_run is
 refusal_is_of_run Enough bytes settings fault is = untraced_is_of_run is
 refusal_is_of_run EnoughLines bytes settings fault is = lines_is_of_run is

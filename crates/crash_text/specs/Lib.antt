@@ -4,5 +4,5 @@ pub mod Searching
 pub mod SearchingRules
 pub mod Served
 pub mod Status
-pub mod Reporting
+pub mod Exploring
 pub mod Traced

@@ -26,32 +26,6 @@ use std::thread::Threads;
 /// The exit status of a refusal, and of a fault of the command line.
 const REFUSED: u8 = 2;
 
-/// How the program ended.
-#[derive(Clone, Copy)]
-pub struct Ended {
-    /// The exit status: 0 with no failing set or fault, 1 with one, 2 with a refusal.
-    pub status: u8,
-    /// The refusal that was printed, if one was.
-    pub refusal: Option<RunFault>,
-}
-
-/// How a call was answered, and what the answer had in hand.
-#[derive(Drop)]
-pub struct Answered<A: Allocator + Copy> {
-    pub ended: Ended,
-    /// The script's bytes. There are none if it was not read.
-    pub script: Vec<u8, A>,
-    /// Why the system did not open or read the script's file, if it did not.
-    pub reason: Option<io::Error>,
-}
-
-/// A script that was not read, and why the system did not open or read its file.
-#[derive(Drop)]
-struct Unread {
-    fault: RunFault,
-    reason: Option<io::Error>,
-}
-
 /// Answers a command line, and gives the exit status: 0 with no failing set or fault, 1 with one, 2 with a refusal.
 ///
 /// `words` leave out the program's name. It reads the script that they name, else `input`, writes the report to
@@ -75,14 +49,13 @@ where
     match settings_of(host.heap, words) {
         Ok(call) => {
             let (mut source, mut sink) = (Counted::new(input), Counted::new(out));
-            let answered = answer_call(host, &call, &mut source, &mut sink, err, &OpenGate);
-            answered.ended.status
+            answer_call(host, &call, &mut source, &mut sink, err, &OpenGate)
         }
-        Err(error) => print_clap(out, err, &error).status,
+        Err(error) => print_clap(out, err, &error),
     }
 }
 
-/// Serves the script that the call names, else the source, prints a refusal to `err`, and says how that ended.
+/// Serves the script that the call names, else the source, prints a refusal to `err`, and gives the exit status.
 ///
 /// The gate gets each claim of a worker on a board, and the progress of the run. The statuses 0 and 1 mean that the
 /// sink took the whole report on the script: 0 if it has no failing set or fault, 1 if it has one. With 2 the sink took
@@ -95,7 +68,7 @@ pub fn answer_call<R, A, S, K, E, G>(
     sink: &mut K,
     err: &mut E,
     gate: &G,
-) -> Answered<A>
+) -> u8
 where
     R: Files + Threads + Wait + Sync,
     A: Allocator + Copy + Send + Sync,
@@ -106,35 +79,24 @@ where
     requires call { IsInRanges call.now.request }
     requires source { S.failures source.old < 2 ^ 64 - 1 }
     requires sink { K.failures sink.old < 2 ^ 64 - 1 }
-    ensures known { result.ended.status ≤ 2 }
-    ensures clean { result.ended.status ≡ 0
+    ensures known { result ≤ 2 }
+    ensures clean { result ≡ 0
         → IsServed (script_of call.now (S.coming source.old)) call.now.request 0 (K.taken sink.old)
         (K.taken sink.new) }
-    ensures failing { result.ended.status ≡ 1
+    ensures failing { result ≡ 1
         → IsServedFailing (script_of call.now (S.coming source.old)) call.now.request (K.taken sink.old)
         (K.taken sink.new) }
-    ensures refused { result.ended.status ≡ 2
+    ensures refused { result ≡ 2
         → Keeps (K.taken sink.old) (K.taken sink.new) ⊎ (K.failures sink.new ≡ K.failures sink.old + 1) }
     ensures unread { IsSome call.now.script → source.new ≡ source.old }
 {
     match read_call(host, call, source) {
-        Ok(script) => {
-            let ended = answer_script(host, &call.request, script.as_slice(), sink, err, gate);
-            Answered {
-                ended,
-                script,
-                reason: None,
-            }
-        }
-        Err(unread) => Answered {
-            ended: refused(err, unread.fault),
-            script: Vec::new(host.alloc),
-            reason: unread.reason,
-        },
+        Ok(script) => answer_script(host, &call.request, script.as_slice(), sink, err, gate),
+        Err(fault) => refuse(err, fault),
     }
 }
 
-/// Serves the script, prints a refusal to `err`, and says how that ended, as [`answer_call`] does.
+/// Serves the script, prints a refusal to `err`, and gives the exit status, as [`answer_call`] does.
 fn answer_script<R, A, K, E, G>(
     host: &Host<'_, R, A>,
     request: &Request,
@@ -142,7 +104,7 @@ fn answer_script<R, A, K, E, G>(
     sink: &mut K,
     err: &mut E,
     gate: &G,
-) -> Ended
+) -> u8
 where
     R: Files + Threads + Wait + Sync,
     A: Allocator + Copy + Send + Sync,
@@ -151,22 +113,19 @@ where
     G: Gate + Sync,
     requires ranges { IsInRanges request.now }
     requires sink { K.failures sink.old < 2 ^ 64 - 1 }
-    ensures known { result.status ≤ 2 }
-    ensures clean { result.status ≡ 0
+    ensures known { result ≤ 2 }
+    ensures clean { result ≡ 0
         → IsServed (Some script.now) request.now 0 (K.taken sink.old) (K.taken sink.new) }
-    ensures failing { result.status ≡ 1
+    ensures failing { result ≡ 1
         → IsServedFailing (Some script.now) request.now (K.taken sink.old) (K.taken sink.new) }
-    ensures refused { result.status ≡ 2
+    ensures refused { result ≡ 2
         → Keeps (K.taken sink.old) (K.taken sink.new) ⊎ (K.failures sink.new ≡ K.failures sink.old + 1) }
 {
     match serve_script(host, script, sink, request, gate) {
-        Ok(number) => Ended {
-            status: status_of(number),
-            refusal: None,
-        },
+        Ok(number) => status_of(number),
         Err(fault) => {
             gate.ended();
-            refused(err, fault)
+            refuse(err, fault)
         }
     }
 }
@@ -183,7 +142,7 @@ fn read_call<R, A, S>(
     host: &Host<'_, R, A>,
     call: &Call<'_>,
     source: &mut S,
-) -> Result<Vec<u8, A>, Unread>
+) -> Result<Vec<u8, A>, RunFault>
 where
     R: Files,
     A: Allocator + Copy,
@@ -194,31 +153,19 @@ where
 {
     match call.script {
         Some(name) => read_file(host, name),
-        None => read_to_end(host.alloc, source).map_err(|fault| Unread {
-            fault,
-            reason: None,
-        }),
+        None => read_to_end(host.alloc, source),
     }
 }
 
 /// Reads the file of this name.
-fn read_file<R, A>(host: &Host<'_, R, A>, name: &str) -> Result<Vec<u8, A>, Unread>
+fn read_file<R, A>(host: &Host<'_, R, A>, name: &str) -> Result<Vec<u8, A>, RunFault>
 where
     R: Files,
     A: Allocator + Copy,
 {
     match File::open(host.rt, name) {
-        Ok(file) => {
-            let mut file = Counted::new(file);
-            read_to_end(host.alloc, &mut file).map_err(|fault| Unread {
-                fault,
-                reason: file.error.take(),
-            })
-        }
-        Err(error) => Err(Unread {
-            fault: open_fault(&error),
-            reason: Some(error),
-        }),
+        Ok(file) => read_to_end(host.alloc, &mut Counted::new(file)),
+        Err(error) => Err(open_fault(&error)),
     }
 }
 
@@ -253,33 +200,20 @@ pub fn refuse<E: Write>(err: &mut E, fault: RunFault) -> u8
     REFUSED
 }
 
-/// Prints a refusal as one line, with which the program ends.
-fn refused<E: Write>(err: &mut E, fault: RunFault) -> Ended
-    ensures { result.status ≡ 2 }
-{
-    Ended {
-        status: refuse(err, fault),
-        refusal: Some(fault),
-    }
-}
-
 /// Prints what `clap` says of a command line: help and the version on `out`, a fault on `err`.
-pub fn print_clap<O: Write, E: Write>(out: &mut O, err: &mut E, error: &clap::Error) -> Ended
-    ensures { result.status ≤ 2 }
+pub fn print_clap<O: Write, E: Write>(out: &mut O, err: &mut E, error: &clap::Error) -> u8
+    ensures { result ≤ 2 }
 {
     if error.kind() == ErrorKind::OutOfMemory {
-        return refused(err, RunFault::OutOfMemory);
+        return refuse(err, RunFault::OutOfMemory);
     }
-    let status = if error.use_stderr() {
+    if error.use_stderr() {
         let _ = write!(err, "{error}");
-        REFUSED
-    } else if write!(out, "{error}").is_ok() {
+        return REFUSED;
+    }
+    if write!(out, "{error}").is_ok() {
         0
     } else {
-        return refused(err, RunFault::CannotWrite);
-    };
-    Ended {
-        status,
-        refusal: None,
+        refuse(err, RunFault::CannotWrite)
     }
 }

@@ -30,7 +30,6 @@ where
         outcome.number) }
     ensures safe { NoneFails script.now → IfOk result (λ outcome. outcome.number ≡ 0) }
 {
-    host.notes.note_script(&script.traced, &script.demands);
     let demands = &script.demands;
     let decider = Decider {
         alloc: host.alloc,
@@ -39,7 +38,6 @@ where
         demands,
     };
     let faults = decider.faults(host.rt, request.workers)?;
-    host.notes.note_smallest(&faults);
     let decision = Decision {
         base: script.base,
         traced: &script.traced,

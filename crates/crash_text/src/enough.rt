@@ -38,7 +38,6 @@ pub(crate) fn enough<R, A: Allocator + Copy>(
         outcome.number) }
     ensures safe { NoneFails script.now → IfOk result (λ outcome. outcome.number ≡ 0) }
 {
-    host.notes.note_script(&script.traced, &script.demands);
     let oracle = RuleOracle {
         alloc: host.alloc,
         base: script.base,
@@ -79,9 +78,6 @@ pub(crate) fn report_chosen<R, A: Allocator + Copy>(
         settings.explain,
         &script.demands,
     )?;
-    if let Some(first) = &first {
-        host.notes.shown.set(Some(first.decided));
-    }
     let findings = EnoughFindings {
         demands: &script.demands,
         base: script.base,

@@ -4,15 +4,12 @@
 pub mod answer;
 mod deciding;
 mod enough;
+mod exploring;
 pub mod host;
 mod lines;
-mod needs;
-pub mod notes;
 pub mod progress;
-mod reporting;
 pub mod run;
 mod searching;
 mod searching_rules;
 pub mod serve;
 mod traced_script;
-mod visiting;

@@ -34,7 +34,6 @@ pub(crate) fn enough_lines<R, A: Allocator + Copy>(
         outcome.number) }
     ensures safe { NoneFails script.now → IfOk result (λ outcome. outcome.number ≡ 0) }
 {
-    host.notes.note_script(&script.traced, &script.demands);
     let oracle = LineOracle {
         alloc: host.alloc,
         base: script.base,

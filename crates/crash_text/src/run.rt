@@ -8,18 +8,17 @@ ghost use Rattle.crash_model.specs.Trace.{base_from};
 ghost use Rattle.crash_model.specs.declared.modules.Module.TheVariants.{Full};
 ghost use Rattle.report_model.specs.Answer.{Reported, Refused};
 ghost use Rattle.question_model.specs.Answers.{IsAnswerTo};
-ghost use Rattle.question_model.specs.Asked.{CanBeAsked};
 ghost use Rattle.crash_text.specs.BaseRefusal.{IsBaseRefusal};
 ghost use Rattle.crash_text.specs.Traced.{RisksNothing, FindsRisksAlone};
 
 use crate::deciding::decided;
 use crate::enough::enough;
+use crate::exploring::explored;
 use crate::host::Host;
 use crate::lines::{check_waits, enough_lines, up_to_limit};
 use crate::searching::{Pool, searched};
 use crate::searching_rules::searched_for_rules;
 use crate::traced_script::trace_script;
-use crate::visiting::visited;
 use crash_model::refusals::RunFault;
 use crash_model::settings::Settings;
 use crash_model::steps::Step;
@@ -42,7 +41,7 @@ pub struct Outcome<A: Allocator> {
     pub number: usize,
 }
 
-/// Answers a question about a script: reads it, builds the base, traces the rest, visits what a crash can leave, or
+/// Answers a question about a script: reads it, builds the base, traces the rest, explores what a crash can leave, or
 /// decides which faults it can leave, which rules are enough or which lines have to wait, and reports. A search takes
 /// the rest as a pool, and judges each workload of it. It can also find which rules are enough for all workloads that
 /// do not fail.
@@ -64,7 +63,6 @@ where
     R: Threads + Wait + Sync,
     A: Allocator + Copy + Send + Sync,
     G: Gate + Sync,
-    requires asked { CanBeAsked request.now.question }
     requires workers { (1 ≤ request.now.workers) × (request.now.workers ≤ 16) }
     ensures reported { IfOk result (λ outcome. IsAnswerTo request.now.question script.now request.now.settings
         (Reported (string_bytes outcome.text) outcome.number)) }
@@ -83,11 +81,9 @@ where
     let steps = &read.traced;
     let ordering = settings.ordering();
     match request.question {
-        Question::Visit(visit) => {
+        Question::FailingSets(limit) => {
             let script = trace_script(host.alloc, base, steps, settings, &ordering)?;
-            let answer = visited(host, request, visit, gate, &script);
-            host.notes.note_answer(&answer, &script.traced);
-            answer
+            explored(host, request, limit, gate, &script)
         }
         Question::Decide => {
             let script = trace_script(host.alloc, base, steps, settings, &ordering)?;

@@ -19,15 +19,14 @@ use crash_model::refusals::RunFault;
 use crash_model::settings::Settings;
 use crash_model::steps::Step;
 use disk_image::Image;
-use explorers::Gate;
 use first_crashes::kind_section;
 use pool_judging::{PoolJudge, PoolSteps, pool_of};
 use question_model::{Request, SearchCounts, ShownKind, WorkloadLength};
 use question_reports::{KindCrash, SearchFindings, search_report};
-use set_sweep::Workers;
 use std::alloc::{AllocError, Allocator};
 use std::sync::Wait;
 use std::thread::Threads;
+use thread_jobs::{Gate, Workers};
 use workload_search::{FoundWorkloads, search};
 
 /// The steps of a script as a pool over a base, and how many operations its longest workloads have.

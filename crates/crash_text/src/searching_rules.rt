@@ -21,15 +21,14 @@ use crate::searching::{Pool, search_pool, steps_of};
 use crate::traced_script::asked_of;
 use crash_model::refusals::RunFault;
 use enough_rules::EnoughSets;
-use explorers::Gate;
 use first_crashes::needed_workloads;
 use pool_judging::{PoolJudge, PoolRules};
 use question_model::{Places, Request};
 use question_reports::{SearchRulesFindings, search_rules_report};
-use set_sweep::Workers;
 use std::alloc::{AllocError, Allocator};
 use std::sync::Wait;
 use std::thread::Threads;
+use thread_jobs::{Gate, Workers};
 use workload_search::{FoundWorkloads, enough_for_all};
 
 /// Judges each workload of the pool, finds which rules those that do not fail need, and reports. The first step that is
@@ -69,7 +68,6 @@ where
         asked: asked_of(&request.settings),
     };
     let searched = search_pool(host.rt, request.workers, gate, &judge, true)?;
-    host.notes.left_out.set(searched.found.failing);
     let outcome = report_on_rules(host, request, &judge, &searched)?;
     Ok(outcome)
 }

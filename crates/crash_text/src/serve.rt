@@ -4,7 +4,6 @@ ghost use Rattle.std.specs.Prelude.{◌≡◌, ℕ, ◌+◌, ◌-◌, ◌^◌, �
 ghost use Rattle.std.specs.Prelude.{IsErrAnd, Some};
 ghost use Rattle.std.specs.Io.KnownBytes.{Consumes, Keeps};
 ghost use Rattle.byte_io.specs.Counted.{IsReadFault};
-ghost use Rattle.question_model.specs.Asked.{CanBeAsked};
 ghost use Rattle.crash_text.specs.Served.{IsServed, IsCut, IsRefusedBy};
 
 use crate::host::Host;
@@ -39,7 +38,6 @@ where
     K: Sink,
     G: Gate + Sync,
     requires workers { (1 ≤ request.now.workers) × (request.now.workers ≤ 16) }
-    requires asked { CanBeAsked request.now.question }
     requires source { S.failures source.old < 2 ^ 64 - 1 }
     requires sink { K.failures sink.old < 2 ^ 64 - 1 }
     ensures served { IfOk result (λ number.
@@ -80,7 +78,6 @@ where
     K: Sink,
     G: Gate + Sync,
     requires workers { (1 ≤ request.now.workers) × (request.now.workers ≤ 16) }
-    requires asked { CanBeAsked request.now.question }
     requires sink { K.failures sink.old < 2 ^ 64 - 1 }
     ensures served { IfOk result (λ number.
         IsServed (Some script.now) request.now number (K.taken sink.old) (K.taken sink.new)) }

@@ -3,6 +3,5 @@ pub mod Entries
 pub mod RecentlySeen
 pub mod Primes
 pub mod Ready
-pub mod Rooms
 pub mod Shares
 pub mod Tasks

@@ -3,15 +3,14 @@ ghost use Rattle.std.specs.Prelude.{◌≡◌, ℕ, ◌<◌, ◌≤◌, IfOk, Is
 ghost use Rattle.std.specs.List.{All};
 ghost use Rattle.board_rule.specs.Changes.{both_shares};
 ghost use Rattle.state_space.specs.Reach.{IsReached};
-ghost use Rattle.board_rule.specs.Rule.{IsWhole, Overfills};
-ghost use Rattle.patch_sets.specs.Explored.{IsExplored};
+ghost use Rattle.board_rule.specs.Rule.{IsWhole};
+ghost use Rattle.patch_sets.specs.Explored.{IsExplored, ReachExceeds};
 ghost use Rattle.explorers.specs.Claims.{HoldsOfAtLeast};
 ghost use Rattle.explorers.specs.Ready.{IsOutput, IsCounted};
 ghost use Rattle.explorers.specs.Shares.{MakeWhole};
 
 use crate::collected::collect;
 use crate::exploring::Exploring;
-use crate::rows::Room;
 use crate::worker::WorkerOutput;
 use patch_sets::explored::ExploreFault;
 use seen_board::Board;
@@ -67,23 +66,23 @@ pub(crate) fn join_all<S: Space, A: Allocator>(
     all
 }
 
-/// The answer, and how many claims were made: what the board holds if it is finished, too many words for the board's
-/// room if the board said so to a worker, otherwise out of memory.
+/// The answer, and how many claims were made: what the board holds if it is finished, too many words if the board said
+/// so to a worker, otherwise out of memory.
 pub(crate) fn answer<S: Space, A: Allocator + Copy>(
     alloc: A,
     space: &S,
-    room: Room,
+    limit: usize,
     board: Board<S, A>,
     output: WorkerOutput,
 ) -> Exploring<A>
-    requires board { (board.limit ≡ room.limit) × (board.places ≡ room.places) × (board.space ≡ space.now) }
-    requires small { room.places ≤ MAX_BOARD }
+    requires board { (board.limit ≡ limit) × (board.places ≡ limit) × (board.space ≡ space.now) }
+    requires small { limit ≤ MAX_BOARD }
     requires output { IsOutput board output × IsCounted output }
     requires whole { IsWhole output.seat.share }
     ensures found { IfOk result.found (IsExplored (S.successors space.now) (S.initial space.now) (S.is_good space.now)
-        room.limit) }
+        limit) }
     ensures too_many { IsErrOf result.found ExploreFault.TooMany
-        → Overfills (IsReached (S.successors space.now) (S.initial space.now)) room.limit room.places }
+        → ReachExceeds (S.successors space.now) (S.initial space.now) limit }
     ensures each_once { IfOk result.found (λ found. result.claims ≡ found.total) }
     ensures at_most_once { HoldsOfAtLeast (IsReached (S.successors space.now) (S.initial space.now)) result.claims }
 {
@@ -95,7 +94,7 @@ pub(crate) fn answer<S: Space, A: Allocator + Copy>(
     let is_finished = board.finished(&mut seat);
     let contents = board.close(seat);
     if is_finished {
-        let found = collect(alloc, space, room, &contents);
+        let found = collect(alloc, space, limit, &contents);
         return Exploring { claims, found };
     }
     if is_over {

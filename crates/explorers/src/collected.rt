@@ -7,7 +7,6 @@ ghost use Rattle.seen_board.specs.Clauses.{HasPlace};
 ghost use Rattle.seen_board.specs.Ended.{Entries, AreSettled, IsDone};
 ghost use Rattle.explorers.specs.Entries.{IsBrokenBefore, AreDistinct, AreShort};
 
-use crate::rows::Room;
 use patch_sets::explored::{ExploreFault, Explored};
 use patch_sets::order::in_order;
 use seen_board::{Contents, Life, Place, SHARDS};
@@ -18,21 +17,21 @@ use std::alloc::{AllocError, Allocator};
 pub(crate) fn collect<S: Space, A: Allocator + Copy>(
     alloc: A,
     _space: &S,
-    room: Room,
+    limit: usize,
     contents: &Contents<A>,
 ) -> Result<Explored<A>, ExploreFault>
-    requires small { room.places ≤ MAX_BOARD }
-    requires entries { Entries (S.successors _space.now) (S.initial _space.now) room.places contents.now.rows }
+    requires small { limit ≤ MAX_BOARD }
+    requires entries { Entries (S.successors _space.now) (S.initial _space.now) limit contents.now.rows }
     requires settled { AreSettled (S.successors _space.now) (S.is_good _space.now) contents.now }
     requires done { IsDone (S.successors _space.now) (S.initial _space.now) contents.now }
     ensures total { IfOk result (λ found. found.total ≡ length (concat contents.now.rows)) }
     ensures found { IfOk result (IsExplored (S.successors _space.now) (S.initial _space.now) (S.is_good _space.now)
-        room.limit) }
+        limit) }
     ensures too_many { IsErrOf result ExploreFault.TooMany
-        → ReachExceeds (S.successors _space.now) (S.initial _space.now) room.limit }
+        → ReachExceeds (S.successors _space.now) (S.initial _space.now) limit }
 {
     let total = count_entries(contents);
-    if total > room.limit {
+    if total > limit {
         return Err(ExploreFault::TooMany);
     }
     let broken = broken_words(alloc, contents)?;

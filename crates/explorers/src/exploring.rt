@@ -4,18 +4,16 @@ ghost use Rattle.std.specs.List.{All};
 ghost use Rattle.state_space.specs.Reach.{IsReached};
 ghost use Rattle.board_rule.specs.Lists.{Has};
 ghost use Rattle.board_rule.specs.Changes.{half_of};
-ghost use Rattle.board_rule.specs.Rule.{IsWhole, Overfills};
+ghost use Rattle.board_rule.specs.Rule.{IsWhole};
 ghost use Rattle.patch_sets.specs.Explored.{IsExplored, ReachExceeds};
 ghost use Rattle.seen_board.specs.Ended.{claims_made};
 ghost use Rattle.explorers.specs.Claims.{HoldsOfAtLeast};
 ghost use Rattle.explorers.specs.Ready.{IsIdle, IsReady, IsOutput, IsCounted};
-ghost use Rattle.explorers.specs.Rooms.{HoldsFullest};
 ghost use Rattle.explorers.specs.Shares.{MakeWhole};
 
 use crate::answers::{answer, join_all};
 use crate::exploration::Exploration;
 use crate::recently_seen::RecentlySeen;
-use crate::rows::Room;
 use crate::tasks::{Task, Tasks};
 use crate::worker::{ThreadJob, Worker, WorkerOutput};
 use hands::{Hand, hands};
@@ -74,41 +72,7 @@ where
     ensures each_once { IfOk result.found (λ found. result.claims ≡ found.total) }
     ensures at_most_once { HoldsOfAtLeast (IsReached (S.successors space.now) (S.initial space.now)) result.claims }
 {
-    explore_in_room(rt, alloc, space, Room::for_any(limit), workers, gate)
-}
-
-/// Explores a space as [`explore`] does, over a board with this room, whose rows may be shorter than the limit.
-///
-/// So too many can also mean that more words of one shard are reached than a row has places. It cannot if the rows
-/// hold the fullest shard, as they do where its words were counted ([`Room::for_fullest`]).
-pub fn explore_in_room<R, A, S, G>(
-    rt: &R,
-    alloc: A,
-    space: &S,
-    room: Room,
-    workers: usize,
-    gate: &G,
-) -> Exploring<A>
-where
-    R: Threads + Wait + Sync,
-    A: Allocator + Copy + Send + Sync,
-    S: Space + Sync,
-    S::Scratch: Send,
-    G: Gate + Sync,
-    requires positive { (0 < room.limit) × (0 < room.places) }
-    requires small { (room.limit ≤ MAX_BOARD) × (room.places ≤ MAX_BOARD) }
-    requires workers { (1 ≤ workers) × (workers ≤ 16) }
-    ensures found { IfOk result.found (IsExplored (S.successors space.now) (S.initial space.now) (S.is_good space.now)
-        room.limit) }
-    ensures too_many { IsErrOf result.found ExploreFault.TooMany
-        → Overfills (IsReached (S.successors space.now) (S.initial space.now)) room.limit room.places }
-    ensures counted { HoldsFullest (IsReached (S.successors space.now) (S.initial space.now)) room.places
-        → IsErrOf result.found ExploreFault.TooMany
-        → ReachExceeds (S.successors space.now) (S.initial space.now) room.limit }
-    ensures each_once { IfOk result.found (λ found. result.claims ≡ found.total) }
-    ensures at_most_once { HoldsOfAtLeast (IsReached (S.successors space.now) (S.initial space.now)) result.claims }
-{
-    match run(rt, alloc, space, room, workers, gate) {
+    match run(rt, alloc, space, limit, workers, gate) {
         Ok(exploring) => exploring,
         Err(_) => Exploring {
             claims: 0,
@@ -123,7 +87,7 @@ fn run<R, A, S, G>(
     rt: &R,
     alloc: A,
     space: &S,
-    room: Room,
+    limit: usize,
     workers: usize,
     gate: &G,
 ) -> Result<Exploring<A>, AllocError>
@@ -133,18 +97,17 @@ where
     S: Space + Sync,
     S::Scratch: Send,
     G: Gate + Sync,
-    requires positive { (0 < room.limit) × (0 < room.places) }
-    requires small { (room.limit ≤ MAX_BOARD) × (room.places ≤ MAX_BOARD) }
+    requires limit { (0 < limit) × (limit ≤ MAX_BOARD) }
     requires workers { (1 ≤ workers) × (workers ≤ 16) }
     ensures found { IfOk result (λ run. IfOk run.found
-        (IsExplored (S.successors space.now) (S.initial space.now) (S.is_good space.now) room.limit)) }
+        (IsExplored (S.successors space.now) (S.initial space.now) (S.is_good space.now) limit)) }
     ensures too_many { IfOk result (λ run. IsErrOf run.found ExploreFault.TooMany
-        → Overfills (IsReached (S.successors space.now) (S.initial space.now)) room.limit room.places) }
+        → ReachExceeds (S.successors space.now) (S.initial space.now) limit) }
     ensures each_once { IfOk result (λ run. IfOk run.found (λ found. run.claims ≡ found.total)) }
     ensures at_most_once { IfOk result (λ run.
         HoldsOfAtLeast (IsReached (S.successors space.now) (S.initial space.now)) run.claims) }
 {
-    let (board, seat, place) = Board::open_with_rows(alloc, space, room.limit, room.places)?;
+    let (board, seat, place) = Board::open(alloc, space, limit)?;
     let hands = first_hands(alloc, space, place, workers)?;
     let exploration = Exploration {
         board: &board,
@@ -152,7 +115,7 @@ where
         gate,
     };
     let output = work_all(rt, alloc, &exploration, seat, hands)?;
-    Ok(answer(alloc, space, room, board, output))
+    Ok(answer(alloc, space, limit, board, output))
 }
 
 /// Lets a worker work for each hand, and joins what they leave to the seat, which has the whole board before and after.

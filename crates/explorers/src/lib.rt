@@ -11,15 +11,13 @@ mod exploration;
 mod exploring;
 mod primes;
 mod recently_seen;
-mod rows;
 mod searching;
 mod stealing;
 mod tasks;
 mod worker;
 
-pub use exploring::{Exploring, explore, explore_in_room};
+pub use exploring::{Exploring, explore};
 pub use patch_sets::explored::{ExploreFault, Explored};
 pub use primes::prime_at_least;
-pub use rows::Room;
 pub use seen_board::SHARDS;
 pub use thread_jobs::{Gate, OpenGate};

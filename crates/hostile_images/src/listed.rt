@@ -1,4 +1,4 @@
-//! Images that the standard input lists.
+//! One image of a list, and what is answered on it.
 
 use crash_model::steps::{Act, Step};
 use disk_image::Image;
@@ -10,26 +10,12 @@ use std::alloc::Global;
 use std::rt::Runtime;
 use std::test::Fail;
 
-/// How many blocks each of these images has.
-const BLOCKS: usize = 16;
-
-/// Prints what is answered on each image of a list. Empty lines and comments, which begin with `#`, name none.
-pub fn print_listed<R: Runtime + AllocGlobal>(rt: &R, list: &str) -> Result<(), Fail> {
-    for line in list.lines() {
-        if !line.is_empty() && !line.starts_with('#') {
-            print_image(rt, line)?;
-        }
-    }
-    Ok(())
-}
-
 /// Prints what is answered on the image of a line.
-fn print_image<R: Runtime + AllocGlobal>(rt: &R, line: &str) -> Result<(), Fail> {
-    let (name, rest) = line.split_once(';').ok_or("a name, then a journal")?;
+pub fn print_image<R: Runtime + AllocGlobal>(rt: &R, line: &str) -> Result<(), Fail> {
+    let (name, rest) = line.split_once(';').ok_or("a name, then a disk")?;
     println!(rt; "image {name}")?;
     let mut fields = rest.split(';');
-    let journal = fields.next().ok_or("a journal")?.trim().parse()?;
-    let mut image = Image::formatted(rt.alloc(), BLOCKS, journal)?;
+    let mut image = formatted(rt.alloc(), fields.next().ok_or("a disk")?)?;
     for field in fields {
         let field = field.trim();
         if field.starts_with(|c: char| c.is_ascii_digit()) {
@@ -38,7 +24,16 @@ fn print_image<R: Runtime + AllocGlobal>(rt: &R, line: &str) -> Result<(), Fail>
             print_plan(rt, &image, field)?;
         }
     }
-    print_replayed(rt, image)
+    print_faults(rt, &image)?;
+    print_replayed(rt, &image)
+}
+
+/// The formatted disk of a field: how many blocks it has, and how many of them its journal.
+fn formatted(heap: Global, field: &str) -> Result<Image<Global>, Fail> {
+    let mut words = field.split_whitespace();
+    let blocks = words.next().ok_or("blocks")?.parse()?;
+    let journal = words.next().ok_or("a journal")?.parse()?;
+    Ok(Image::formatted(heap, blocks, journal)?)
 }
 
 /// Puts bytes into an image: a block, an offset, hexadecimal digits, and how many times if more than once.
@@ -58,7 +53,7 @@ fn put_bytes(heap: Global, image: &mut Image<Global>, field: &str) -> Result<(),
     Ok(())
 }
 
-/// Prints why an operation is refused on an image, or how many changes it plans.
+/// Prints the changes that an operation plans on an image, or why it is refused.
 fn print_plan<R: Runtime + AllocGlobal>(
     rt: &R,
     image: &Image<Global>,
@@ -76,14 +71,25 @@ fn print_plan<R: Runtime + AllocGlobal>(
         return Err(Fail::new("no operation"));
     };
     match plan(image, op) {
-        Ok(changes) => println!(rt; "{operation}: {} changes", changes.len())?,
+        Ok(changes) => {
+            for change in changes.as_slice() {
+                let (role, new) = (
+                    change.role.name(),
+                    hex::encode(rt.alloc(), change.new.as_slice())?,
+                );
+                println!(rt;
+                    "{operation}: {role} {} {} {new}",
+                    change.block, change.offset
+                )?;
+            }
+        }
         Err(refusal) => println!(rt; "{operation}: {refusal}")?,
     }
     Ok(())
 }
 
 /// Prints the blocks that replay changes, with their bytes after it, and the faults of the image then.
-fn print_replayed<R: Runtime + AllocGlobal>(rt: &R, image: Image<Global>) -> Result<(), Fail> {
+fn print_replayed<R: Runtime + AllocGlobal>(rt: &R, image: &Image<Global>) -> Result<(), Fail> {
     let mut after = image.try_copy()?;
     replay(&mut after);
     for block in 0..image.blocks().min(after.blocks()) {
@@ -92,10 +98,16 @@ fn print_replayed<R: Runtime + AllocGlobal>(rt: &R, image: Image<Global>) -> Res
             println!(rt; "replay block {block}: {bytes}")?;
         }
     }
-    if is_clean(&after) {
+    println!(rt; "after replay")?;
+    print_faults(rt, &after)
+}
+
+/// Prints the faults of an image, and that it is clean where it is.
+fn print_faults<R: Runtime + AllocGlobal>(rt: &R, image: &Image<Global>) -> Result<(), Fail> {
+    if is_clean(image) {
         println!(rt; "clean")?;
     }
-    for fault in &faults(rt.alloc(), &after)? {
+    for fault in &faults(rt.alloc(), image)? {
         println!(rt; "fault {fault}")?;
     }
     Ok(())

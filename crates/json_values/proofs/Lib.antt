@@ -4,6 +4,5 @@ pub mod HeadPieces
 pub mod IdRuns
 pub mod ListedValues
 pub mod PatchBytes
-pub mod RuleTexts
 pub mod SectionPieces
 pub mod Shown

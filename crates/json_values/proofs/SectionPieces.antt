@@ -1,14 +1,12 @@
 -- What is written of a section, a part at a time.
-use Rattle.std.proofs.Common.{◌≡◌, ℕ, List, ◌++◌, map, codes, decimal, Some, ap, ◌∙◌, append_assoc}
+use Rattle.std.proofs.Common.{◌≡◌, ℕ, List, ◌++◌, map, codes, Some, ap, ◌∙◌, append_assoc}
 use Rattle.crash_model.specs.Lists.{join_of}
 use Rattle.crash_model.specs.declared.fault.Fault.{Fault}
-use Rattle.crash_model.specs.declared.fault.FaultRow.{FaultRow}
-use Rattle.report_model.specs.FaultKeys.{fault_head, faults_head}
+use Rattle.report_model.specs.FaultKeys.{faults_head}
 use Rattle.report_model.specs.Report.{Section}
 use Rattle.report_model.specs.JsonParts.{Form, ids_json}
 use Rattle.report_model.specs.Replayed.{ReplayedBlock, replayed_json}
 use Rattle.report_model.specs.SectionJson.{replay_json, section_json, write_json, writes_json, shows_json}
-use Rattle.report_model.specs.Summary.{counted_fault_json}
 use Rattle.json_values.specs.Items.{crash_json, fault_shows_json, last_json, leading_json}
 
 pub three_pieces : (before one two after a b c : List ℕ) → one ≡ before ++ a → two ≡ one ++ b → after ≡ two ++ c
@@ -98,34 +96,3 @@ replay_pieces replay before one two after first second third =
   where
     regroup : (a b c d e : List ℕ) → a ++ b ++ c ++ (d ++ e) ≡ a ++ (b ++ c ++ d) ++ e
     regroup a b c d e = simp append_assoc
-
--- the entry of a fault
-pub row_pieces : (form : Form) (row : FaultRow) (s : Section) (before one two three four five six after : List ℕ)
-    → one ≡ before ++ fault_head form.numbers row.fault
-    → two ≡ one ++ replay_json s.replay
-    → three ≡ two ++ codes "\"set\":"
-    → four ≡ three ++ ids_json form.patches s.set
-    → five ≡ four ++ (codes ",\"sets\":" ++ decimal row.sets)
-    → six ≡ five ++ fault_shows_json row.fault s
-    → after ≡ six ++ last_json form.patches s
-    → after ≡ before ++ counted_fault_json form (record { row = row; first = s })
-row_pieces form row s before one two three four five six after first second third fourth fifth sixth seventh =
-    let head = fault_head form.numbers row.fault in
-    let replay = replay_json s.replay in
-    let ids = ids_json form.patches s.set in
-    let sets = codes ",\"sets\":" ++ decimal row.sets in
-    let shows = fault_shows_json row.fault s in
-    let last = last_json form.patches s in
-    let set : four ≡ one ++ replay ++ codes "\"set\":" ++ ids =
-    fourth ∙ ap (λ (t : List ℕ). t ++ ids) (third ∙ ap (λ (t : List ℕ). t ++ codes "\"set\":") second) in
-    let end : after ≡ four ++ sets ++ shows ++ last =
-    seventh ∙ ap (λ (t : List ℕ). t ++ last) (sixth ∙ ap (λ (t : List ℕ). t ++ shows) fifth) in
-    end ∙ (ap (λ (t : List ℕ). t ++ sets ++ shows ++ last)
-    (set ∙ ap (λ (t : List ℕ). t ++ replay ++ codes "\"set\":" ++ ids) first)
-    ∙ regroup before head replay (codes "\"set\":") ids (codes ",\"sets\":") (decimal row.sets) shows
-    (codes ",\"writes\":") (writes_json form.patches s.writes) (codes "}"))
-  where
-    regroup : (o a b c d e f g h i j : List ℕ)
-        → o ++ a ++ b ++ c ++ d ++ (e ++ f) ++ g ++ (h ++ i ++ j)
-        ≡ o ++ (a ++ b ++ c ++ d ++ e ++ f ++ g ++ h ++ i ++ j)
-    regroup o a b c d e f g h i j = simp append_assoc

@@ -1,13 +1,10 @@
-//! JSON for reports: the texts of failing sets, of the entries of faults and of rules, and the values of the patches of
-//! a trace.
+//! JSON for reports: the texts of failing sets and of faults, and the values of the patches of a trace.
 #![tactic(auto)]
 
-mod faults;
 mod items;
 mod known;
 mod numbers;
 mod patches;
-mod rules;
 mod sections;
 
 pub use items::{write_comma, write_item};

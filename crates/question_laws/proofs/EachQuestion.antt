@@ -1,4 +1,4 @@
--- Each question has an answer, and no other.
+-- Each question has at most one answer.
 use Rattle.std.proofs.Common.{◌≡◌, ℕ, List}
 use Rattle.report_model.specs.Answer.{Answer}
 use Rattle.crash_model.specs.declared.settings.Settings.{Settings}
@@ -8,39 +8,20 @@ use Rattle.question_model.specs.EnoughReport.{IsEnoughReport}
 use Rattle.question_model.specs.SearchReport.{IsSearchReport}
 use Rattle.question_model.specs.SearchRulesReport.{IsSearchRulesReport}
 use Rattle.question_model.specs.declared.question.Question.{Question}
-use Rattle.question_model.specs.declared.question.Question.TheVariants.{Visit, Decide, Enough, EnoughLines}
+use Rattle.question_model.specs.declared.question.Question.TheVariants.{FailingSets, Decide, Enough, EnoughLines}
 use Rattle.question_model.specs.declared.question.Question.TheVariants.{Search, SearchRules}
-use Rattle.worked_example_laws.proofs.OneAnswer.{answer_one}
-use Rattle.worked_example_laws.proofs.SomeAnswer.{some_answer}
-use Rattle.question_laws.proofs.LinesAnswer.{some_lines_answer, one_lines_answer}
+use Rattle.question_laws.proofs.OneAnswer.{answer_one}
+use Rattle.question_laws.proofs.LinesAnswer.{one_lines_answer}
 use Rattle.question_laws.proofs.OneDecision.{decision_one}
 use Rattle.question_laws.proofs.OneEnough.{enough_one}
 use Rattle.question_laws.proofs.OnePool.{pool_answered_one}
 use Rattle.question_laws.proofs.OneSearch.{search_one, search_rules_one}
 use Rattle.question_laws.proofs.OneStart.{answered_one}
-use Rattle.question_laws.proofs.SomeDecision.{some_decision}
-use Rattle.question_laws.proofs.SomeEnough.{some_enough}
-use Rattle.question_laws.proofs.SomePool.{some_searched}
-use Rattle.question_laws.proofs.SomeSearch.{some_search, some_search_rules}
-use Rattle.question_laws.proofs.SomeStart.{some_answered}
-
-pub each_some : (question : Question) (bytes : List ℕ) (settings : Settings) → (answer : Answer)
-    × IsAnswerTo question bytes settings answer
-each_some (Visit visit) bytes settings = some_answer settings visit.report visit.limit bytes
-each_some Decide bytes settings = some_answered bytes settings (IsDecision settings) (some_decision settings)
-each_some Enough bytes settings = some_answered bytes settings (IsEnoughReport settings) (some_enough settings)
-each_some EnoughLines bytes settings = some_lines_answer bytes settings
-each_some (Search longest) bytes settings =
-    some_searched bytes settings (IsSearchReport settings longest)
-    (some_search settings longest)
-each_some (SearchRules longest) bytes settings =
-    some_searched bytes settings (IsSearchRulesReport settings longest)
-    (some_search_rules settings longest)
 
 pub each_one : (question : Question) (bytes : List ℕ) (settings : Settings) (answer other : Answer)
     → IsAnswerTo question bytes settings answer → IsAnswerTo question bytes settings other → answer ≡ other
-each_one (Visit visit) bytes settings answer other is also =
-    answer_one settings visit.report visit.limit bytes answer other is also
+each_one (FailingSets limit) bytes settings answer other is also =
+    answer_one settings limit bytes answer other is also
 each_one Decide bytes settings answer other is also =
     answered_one bytes settings (IsDecision settings) (decision_one settings) answer other is also
 each_one Enough bytes settings answer other is also =

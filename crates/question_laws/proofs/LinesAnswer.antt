@@ -1,9 +1,9 @@
--- There is exactly one answer to which of a script's lines have to wait.
-use Rattle.std.proofs.Common.{◌≡◌, ℕ, ◌<◌, ◌≤◌, List, length, get_or, arith, refl, sym, subst, ap, ◌∙◌, inl, inr}
-use Rattle.std.specs.Prelude.{◌⊎◌, Result, Ok, Err, Some, slice_get}
-use Rattle.std.proofs.lemmas.Option.{slice_get_within, slice_get-get_or}
+-- There is at most one answer to which of a script's lines have to wait.
+use Rattle.std.proofs.Common.{◌≡◌, ℕ, ◌<◌, ◌≤◌, List, length, arith, refl, sym, subst, ap, ◌∙◌}
+use Rattle.std.specs.Prelude.{Result, Ok, Err, Some, slice_get}
+use Rattle.std.proofs.lemmas.Option.{slice_get_within}
 use Rattle.report_model.specs.Answer.{Answer, Refused, Reported, IsReported}
-use Rattle.report_model.specs.ScriptGraph.{HasBase, ordering_rules}
+use Rattle.report_model.specs.ScriptGraph.{HasBase}
 use Rattle.crash_model.specs.ChosenWaits.{up_to_wait}
 use Rattle.crash_model.specs.Disk.{Disk}
 use Rattle.crash_model.specs.Refusals.{run_of_trace}
@@ -14,28 +14,14 @@ use Rattle.crash_model.specs.declared.refusals.RunFault.{RunFault}
 use Rattle.crash_model.specs.declared.refusals.RunFault.TheVariants.{TooManySyncs}
 use Rattle.crash_model.specs.declared.refusals.TraceFault.{TraceFault}
 use Rattle.crash_model.specs.declared.settings.Settings.{Settings}
-use Rattle.crash_model.specs.declared.steps.Act.TheVariants.{Sync}
 use Rattle.crash_model.specs.declared.steps.Step.{Step}
 use Rattle.question_model.specs.Answers.{IsAnswerTo}
 use Rattle.question_model.specs.LinesReport.{IsLinesReport, IsLinesRefusal, before_the_trace, bad_trace, too_many}
 use Rattle.question_model.specs.declared.question.Question.TheVariants.{EnoughLines}
 use Rattle.question_model.specs.declared.question.TheConstants.{MAX_SYNCS}
-use Rattle.worked_example_laws.specs.Computed.{graph_of}
-use Rattle.worked_example_laws.specs.Spelled.{demands_by}
-use Rattle.worked_example_laws.proofs.Graphs.{graph_is}
-use Rattle.uniqueness_laws.proofs.FewWaits.{whole_if_traced, whole_if_cut_traced}
+use Rattle.uniqueness_laws.proofs.FewWaits.{whole_if_traced}
 use Rattle.question_laws.proofs.OneLines.{lines_one}
 use Rattle.question_laws.proofs.OneStart.{base_one, untraced_one, reported_one}
-use Rattle.question_laws.proofs.SomeLines.{some_lines}
-use Rattle.question_laws.proofs.SomeStart.{IsStarted, some_base, reported_on}
-
-few_or_many : (n most : ℕ) → (n ≤ most) ⊎ (most < n)
-few_or_many n most = grind arith
-
-wait_at : (waits : List Wait) (place : ℕ) → place < length waits → (wait : Wait) × (slice_get waits place ≡ Some wait)
-wait_at waits place inside =
-    let other : Wait = record { line = 0; act = Sync; ids = 0 } in
-    (get_or waits place other, slice_get-get_or waits place other inside)
 
 -- why a script is refused, by what the trace of its steps up to the limit comes to
 abbrev IsRefusalOf : Result Tracing TraceFault → RunFault → Type 0
@@ -57,41 +43,6 @@ refusal_of_one (Ok last) fault other is also =
 module _ (bytes : List ℕ) (settings : Settings) where
   abbrev traced : Disk → List Step → Result Tracing TraceFault
   traced base steps = trace_from settings.module (trace_start settings.whole_blocks base) steps
-
-  -- ---- there is an answer
-
-  by_waits : (base : Disk) (steps : List Step) (last : Tracing) → HasBase bytes settings base steps
-      → trace_from settings.module (trace_start settings.whole_blocks base) (up_to_wait MAX_SYNCS steps) ≡ Ok last
-      → (length last.waits ≤ MAX_SYNCS) ⊎ (MAX_SYNCS < length last.waits) → (answer : Answer)
-      × IsAnswerTo EnoughLines bytes settings answer
-  by_waits base steps last start run (inl few) =
-      let whole = whole_if_cut_traced settings.module settings.whole_blocks base MAX_SYNCS steps last few run in
-      let rules = ordering_rules settings in
-      let report = some_lines settings (demands_by settings base steps) base last (graph_of rules base last)
-      (graph_is rules base last) few in (
-        Reported report.0 report.1,
-        reported_on bytes settings (IsLinesReport settings) base steps last report.0 report.1 start
-            (subst (λ (some : List Step). traced base some ≡ Ok last) whole run) report.2,
-      )
-  by_waits base steps last start run (inr many) =
-      let wait = wait_at last.waits MAX_SYNCS many in
-      (Refused (TooManySyncs wait.0.line), too_many base steps last wait.0 start run wait.1)
-
-  by_trace : (base : Disk) (steps : List Step) → HasBase bytes settings base steps → (r : Result Tracing TraceFault)
-      → trace_from settings.module (trace_start settings.whole_blocks base) (up_to_wait MAX_SYNCS steps) ≡ r
-      → (answer : Answer) × IsAnswerTo EnoughLines bytes settings answer
-  by_trace base steps start (Err fault) run = (Refused (run_of_trace fault), bad_trace base steps fault start run)
-  by_trace base steps start (Ok last) run =
-      by_waits base steps last start run (few_or_many (length last.waits) MAX_SYNCS)
-
-  pub some_lines_answer : (answer : Answer) × IsAnswerTo EnoughLines bytes settings answer
-  some_lines_answer = by (some_base bytes settings)
-    where
-      by : IsStarted bytes settings → (answer : Answer) × IsAnswerTo EnoughLines bytes settings answer
-      by (inl (base, steps, start)) = by_trace base steps start (traced base (up_to_wait MAX_SYNCS steps)) refl
-      by (inr (fault, untraced, none)) = (Refused fault, before_the_trace fault untraced none)
-
-  -- ---- and no other
 
   refused_by_trace : (fault : RunFault) (base : Disk) (steps : List Step) → IsLinesRefusal bytes settings fault
       → HasBase bytes settings base steps

@@ -22,8 +22,8 @@ use Rattle.question_model.specs.Decided.{AreDecided}
 use Rattle.question_model.specs.Decision.{AreListedFaults, IsDecision, decision_bytes}
 use Rattle.question_model.specs.ListedFault.{ListedFault}
 use Rattle.question_model.specs.declared.decided_fault.DecidedFault.{DecidedFault}
-use Rattle.worked_example_laws.proofs.OneBody.{sections_one, not_both, first_one}
-use Rattle.worked_example_laws.proofs.Orders.{one_keyed, same_parts, same_listed}
+use Rattle.question_laws.proofs.OneSections.{sections_one, not_both, first_one}
+use Rattle.question_laws.proofs.Orders.{one_keyed, same_parts, same_listed}
 
 module _ (has : Fault → ℕ → Type 0) where
   abbrev pub IsShown : DecidedFault → Type 0

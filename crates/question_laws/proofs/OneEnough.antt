@@ -20,7 +20,7 @@ use Rattle.question_model.specs.Enough.{IsMinimalEnough, IsNeeded}
 use Rattle.question_model.specs.EnoughReport.{Choices, ListedGroup, IsChoicesReport, IsEnoughReport, IsListedGroup}
 use Rattle.question_model.specs.EnoughReport.{enough_bytes, rule_choices}
 use Rattle.question_laws.proofs.OneFirst.{listed_any_one, listed_group_one}
-use Rattle.worked_example_laws.proofs.Orders.{same_keyed}
+use Rattle.question_laws.proofs.Orders.{same_keyed}
 
 -- of the choices of a report, if there is at most one thing to show of a group
 module _ (IsMinimal IsNeededGroup : ℕ → Type 0) (IsListed : ListedGroup → Type 0)

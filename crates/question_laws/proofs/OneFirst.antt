@@ -14,8 +14,8 @@ use Rattle.question_model.specs.Enough.{rules_but}
 use Rattle.question_model.specs.EnoughReport.{IsFirstFault, IsListedFirst, IsListedIfAny, ListedGroup, IsListedGroup}
 use Rattle.question_model.specs.declared.decided_fault.DecidedFault.{DecidedFault}
 use Rattle.uniqueness_laws.proofs.OneGraph.{graph_one, heads}
-use Rattle.worked_example_laws.proofs.GatheredFaults.{same_or_not}
-use Rattle.worked_example_laws.proofs.OneBody.{sections_one, not_both}
+use Rattle.question_laws.proofs.FaultsApart.{same_or_not}
+use Rattle.question_laws.proofs.OneSections.{sections_one, not_both}
 use Rattle.question_laws.proofs.OneDecision.{shown_one}
 
 pub first_fault_one : (has : Fault → ℕ → Type 0) (f g : DecidedFault) → IsFirstFault has f → IsFirstFault has g → f ≡ g

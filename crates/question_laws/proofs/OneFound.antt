@@ -20,8 +20,8 @@ use Rattle.question_model.specs.declared.found.ShownKind.{ShownKind}
 use Rattle.crash_model.specs.declared.refusal.Refusal.{Refusal}
 use Rattle.uniqueness_laws.proofs.Demands.{one_demands}
 use Rattle.uniqueness_laws.proofs.OneGraph.{graph_one}
-use Rattle.worked_example_laws.proofs.OneBody.{first_one}
-use Rattle.worked_example_laws.proofs.Orders.{one_keyed}
+use Rattle.question_laws.proofs.OneSections.{first_one}
+use Rattle.question_laws.proofs.Orders.{one_keyed}
 use Rattle.question_laws.proofs.Sequences.{count_one, counted_some, first_sequence_one}
 
 less_both : (n m : ℕ) → n < m → m < n → ⊥

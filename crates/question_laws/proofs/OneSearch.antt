@@ -19,10 +19,10 @@ use Rattle.question_model.specs.Workloads.{Search, steps_at, places_of, HasPatch
 use Rattle.question_model.specs.declared.found.SearchCounts.{SearchCounts}
 use Rattle.question_model.specs.declared.found.ShownKind.{ShownKind}
 use Rattle.uniqueness_laws.proofs.OneGraph.{heads}
-use Rattle.worked_example_laws.proofs.OneBody.{sections_one}
+use Rattle.question_laws.proofs.OneSections.{sections_one}
 use Rattle.question_laws.proofs.OneFirst.{listed_first_one}
 use Rattle.question_laws.proofs.OneFound.{patches_one, found_one}
-use Rattle.worked_example_laws.proofs.Orders.{same_keyed}
+use Rattle.question_laws.proofs.Orders.{same_keyed}
 use Rattle.question_laws.proofs.Sequences.{first_sequence_one}
 
 module _ (s : Search) (explain : Bool) where

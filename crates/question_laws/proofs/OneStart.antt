@@ -15,11 +15,10 @@ use Rattle.crash_model.specs.declared.refusals.RunFault.TheVariants.{OutOfMemory
 use Rattle.crash_model.specs.declared.refusals.TraceFault.{TraceFault}
 use Rattle.crash_model.specs.declared.settings.Settings.{Settings}
 use Rattle.crash_model.specs.declared.steps.Step.{Step}
-use Rattle.crash_model.specs.declared.visit.ReportBy.TheVariants.{BySet}
 use Rattle.uniqueness_laws.proofs.Demands.{one_demands}
 use Rattle.uniqueness_laws.proofs.OneGraph.{graph_one}
 use Rattle.uniqueness_laws.proofs.Scripts.{script_one, read_or_refused}
-use Rattle.worked_example_laws.proofs.OneAnswer.{answer_one}
+use Rattle.question_laws.proofs.OneAnswer.{answer_one}
 
 ok_one : {A E : Type 0} (r : Result A E) (a b : A) → r ≡ Ok a → r ≡ Ok b → a ≡ b
 ok_one r a b is also = cc
@@ -54,7 +53,7 @@ module _ (bytes : List ℕ) (settings : Settings) where
       → fault ≡ other
   unfolding fault_in
   untraced_one fault other is also =
-      ap fault_in (answer_one settings BySet 0 bytes (Refused fault) (Refused other) (untraced fault is)
+      ap fault_in (answer_one settings 0 bytes (Refused fault) (Refused other) (untraced fault is)
       (untraced other also))
 
   -- a script that has a base and is not traced has steps of which one is refused

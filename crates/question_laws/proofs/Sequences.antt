@@ -8,9 +8,9 @@ use Rattle.std.specs.Cmp.Lexicographic.{slice_cmp, bytes_decides, texts_ties, na
 use Rattle.std.specs.declared.cmp.Ordering.{Ordering}
 use Rattle.std.specs.declared.cmp.Ordering.TheVariants.{Less, Equal, Greater}
 use Rattle.state_space.proofs.Counting.{Order, below, same, above, order_of}
-use Rattle.patch_sets.proofs.Lists.{front_or_rest, in_front}
+use Rattle.patch_sets.proofs.Lists.{in_front}
 use Rattle.question_model.specs.Sequences.{IsSequenceBefore, AreAllSequences, CountsSequences, IsFirstSequence}
-use Rattle.worked_example_laws.proofs.Orders.{Ascends, ascends, one_order}
+use Rattle.question_laws.proofs.Orders.{ascends, one_order}
 
 less_or_greater : Less ≡ Greater → ⊥
 less_or_greater e = cc
@@ -30,16 +30,6 @@ sequence_not_both a b (inl less) (inl more) = shorter_both (length a) (length b)
 sequence_not_both a b (inl less) (inr more) = shorter_or_same (length a) (length b) less more.0
 sequence_not_both a b (inr less) (inl more) = shorter_or_same (length b) (length a) more less.0
 sequence_not_both a b (inr less) (inr more) = less_both a b less.1 more.1
-
-pub sequence_trans : (a b c : List ℕ) → IsSequenceBefore a b → IsSequenceBefore b c → IsSequenceBefore a c
-sequence_trans a b c (inl less) (inl more) = inl (shorter (length a) (length b) (length c) less more)
-  where
-    shorter : (n m k : ℕ) → n < m → m < k → n < k
-    shorter n m k less more = omega arith
-sequence_trans a b c (inl less) (inr more) = inl (subst (λ (n : ℕ). length a < n) more.0 less)
-sequence_trans a b c (inr less) (inl more) = inl (subst (λ (n : ℕ). n < length c) (sym less.0) more)
-sequence_trans a b c (inr less) (inr more) =
-    inr (less.0 ∙ more.0, nat_list_cmp_total.trans a b c less.1 more.1)
 
 pub sequence_order : (a b : List ℕ) → IsSequenceBefore a b ⊎ ((a ≡ b) ⊎ IsSequenceBefore b a)
 sequence_order a b = by_length (order_of (length a) (length b)) (slice_cmp nat_cmp a b) refl
@@ -84,19 +74,3 @@ module _ (P : List ℕ → Type 0) where
     | inr (inl e) ↦ e
     | inr (inr after) ↦ absurd (is.first b also.among after)
   ]
-
-  -- the first of all
-  pub first_is : (x : List ℕ) (xs : List (List ℕ)) → AreAllSequences P (x ∷ xs) → IsFirstSequence P x
-  first_is x xs all = record {
-    among = (all.exactly x).0 (in_front x xs);
-    first = λ other is before. not_before other (front_or_rest x xs other ((all.exactly other).1 is)) before;
-  }
-    where
-      up : Ascends IsSequenceBefore (x ∷ xs)
-      up = ascends IsSequenceBefore (x ∷ xs) all.ordered
-
-      not_before : (other : List ℕ) → (x ≡ other) ⊎ Contains xs other → IsSequenceBefore other x → ⊥
-      not_before other (inl e) before =
-          let alone : IsSequenceBefore x x = subst (λ (n : List ℕ). IsSequenceBefore n x) (sym e) before in
-          sequence_not_both x x alone alone
-      not_before other (inr more) before = sequence_not_both x other (up.0 other more) before

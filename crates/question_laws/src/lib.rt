@@ -1,7 +1,6 @@
-//! There is exactly one answer to each question, and what it is for a few scripts, computed.
+//! No question has two answers. That each has one is not proved here: a run gives it.
 //!
-//! Each function has an empty body: its contract is a law of the definitions of `question_model`.
+//! The function has an empty body: its contract is a law of the definitions of `question_model`.
 #![tactic(auto)]
 
-pub mod examples;
 pub mod laws;

@@ -1,7 +1,6 @@
--- The answer to a question, from a script's bytes and the settings. No worker, no explorer and no order of discovery is
--- in it.
+-- The answer to a question, from a script's bytes and the settings. No worker and no order of discovery is in it.
 use Rattle.std.specs.Prelude.{ℕ, List}
-use Rattle.report_model.specs.Answer.{Answer, Refused, Reported, IsReported, IsVisited}
+use Rattle.report_model.specs.Answer.{Answer, Refused, Reported, IsReported, IsReport, IsSetsRefusal}
 use Rattle.report_model.specs.Untraced.{IsUntraced}
 use Rattle.crash_model.specs.declared.settings.Settings.{Settings}
 use Rattle.question_model.specs.Decision.{IsDecision}
@@ -10,12 +9,14 @@ use Rattle.question_model.specs.LinesReport.{IsLinesReport, IsLinesRefusal}
 use Rattle.question_model.specs.SearchReport.{IsSearchReport, IsSearchRefusal}
 use Rattle.question_model.specs.SearchRulesReport.{IsSearchRulesReport}
 use Rattle.question_model.specs.declared.question.Question.{Question}
-use Rattle.question_model.specs.declared.question.Question.TheVariants.{Visit, Decide, Enough, EnoughLines, Search}
-use Rattle.question_model.specs.declared.question.Question.TheVariants.{SearchRules}
+use Rattle.question_model.specs.declared.question.Question.TheVariants.{FailingSets, Decide, Enough}
+use Rattle.question_model.specs.declared.question.Question.TheVariants.{EnoughLines, Search, SearchRules}
 use Rattle.question_model.specs.PoolAnswer.{IsReportedOfPool}
 
 abbrev pub IsAnswerTo : Question → List ℕ → Settings → Answer → Type 0
-IsAnswerTo (Visit visit) bytes settings answer = IsVisited bytes settings visit.report visit.limit answer
+IsAnswerTo (FailingSets limit) bytes settings (Refused fault) = IsSetsRefusal limit bytes settings fault
+IsAnswerTo (FailingSets limit) bytes settings (Reported text number) =
+    IsReported (IsReport settings limit) bytes settings text number
 IsAnswerTo Decide bytes settings (Refused fault) = IsUntraced bytes settings fault
 IsAnswerTo Decide bytes settings (Reported text number) =
     IsReported (IsDecision settings) bytes settings text number

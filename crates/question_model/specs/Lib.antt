@@ -15,4 +15,3 @@ pub mod EnoughFor
 pub mod SearchRulesReport
 pub mod PoolAnswer
 pub mod Answers
-pub mod Asked

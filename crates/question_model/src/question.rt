@@ -1,20 +1,20 @@
 //! What a run is asked.
 
 use crate::length::WorkloadLength;
+use crate::limit::SetLimit;
 use crash_model::settings::Settings;
-use crash_model::visit::Visit;
 
 /// The most lines that wait of which a run finds out which are enough.
 pub const MAX_SYNCS: usize = 64;
 
 /// What a run finds out about a script.
 ///
-/// Only a visit goes from closed set to closed set, so only a visit has a limit. The other questions are answered
+/// Only the first question goes from closed set to closed set, so only this one has a limit. The others are answered
 /// however many closed sets there are.
 #[derive(Clone, Copy, Debug, PartialEq, Eq)]
 pub enum Question {
-    /// Which closed sets fail.
-    Visit(Visit),
+    /// Which closed sets fail, if there are at most this many closed sets.
+    FailingSets(SetLimit),
     /// Which faults any closed set has.
     Decide,
     /// Which sets of rules are enough, and of which rules one is needed.

@@ -12,7 +12,7 @@ use Rattle.question_model.specs.ListedFault.{ListedFault, decided_text, decided_
 use Rattle.question_model.specs.declared.decided_fault.DecidedFault.{DecidedFault}
 use Rattle.report_sections.specs.declared.section.Section.{Section}
 use Rattle.report_sections.specs.Sections.{section_of, IsSection}
-use Rattle.report_sections.proofs.Joined.{rows_more, firsts_more}
+use Rattle.question_reports.proofs.FirstSections.{rows_more, firsts_more}
 use Rattle.report_text.proofs.Reports.{item_more}
 use Rattle.json_values.specs.Items.{comma_before}
 use Rattle.json_values.proofs.Commas.{mapped_more}

@@ -1,3 +1,4 @@
+pub mod FirstSections
 pub mod DecisionFaults
 pub mod DecisionPieces
 pub mod EnoughPieces

@@ -1,8 +1,7 @@
 -- Reports as JSON.
 use Rattle.std.specs.Prelude.{◌≡◌, ℕ, suc, List, [], ◌∷◌, ◌++◌, length, map, if◌then◌else◌, Bool, Option, None}
 use Rattle.std.specs.Prelude.{codes}
-use Rattle.crash_model.specs.declared.separators.TheConstants.{COMMA}
-use Rattle.crash_model.specs.Lists.{join_of, when}
+use Rattle.crash_model.specs.Lists.{when}
 use Rattle.crash_model.specs.Checker.{Demands}
 use Rattle.crash_model.specs.Disk.{Disk}
 use Rattle.crash_model.specs.Promises.{Promise}
@@ -13,20 +12,14 @@ use Rattle.report_model.specs.Report.{Detail, Section, AreSections}
 use Rattle.report_model.specs.JsonParts.{Form, json_array, json_string}
 use Rattle.report_model.specs.SectionJson.{section_json}
 use Rattle.crash_model.specs.PathTexts.{path_text}
-use Rattle.report_model.specs.Summary.{CountedFault, counted_fault_json}
-use Rattle.report_model.specs.Needs.{listed_rule_json}
-use Rattle.report_model.specs.Whole as whole
-use Rattle.report_model.specs.WholeJson.{early_json, late_json, form_of}
-use Rattle.crash_model.specs.declared.fault.FaultRow.{FaultRow}
+use Rattle.report_model.specs.WholeJson.{form_of}
 use Rattle.crash_model.specs.declared.patches.Patch.{Patch}
 use Rattle.crash_model.specs.declared.names.Path.{Path}
 use Rattle.crash_model.specs.declared.settings.Settings.{Settings}
 use Rattle.traced_patches.specs.Traced.{TracedPatches}
-use Rattle.report_sections.specs.Bodies.{detail_by, ListsBody, explanation_by}
-use Rattle.report_sections.specs.ListedRules.{listed_rule}
+use Rattle.report_sections.specs.Bodies.{explanation_by}
 use Rattle.json_values.specs.Items.{comma_before}
 use Rattle.report_sections.specs.declared.report.Report.{Report}
-use Rattle.report_sections.specs.declared.rules.ListedRule.{ListedRule}
 
 -- the keys that explain: the base and the patches
 abbrev pub base_key : Disk → List ℕ
@@ -54,33 +47,14 @@ paths_key keeps paths =
 abbrev pub form_by : {A : Type 0} → Report A → Form
 form_by report = form_of report.settings.now (length report.traced.now.patches)
 
--- the text has the body's key before `module` appended
-abbrev pub WritesEarly : {A : Type 0} → Report A → List ℕ → List ℕ → Type 0
-WritesEarly report old new =
-    (body : whole.Body) × ListsBody (detail_by report) report.base.now report.traced.now.patches report.body body
-    × (new ≡ old ++ early_json (form_by report) report.failing body)
-
--- and its key after `patches`
-abbrev pub WritesLate : {A : Type 0} → Report A → List ℕ → List ℕ → Type 0
-WritesLate report old new =
-    (body : whole.Body) → ListsBody (detail_by report) report.base.now report.traced.now.patches report.body body
-    → new ≡ old ++ late_json (form_by report) report.failing body
-
 -- the keys from the module on
-abbrev pub from_module : {A : Type 0} → Report A → whole.Body → List ℕ
-from_module report body =
+abbrev pub from_module : {A : Type 0} → Report A → List ℕ
+from_module report =
     module_keys report.settings.now (length report.traced.now.patches)
     ++ promises_json (length report.traced.now.patches) (listed_promises report.settings.now report.demands.now)
-    ++ late_json (form_by report) report.failing body
     ++ keys_from_strict report.settings.now (length report.traced.now.patches)
     (when report.settings.now.explain (explanation_by report.base.now report.traced.now))
     (listed_promises report.settings.now report.demands.now)
-
--- the text has those appended
-abbrev pub WritesFromModule : {A : Type 0} → Report A → List ℕ → List ℕ → Type 0
-WritesFromModule report old new =
-    (body : whole.Body) → ListsBody (detail_by report) report.base.now report.traced.now.patches report.body body
-    → new ≡ old ++ from_module report body
 
 -- items of an array, the first of them at this place, with a comma before each that is not the first of all
 abbrev pub items_from : ℕ → List (List ℕ) → List ℕ
@@ -93,16 +67,3 @@ pub record WritesSections (form : Form) (detail : Detail) (base : Disk) (patches
   pub sections : List Section
   pub are : AreSections detail base patches sets sections
   pub whole : new ≡ old ++ items_from place (map (section_json form) sections)
-
--- the text has the objects of these rows appended, separated by commas
-pub record WritesFaults (form : Form) (detail : Detail) (base : Disk) (patches : List Patch) (rows : List FaultRow)
-    (old new : List ℕ) : Type 0 where
-  pub listed : List CountedFault
-  pub of_rows : map (λ t. t.row) listed ≡ rows
-  pub firsts : AreSections detail base patches (map (λ row. row.first) rows) (map (λ t. t.first) listed)
-  pub whole : new ≡ old ++ join_of COMMA (map (counted_fault_json form) listed)
-
--- and of the objects of these rules
-abbrev pub WritesRules : {A : Type 0} → Form → List (ListedRule A) → List ℕ → List ℕ → Type 0
-WritesRules form rules old new =
-    new ≡ old ++ join_of COMMA (map (λ rule. listed_rule_json form (listed_rule rule)) rules)

@@ -1,25 +1,22 @@
 //! Whole reports.
 
-ghost use Rattle.std.specs.Prelude.{◌≡◌, ◌+◌, ◌^◌, ◌<◌, ◌++◌, [], length, map, string_bytes, IfOk, OnOk};
+ghost use Rattle.std.specs.Prelude.{◌≡◌, ◌+◌, ◌^◌, ◌<◌, ◌++◌, List, [], length, string_bytes, IfOk, OnOk};
 ghost use Rattle.patch_sets.specs.Closed.{IsClosed};
 ghost use Rattle.crash_model.specs.Patches.{deps_of};
 ghost use Rattle.report_model.specs.SectionJson.{section_json};
-ghost use Rattle.report_model.specs.Summary.{counted_fault_json};
-ghost use Rattle.report_model.specs.Whole.{Body as WholeBody};
-ghost use Rattle.report_model.specs.WholeJson.{json_report};
-ghost use Rattle.report_sections.specs.Bodies.{detail_by, CanReport, ListsBody, AreOnBase, AreClosed, whole_of};
+ghost use Rattle.report_model.specs.Report.{Section as WholeSection};
+ghost use Rattle.report_model.specs.WholeJson.{failing_json, json_report};
+ghost use Rattle.report_sections.specs.Bodies.{detail_by, CanReport, HasSections, AreOnBase, AreClosed, whole_of};
 ghost use Rattle.report_sections.specs.Sections.{section_of, IsSection};
 ghost use Rattle.report_sections.specs.declared.section.Section.{Section};
 ghost use Rattle.json_values.specs.Items.{comma_before};
-ghost use Rattle.report_json.specs.JsonReport.{form_by, WritesEarly, WritesLate, WritesFromModule};
-ghost use Rattle.report_json.specs.JsonReport.{WritesSections, WritesFaults, WritesRules};
+ghost use Rattle.report_json.specs.JsonReport.{form_by, from_module, WritesSections};
 
 use crate::head::{write_first_keys, write_from_strict, write_module, write_promise_keys};
 use crate::parts::SectionObjects;
 use crate::promises::write_promises;
-use crash_model::fault::FaultRow;
 use json_values::{KnownTexts, write_comma};
-use report_sections::{Body, ListedRule, Report};
+use report_sections::Report;
 use section_maker::{SectionMaker, write_together};
 use std::alloc::{AllocError, Allocator, Global};
 use std::thread::Threads;
@@ -40,10 +37,8 @@ where
     R: Threads + Sync,
     A: Allocator + Copy + Send + Sync,
     requires { CanReport report.now }
-    ensures { IfOk result (λ text. (body : WholeBody)
-        × ListsBody (detail_by report.now) report.now.base.now report.now.traced.now.patches report.now.body
-        body
-        × (string_bytes text ≡ json_report report.now.settings.now (whole_of report.now body))) }
+    ensures { IfOk result (λ text. (sections : List WholeSection) × HasSections report.now sections
+        × (string_bytes text ≡ json_report report.now.settings.now (whole_of report.now sections))) }
 {
     let mut out = String::new(alloc);
     write_report(&mut out, rt, heap, report, workers)?;
@@ -63,17 +58,15 @@ where
     A: Allocator + Copy + Send + Sync,
     requires empty { string_bytes out.old ≡ [] }
     requires listed { CanReport report.now }
-    ensures { OnOk result ((body : WholeBody)
-        × ListsBody (detail_by report.now) report.now.base.now report.now.traced.now.patches report.now.body
-        body
-        × (string_bytes out.new ≡ json_report report.now.settings.now (whole_of report.now body))) }
+    ensures { OnOk result ((sections : List WholeSection) × HasSections report.now sections
+        × (string_bytes out.new ≡ json_report report.now.settings.now (whole_of report.now sections))) }
 {
     out.push_str("{")?;
     write_first_keys(out, report.settings, report.base)?;
     let closed = report.closed;
     write!(out, "\"closed\":{closed}")?;
     write_promise_keys(out, report.settings)?;
-    write_early(out, rt, heap, report, workers)?;
+    write_failing(out, rt, heap, report, workers)?;
     write_from_module(out, heap, report)?;
     out.push_str("}\n")?;
     Ok(())
@@ -85,18 +78,17 @@ fn write_from_module<A: Allocator + Copy>(
     heap: Global,
     report: &Report<'_, '_, '_, '_, A>,
 ) -> Result<(), AllocError>
-    ensures { OnOk result (WritesFromModule report.now (string_bytes out.old) (string_bytes out.new)) }
+    ensures { OnOk result (string_bytes out.new ≡ string_bytes out.old ++ from_module report.now) }
 {
     let settings = report.settings;
     let patches = report.traced.graph().len();
     write_module(out, settings, patches)?;
     write_promises(out, settings, patches, report.demands)?;
-    write_late(out, heap, report)?;
     write_from_strict(out, heap, settings, report.traced, report.demands)
 }
 
-/// The body's key before `module`.
-fn write_early<R, A>(
+/// The key of the failing sets.
+fn write_failing<R, A>(
     out: &mut String<A>,
     rt: &R,
     heap: Global,
@@ -107,47 +99,18 @@ where
     R: Threads + Sync,
     A: Allocator + Copy + Send + Sync,
     requires { CanReport report.now }
-    ensures { OnOk result (WritesEarly report.now (string_bytes out.old) (string_bytes out.new)) }
+    ensures { OnOk result ((sections : List WholeSection) × HasSections report.now sections
+        × (string_bytes out.new ≡ string_bytes out.old ++ failing_json (form_by report.now) sections)) }
 {
-    match report.body {
-        Body::Sets(sets) => {
-            out.push_str(",\"failing\":[")?;
-            write_together(out, rt, &SectionObjects { heap, report }, sets, workers)?;
-            out.push_str("]")?;
-        }
-        Body::Faults(rows) => {
-            out.push_str(",\"faults\":[")?;
-            write_faults(out, heap, report, rows)?;
-            out.push_str("]")?;
-        }
-        Body::Rules(_) => {
-            let failing = report.failing;
-            write!(out, ",\"failing\":{failing}")?;
-        }
-    }
-    Ok(())
-}
-
-/// The body's key after `patches`.
-fn write_late<A: Allocator + Copy>(
-    out: &mut String<A>,
-    heap: Global,
-    report: &Report<'_, '_, '_, '_, A>,
-) -> Result<(), AllocError>
-    ensures { OnOk result (WritesLate report.now (string_bytes out.old) (string_bytes out.new)) }
-{
-    match report.body {
-        Body::Sets(_) => {}
-        Body::Faults(_) => {
-            let failing = report.failing;
-            write!(out, ",\"sets\":{failing}")?;
-        }
-        Body::Rules(rules) => {
-            out.push_str(",\"rules\":[")?;
-            write_rules(out, heap, report, rules)?;
-            out.push_str("]")?;
-        }
-    }
+    out.push_str(",\"failing\":[")?;
+    write_together(
+        out,
+        rt,
+        &SectionObjects { heap, report },
+        report.sets,
+        workers,
+    )?;
+    out.push_str("]")?;
     Ok(())
 }
 
@@ -216,95 +179,4 @@ fn write_section<A: Allocator + Copy>(
     write_comma(out, at)?;
     let section = maker.section(set)?;
     known.push_section(out, &section)
-}
-
-/// The objects of the faults, with a comma between two.
-fn write_faults<A: Allocator + Copy>(
-    out: &mut String<A>,
-    heap: Global,
-    report: &Report<'_, '_, '_, '_, A>,
-    rows: &[FaultRow],
-) -> Result<(), AllocError>
-    requires on_base { AreOnBase report.now.base.now report.now.traced.now.patches }
-    requires closed { AreClosed report.now.traced.now.patches (map (λ row. row.first) rows.now) }
-    ensures { OnOk result (WritesFaults (form_by report.now) (detail_by report.now) report.now.base.now
-        report.now.traced.now.patches rows.now (string_bytes out.old) (string_bytes out.new)) }
-{
-    let graph = report.traced.graph();
-    let mut known = KnownTexts::new(heap, graph.len(), report.settings.numbers)?;
-    let mut maker = SectionMaker::new(
-        *out.allocator(),
-        report.base,
-        graph,
-        report.settings.explain,
-        report.demands,
-    )?;
-    write_each_fault(out, &mut known, &mut maker, rows)
-}
-
-/// The objects of the faults, with a comma between two, by a maker of their sections.
-fn write_each_fault<A: Allocator + Copy>(
-    out: &mut String<A>,
-    known: &mut KnownTexts,
-    maker: &mut SectionMaker<'_, A>,
-    rows: &[FaultRow],
-) -> Result<(), AllocError>
-    requires closed { AreClosed maker.old.patches (map (λ row. row.first) rows.now) }
-    ensures { OnOk result (WritesFaults known.old maker.old.detail maker.old.base maker.old.patches rows.now
-        (string_bytes out.old) (string_bytes out.new)) }
-{
-    for (at, row) in rows.iter().enumerate() {
-        write_fault(out, at, known, maker, row)?;
-    }
-    Ok(())
-}
-
-/// The object of a fault at this place of an array, with a comma before it if it is not the first.
-fn write_fault<A: Allocator + Copy>(
-    out: &mut String<A>,
-    at: usize,
-    known: &mut KnownTexts,
-    maker: &mut SectionMaker<'_, A>,
-    row: &FaultRow,
-) -> Result<(), AllocError>
-    requires { IsClosed (deps_of maker.old.patches) row.now.first }
-    ensures listed { OnOk result ((section : Section A)
-        × IsSection maker.old.detail maker.old.base maker.old.patches row.now.first section
-        × (string_bytes out.new ≡ string_bytes out.old ++ comma_before at
-        ++ counted_fault_json known.old (record { row = row.now; first = section_of section }))) }
-    ensures known { known.new ≡ known.old }
-    ensures maker { maker.new ≡ maker.old }
-{
-    write_comma(out, at)?;
-    let section = maker.section(row.first)?;
-    known.push_fault_row(out, row, &section)
-}
-
-/// The objects of the rules, with a comma between two.
-fn write_rules<A: Allocator + Copy>(
-    out: &mut String<A>,
-    heap: Global,
-    report: &Report<'_, '_, '_, '_, A>,
-    rules: &[ListedRule<A>],
-) -> Result<(), AllocError>
-    ensures { OnOk result (WritesRules (form_by report.now) rules.now (string_bytes out.old) (string_bytes out.new)) }
-{
-    let patches = report.traced.graph().len();
-    let mut known = KnownTexts::new(heap, patches, report.settings.numbers)?;
-    write_each_rule(out, &mut known, rules)
-}
-
-/// The objects of the rules, with a comma between two, by the cached texts.
-fn write_each_rule<A: Allocator + Copy>(
-    out: &mut String<A>,
-    known: &mut KnownTexts,
-    rules: &[ListedRule<A>],
-) -> Result<(), AllocError>
-    ensures { OnOk result (WritesRules known.old rules.now (string_bytes out.old) (string_bytes out.new)) }
-{
-    for (at, rule) in rules.iter().enumerate() {
-        write_comma(out, at)?;
-        known.push_rule(out, rule)?;
-    }
-    Ok(())
 }

@@ -7,16 +7,11 @@ use Rattle.crash_model.specs.Patches.{deps_of, homes_of, CountsClosed, ExceedsLi
 use Rattle.crash_model.specs.Tracing.{Tracing}
 use Rattle.crash_model.specs.Checker.{Demands, AreDemands, IsFailingUnder}
 use Rattle.crash_model.specs.Lists.{when}
-use Rattle.report_model.specs.Report.{Detail, AreSections, IsLed}
+use Rattle.report_model.specs.Report.{Detail, Section, AreSections, IsLed}
 use Rattle.crash_model.specs.Reasons.{explanation}
-use Rattle.report_model.specs.Summary.{AreCountedFaults}
-use Rattle.report_model.specs.Needs.{AreListedRules}
-use Rattle.report_model.specs.Whole.{Body, Sets, Faults, Rules}
 use Rattle.report_model.specs.WholeText.{report}
 use Rattle.crash_model.specs.declared.patches.Patch.{Patch}
 use Rattle.crash_model.specs.declared.settings.Settings.{Settings}
-use Rattle.crash_model.specs.declared.visit.ReportBy.{ReportBy}
-use Rattle.crash_model.specs.declared.visit.ReportBy.TheVariants.{BySet, ByFault, ByRule}
 use Rattle.crash_model.specs.declared.refusals.RunFault.{RunFault}
 use Rattle.crash_model.specs.declared.refusals.RunFault.TheVariants.{TooMany}
 use Rattle.report_model.specs.ScriptGraph.{ordering_rules, asked_by, HasGraph}
@@ -31,21 +26,9 @@ pub data Answer : Type 0 where
 abbrev pub detail_of : Settings → Demands → Detail
 detail_of settings demands = record { explain = settings.explain; demands = demands }
 
--- the body of a report on these failing sets, of which it lists what it is asked for
-abbrev pub IsBody : Settings → ReportBy → ℕ → Demands → Disk → Tracing → List Patch → List ℕ → Body → Type 0
-IsBody settings by limit demands base last patches sets (Sets sections) =
-    (by ≡ BySet) × AreSections (detail_of settings demands) base patches sets sections × All (IsLed patches) sections
-IsBody settings by limit demands base last patches sets (Faults listed) =
-    (by ≡ ByFault) × AreCountedFaults (detail_of settings demands) base patches listed
-    × All (λ t. IsLed patches t.first) listed
-IsBody settings by limit demands base last patches sets (Rules listed) =
-    (by ≡ ByRule)
-    × AreListedRules (detail_of settings demands) limit (ordering_rules settings) base last patches
-    (ordering_rules settings) listed
-
 -- the report on a graph: how many of its closed sets fail, each of which a crash can leave
-pub record IsReport (settings : Settings) (by : ReportBy) (limit : ℕ) (demands : Demands) (base : Disk)
-    (last : Tracing) (patches : List Patch) (text : List ℕ) (failing : ℕ) : Type 0 where
+pub record IsReport (settings : Settings) (limit : ℕ) (demands : Demands) (base : Disk) (last : Tracing)
+    (patches : List Patch) (text : List ℕ) (failing : ℕ) : Type 0 where
   pub total : ℕ
   pub counted : CountsClosed patches total
   pub within : total ≤ limit
@@ -53,15 +36,16 @@ pub record IsReport (settings : Settings) (by : ReportBy) (limit : ℕ) (demands
   pub exactly : AreAllInOrder (IsFailingUnder demands base patches) sets
   pub left : All (CanLeave (deps_of patches) (homes_of patches)) sets
   pub number : failing ≡ length sets
-  pub body : Body
-  pub listed : IsBody settings by limit demands base last patches sets body
+  pub sections : List Section
+  pub listed : AreSections (detail_of settings demands) base patches sets sections
+  pub led : All (IsLed patches) sections
   pub whole : text ≡ report settings (record {
     patches = length patches;
     closed = total;
     failing = failing;
     explanation = when settings.explain (explanation (ordering_rules settings) base last patches);
     promises = if settings.explain then demands.promises else None;
-    body = body;
+    sections = sections;
   })
 
 -- ---- answers
@@ -77,12 +61,9 @@ pub record IsReported (IsOn : Demands → Disk → Tracing → List Patch → Li
   pub demanded : AreDemands (asked_by settings graph.steps) base graph.steps demands
   pub report : IsOn demands base last patches text number
 
--- the answer of a visit: the first of these three that holds
-pub data IsVisited (bytes : List ℕ) (settings : Settings) (by : ReportBy) (limit : ℕ) : Answer → Type 0 where
-  untraced : (fault : RunFault) → IsUntraced bytes settings fault
-      → IsVisited bytes settings by limit (Refused fault)
+-- a script whose failing sets are not reported: the first of these two reasons that holds
+pub data IsSetsRefusal (limit : ℕ) (bytes : List ℕ) (settings : Settings) : RunFault → Type 0 where
+  untraced : (fault : RunFault) → IsUntraced bytes settings fault → IsSetsRefusal limit bytes settings fault
   too_many : (base : Disk) (last : Tracing) (patches : List Patch) → HasGraph bytes settings base last patches
       → ExceedsLimit patches limit
-      → IsVisited bytes settings by limit (Refused TooMany)
-  reported : (text : List ℕ) (failing : ℕ) → IsReported (IsReport settings by limit) bytes settings text failing
-      → IsVisited bytes settings by limit (Reported text failing)
+      → IsSetsRefusal limit bytes settings TooMany

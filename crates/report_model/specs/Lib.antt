@@ -7,8 +7,6 @@ pub mod FaultLines
 pub mod Replayed
 pub mod Report
 pub mod Explain
-pub mod Summary
-pub mod Needs
 pub mod Whole
 pub mod ScriptGraph
 pub mod Untraced

@@ -3,10 +3,8 @@ use Rattle.std.specs.Prelude.{ℕ, List, ◌++◌, flat_map, if◌then◌else◌
 use Rattle.crash_model.specs.declared.settings.Settings.{Settings}
 use Rattle.report_model.specs.Report.{line, section_text}
 use Rattle.report_model.specs.OptionTexts.{ordering_text, promises_text, explanation_text}
-use Rattle.report_model.specs.Summary.{counted_fault_text}
-use Rattle.report_model.specs.Needs.{listed_rule_text}
 use Rattle.report_model.specs.WholeJson.{json_report}
-use Rattle.report_model.specs.Whole.{Body, Sets, Faults, Rules, Report}
+use Rattle.report_model.specs.Whole.{Report}
 
 -- the lines before the first patch or set
 abbrev pub head_text : Settings → ℕ → ℕ → ℕ → List ℕ
@@ -16,15 +14,10 @@ head_text settings patches closed failing =
     ++ line (codes "closed " ++ decimal closed)
     ++ line (codes "failing " ++ decimal failing)
 
-abbrev pub body_text : ℕ → Body → List ℕ
-body_text n (Sets sections) = flat_map (section_text n) sections
-body_text n (Faults listed) = flat_map (counted_fault_text n) listed
-body_text n (Rules listed) = flat_map (listed_rule_text n) listed
-
 unfoldable pub text_report : Settings → Report → List ℕ
 text_report settings r =
     head_text settings r.patches r.closed r.failing ++ explanation_text r.patches r.explanation
-    ++ promises_text r.patches r.promises ++ body_text r.patches r.body
+    ++ promises_text r.patches r.promises ++ flat_map (section_text r.patches) r.sections
 
 -- the report's bytes
 abbrev pub report : Settings → Report → List ℕ

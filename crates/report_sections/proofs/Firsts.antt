@@ -4,14 +4,8 @@ use Rattle.std.proofs.Math.ListN.{get_or-map}
 use Rattle.std.proofs.lemmas.List.{length-map}
 use Rattle.patch_sets.specs.Closed.{IsClosed}
 use Rattle.crash_model.specs.Patches.{deps_of}
-use Rattle.crash_model.specs.declared.fault.Fault.TheVariants.{Dangling}
-use Rattle.crash_model.specs.declared.fault.FaultRow.{FaultRow}
 use Rattle.crash_model.specs.declared.patches.Patch.{Patch}
 use Rattle.report_sections.specs.Bodies.{AreClosed}
-
--- what there is if there is no row
-abbrev pub no_row : FaultRow
-no_row = record { fault = Dangling 0 0 0; sets = 0; first = 0 }
 
 -- a crash can leave each of them
 pub first_closed : {X : Type 0} (first_of : X → ℕ) (patches : List Patch) (rows : List X) (i : ℕ) (d : X)

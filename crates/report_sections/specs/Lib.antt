@@ -2,5 +2,4 @@ pub mod Bodies
 pub mod Replay
 pub mod Sections
 pub mod Showing
-pub mod ListedRules
 pub mod Numbers

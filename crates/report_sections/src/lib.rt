@@ -6,10 +6,8 @@ pub mod places;
 pub mod promises;
 pub mod replayed;
 pub mod report;
-pub mod rules;
 pub mod section;
 
 pub use replayed::ReplayedBlock;
-pub use report::{Body, Report};
-pub use rules::{ListedRule, RuleUsage};
+pub use report::Report;
 pub use section::{CrashOutcome, Section};

@@ -2,6 +2,5 @@ pub mod PatchLines
 pub mod HeadLines
 pub mod JoinedParts
 pub mod Reports
-pub mod RuleLines
 pub mod CountedNumbers
 pub mod PromiseLines

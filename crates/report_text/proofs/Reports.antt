@@ -1,4 +1,4 @@
--- Reports, one set or fault after another.
+-- Reports, one set after another.
 use Rattle.std.proofs.Common.{◌≡◌, ℕ, ◌+◌, ◌<◌, List, [], ◌∷◌, ◌++◌, length, get_or, take, codes, None, refl}
 use Rattle.std.proofs.Common.{sym, subst, ap, ◌∙◌, append_assoc}
 use Rattle.std.specs.Prelude.{Option, if◌then◌else◌}
@@ -17,24 +17,19 @@ use Rattle.crash_model.specs.Checker.{faults_under}
 use Rattle.report_model.specs.OptionTexts.{explanation_text, promises_text}
 use Rattle.crash_model.specs.Lists.{when}
 use Rattle.report_model.specs.FaultLines.{faults_text, shows_if}
-use Rattle.report_model.specs.Summary.{CountedFault, counted_fault_text}
-use Rattle.report_model.specs.Whole.{Body}
-use Rattle.report_model.specs.WholeText.{head_text, body_text, text_report}
+use Rattle.report_model.specs.WholeText.{head_text, text_report}
 use Rattle.crash_model.specs.declared.fault.Fault.{Fault}
 use Rattle.crash_model.specs.declared.fault.Fault.TheVariants.{BrokenPromise}
-use Rattle.crash_model.specs.declared.fault.FaultRow.{FaultRow}
 use Rattle.crash_model.specs.declared.patches.Patch.{Patch}
 use Rattle.crash_model.specs.declared.showing.Shown.{Shown}
 use Rattle.report_sections.specs.Bodies.{explanation_by, whole_of}
 use Rattle.report_sections.specs.declared.report.Report.{Report}
-use Rattle.report_sections.specs.declared.section.Section as code
 use Rattle.report_sections.specs.declared.section.CrashOutcome.{CrashOutcome}
 use Rattle.report_sections.specs.Replay.{listed_replay}
-use Rattle.report_sections.specs.Sections.{section_of, shows_for, IsSection, IsOutcome}
+use Rattle.report_sections.specs.Sections.{shows_for, IsOutcome}
 use Rattle.report_sections.specs.Showing.{shown_lists}
-use Rattle.report_sections.proofs.Joined.{rows_more, firsts_more}
 use Rattle.section_lines.specs.Cache.{fault_line}
-use Rattle.report_text.specs.TextReport.{WritesSections, WritesFaults}
+use Rattle.report_text.specs.TextReport.{WritesSections}
 use Rattle.section_lines.specs.Runs.{WritesRuns}
 use Rattle.report_text.proofs.JoinedParts.{sections_after}
 
@@ -111,38 +106,24 @@ section_one detail base patches set n o old first second third new number is hea
     pieces : (a b c d e : List ℕ) → a ++ b ++ c ++ d ++ e ≡ a ++ ((b ++ c ++ d ++ e) ++ [])
     pieces a b c d e = simp (append_assoc, append-nil)
 
-pub fault_more : {A : Type 0} (detail : Detail) (base : Disk) (patches : List Patch) (rows : List FaultRow) (i n : ℕ)
-    (d : FaultRow) (head text after : List ℕ) (s : code.Section A) → i < length rows → n ≡ length patches
-    → WritesFaults detail base patches (take i rows) head text → IsSection detail base patches (get_or rows i d).first s
-    → after ≡ text ++ counted_fault_text n (record { row = get_or rows i d; first = section_of s })
-    → WritesFaults detail base patches (take (i + 1) rows) head after
-fault_more detail base patches rows i n d head text after s within number so_far is more = record {
-  listed = so_far.listed ++ one ∷ [];
-  of_rows = rows_more (λ (t : CountedFault). t.row) rows i d so_far.listed one within refl so_far.of_rows;
-  firsts = firsts_more (λ (row : FaultRow). row.first) (λ (t : CountedFault). t.first) rows i d so_far.listed one
-      detail base patches s within refl so_far.firsts is;
-  whole = item_more (counted_fault_text (length patches)) so_far.listed one head text after so_far.whole
-      (more ∙ ap (λ (k : ℕ). text ++ counted_fault_text k one) number);
-}
-  where
-    one : CountedFault
-    one = record { row = get_or rows i d; first = section_of s }
-
-pub whole_text : {A : Type 0} (report : Report A) (n : ℕ) (body : Body) (empty first second third last : List ℕ)
-    → empty ≡ [] → n ≡ length report.traced.now.patches
-    → first ≡ empty ++ head_text report.settings.now n report.closed report.failing
-    → second ≡ first ++ explanation_text (length report.traced.now.patches) (when report.settings.now.explain
-    (explanation_by report.base.now report.traced.now))
-    → third ≡ second ++ promises_text (length report.traced.now.patches)
-    (if report.settings.now.explain then report.demands.now.promises else None)
-    → last ≡ third ++ body_text (length report.traced.now.patches) body
-    → last ≡ text_report report.settings.now (whole_of report body)
+pub whole_text : {A : Type 0} (r : Report A) (n failing : ℕ) (sections : List report.Section)
+    (empty first second third last : List ℕ)
+    → empty ≡ [] → n ≡ length r.traced.now.patches → failing ≡ length r.sets.now
+    → first ≡ empty ++ head_text r.settings.now n r.closed failing
+    → second ≡ first ++ explanation_text (length r.traced.now.patches) (when r.settings.now.explain
+    (explanation_by r.base.now r.traced.now))
+    → third ≡ second ++ promises_text (length r.traced.now.patches)
+    (if r.settings.now.explain then r.demands.now.promises else None)
+    → last ≡ third ++ flat_map (section_text (length r.traced.now.patches)) sections
+    → last ≡ text_report r.settings.now (whole_of r sections)
 unfolding text_report
-whole_text report n body empty first second third last none number heads explains promises bodies =
-    bodies ∙ ap (λ (t : List ℕ). t ++ body_text (length report.traced.now.patches) body)
-    (promises ∙ ap (λ (t : List ℕ). t ++ promises_text (length report.traced.now.patches)
-    (if report.settings.now.explain then report.demands.now.promises else None))
-    (explains ∙ ap (λ (t : List ℕ). t ++ explanation_text (length report.traced.now.patches)
-    (when report.settings.now.explain (explanation_by report.base.now report.traced.now)))
-    (heads ∙ (ap (λ (t : List ℕ). t ++ head_text report.settings.now n report.closed report.failing) none
-    ∙ ap (λ (k : ℕ). head_text report.settings.now k report.closed report.failing) number))))
+whole_text r n failing sections empty first second third last none number fails heads explains promises listed =
+    let patches = length r.traced.now.patches in
+    listed ∙ ap (λ (t : List ℕ). t ++ flat_map (section_text patches) sections)
+    (promises ∙ ap (λ (t : List ℕ). t ++ promises_text patches
+    (if r.settings.now.explain then r.demands.now.promises else None))
+    (explains ∙ ap (λ (t : List ℕ). t ++ explanation_text patches
+    (when r.settings.now.explain (explanation_by r.base.now r.traced.now)))
+    (heads ∙ (ap (λ (t : List ℕ). t ++ head_text r.settings.now n r.closed failing) none
+    ∙ (ap (λ (k : ℕ). head_text r.settings.now k r.closed failing) number
+    ∙ ap (λ (k : ℕ). head_text r.settings.now patches r.closed k) fails)))))

@@ -6,8 +6,6 @@ mod parts;
 mod patches;
 mod promises;
 pub mod report;
-mod rules;
-mod summary;
 
 pub use head::write_ordering;
 pub use patches::write_explanation;

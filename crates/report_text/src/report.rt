@@ -1,33 +1,27 @@
 //! Whole reports.
 
-ghost use Rattle.std.specs.Prelude.{◌≡◌, ◌++◌, [], ◌∷◌, length, map, string_bytes, IfOk, OnOk};
+ghost use Rattle.std.specs.Prelude.{◌≡◌, ◌++◌, List, [], ◌∷◌, string_bytes, IfOk, OnOk};
 ghost use Rattle.patch_sets.specs.Closed.{IsClosed};
 ghost use Rattle.crash_model.specs.Patches.{deps_of};
 ghost use Rattle.report_model.specs.FaultLines.{faults_text, shows_if};
-ghost use Rattle.report_model.specs.Summary.{counted_fault_text};
-ghost use Rattle.report_model.specs.Whole.{Body as WholeBody};
+ghost use Rattle.report_model.specs.Report.{Section as WholeSection};
 ghost use Rattle.report_model.specs.WholeText.{text_report};
-ghost use Rattle.report_sections.specs.Bodies.{detail_by, CanReport, ListsBody, AreOnBase, AreClosed, whole_of};
-ghost use Rattle.report_sections.specs.Sections.{section_of, IsSection};
+ghost use Rattle.report_sections.specs.Bodies.{detail_by, CanReport, HasSections, AreOnBase, AreClosed, whole_of};
 ghost use Rattle.report_sections.specs.Showing.{shown_lists};
-ghost use Rattle.report_sections.specs.declared.section.Section.{Section};
-ghost use Rattle.report_text.specs.TextReport.{WritesSections, WritesFaults};
+ghost use Rattle.report_text.specs.TextReport.{WritesSections};
 
 use crate::head::write_head;
 use crate::parts::SectionLines;
 use crate::patches::write_explanation;
 use crate::promises::write_promises;
-use crate::rules::write_rules;
-use crate::summary::write_counted_fault;
-use crash_model::fault::FaultRow;
-use report_sections::{Body, CrashOutcome, Report};
+use report_sections::{CrashOutcome, Report};
 use section_lines::LineCache;
 use section_lines::lines::{write_faults as write_fault_lines, write_replay, write_set};
 use section_maker::{SectionMaker, write_together};
 use std::alloc::{AllocError, Allocator};
 use std::thread::Threads;
 
-/// A report as text: the lines of the head, for each patch its lines if that is asked for, and the body's lines.
+/// A report as text: the lines of the head, for each patch its lines if that is asked for, and those of each set.
 ///
 /// The patches change blocks of the base, and a crash can leave each set. Up to `workers` workers write sections
 /// side by side. It fails only when out of memory.
@@ -41,10 +35,8 @@ where
     R: Threads + Sync,
     A: Allocator + Copy + Send + Sync,
     requires { CanReport report.now }
-    ensures { IfOk result (λ text. (body : WholeBody)
-        × ListsBody (detail_by report.now) report.now.base.now report.now.traced.now.patches report.now.body
-        body
-        × (string_bytes text ≡ text_report report.now.settings.now (whole_of report.now body))) }
+    ensures { IfOk result (λ text. (sections : List WholeSection) × HasSections report.now sections
+        × (string_bytes text ≡ text_report report.now.settings.now (whole_of report.now sections))) }
 {
     let mut out = String::new(alloc);
     write_report(&mut out, rt, report, workers)?;
@@ -63,20 +55,20 @@ where
     A: Allocator + Copy + Send + Sync,
     requires empty { string_bytes out.old ≡ [] }
     requires listed { CanReport report.now }
-    ensures { OnOk result ((body : WholeBody)
-        × ListsBody (detail_by report.now) report.now.base.now report.now.traced.now.patches report.now.body
-        body
-        × (string_bytes out.new ≡ text_report report.now.settings.now (whole_of report.now body))) }
+    ensures { OnOk result ((sections : List WholeSection) × HasSections report.now sections
+        × (string_bytes out.new ≡ text_report report.now.settings.now (whole_of report.now sections))) }
 {
     let patches = report.traced.graph().len();
-    write_head(out, report.settings, patches, report.closed, report.failing)?;
+    write_head(
+        out,
+        report.settings,
+        patches,
+        report.closed,
+        report.sets.len(),
+    )?;
     write_explanation(out, report.traced, report.settings.explain)?;
     write_promises(out, report.traced, report.demands, report.settings.explain)?;
-    match report.body {
-        Body::Sets(sets) => write_together(out, rt, &SectionLines { report }, sets, workers)?,
-        Body::Faults(rows) => write_faults(out, report, rows)?,
-        Body::Rules(rules) => write_rules(out, patches, rules)?,
-    }
+    write_together(out, rt, &SectionLines { report }, report.sets, workers)?;
     Ok(())
 }
 
@@ -164,63 +156,4 @@ fn write_found<A: Allocator + Copy>(
         return write_fault_lines(out, &outcome.faults, &outcome.shows);
     }
     lines.push_faults(out, &outcome.faults)
-}
-
-/// The lines of each of the faults, with the first set that has it.
-fn write_faults<A: Allocator + Copy>(
-    out: &mut String<A>,
-    report: &Report<'_, '_, '_, '_, A>,
-    rows: &[FaultRow],
-) -> Result<(), AllocError>
-    requires on_base { AreOnBase report.now.base.now report.now.traced.now.patches }
-    requires closed { AreClosed report.now.traced.now.patches (map (λ row. row.first) rows.now) }
-    ensures { OnOk result (WritesFaults (detail_by report.now) report.now.base.now
-        report.now.traced.now.patches rows.now (string_bytes out.old) (string_bytes out.new)) }
-{
-    let graph = report.traced.graph();
-    let mut maker = SectionMaker::new(
-        *out.allocator(),
-        report.base,
-        graph,
-        report.settings.explain,
-        report.demands,
-    )?;
-    write_each_fault(out, &mut maker, graph.len(), rows)
-}
-
-/// The lines of each of the faults, by one maker of sections. The graph has `patches` patches.
-fn write_each_fault<A: Allocator + Copy>(
-    out: &mut String<A>,
-    maker: &mut SectionMaker<'_, A>,
-    patches: usize,
-    rows: &[FaultRow],
-) -> Result<(), AllocError>
-    requires number { patches ≡ length maker.old.patches }
-    requires closed { AreClosed maker.old.patches (map (λ row. row.first) rows.now) }
-    ensures { OnOk result (WritesFaults maker.old.detail maker.old.base maker.old.patches rows.now
-        (string_bytes out.old) (string_bytes out.new)) }
-{
-    for row in rows {
-        write_fault(out, maker, patches, row)?;
-    }
-    Ok(())
-}
-
-/// The lines of a fault, with the first set that has it. The graph has `patches` patches.
-fn write_fault<A: Allocator + Copy>(
-    out: &mut String<A>,
-    maker: &mut SectionMaker<'_, A>,
-    patches: usize,
-    row: &FaultRow,
-) -> Result<(), AllocError>
-    requires { IsClosed (deps_of maker.old.patches) row.now.first }
-    ensures listed { OnOk result ((section : Section A)
-        × IsSection maker.old.detail maker.old.base maker.old.patches row.now.first section
-        × (string_bytes out.new ≡ string_bytes out.old
-        ++ counted_fault_text patches (record { row = row.now; first = section_of section }))) }
-    ensures maker { maker.new ≡ maker.old }
-{
-    let section = maker.section(row.first)?;
-    write_counted_fault(out, patches, row, &section)?;
-    Ok(())
 }

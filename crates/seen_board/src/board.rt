@@ -52,7 +52,8 @@ impl<S: Space, A: Allocator + Copy> Board<S, A> {
     /// has the whole board, and its place. The entry waits, and pending and the count are 1, as closing the board with
     /// this seat would show. Opening is the only call that can run out of memory.
     ///
-    /// Each row has as many places as the limit, since one shard may have all words.
+    /// Each row has as many places as the limit, since one shard may have all words. A place takes 416 bytes, 32 in each
+    /// row.
     pub fn open(
         alloc: A,
         space: &S,
@@ -66,27 +67,9 @@ impl<S: Space, A: Allocator + Copy> Board<S, A> {
         ensures opening { IfOk result (λ t. IsWhole t.1.share
             × ((e : Ended) → Accounts (S.initial space.now) t.1 e → IsOpening (S.initial space.now) e)) }
     {
-        Board::open_with_rows(alloc, space, limit, limit)
-    }
-
-    /// A board like that of `open`, with `places` places in each row. It takes 416 bytes for each of them.
-    pub fn open_with_rows(
-        alloc: A,
-        space: &S,
-        limit: usize,
-        places: usize,
-    ) -> Result<(Board<S, A>, BoardSeat, Place), AllocError>
-        requires positive { (0 < limit) × (0 < places) }
-        requires small { (limit ≤ MAX_BOARD) × (places ≤ MAX_BOARD) }
-        ensures board { IfOk result (λ t. (t.0.limit ≡ limit) × (t.0.places ≡ places) × (t.0.space ≡ space.now)) }
-        ensures seat { IfOk result (λ t. t.1 ≡ first_known t.0.board limit places (S.initial space.now)) }
-        ensures start { IfOk result (λ t. Names t.1.seen t.2 (S.initial space.now)) }
-        ensures opening { IfOk result (λ t. IsWhole t.1.share
-            × ((e : Ended) → Accounts (S.initial space.now) t.1 e → IsOpening (S.initial space.now) e)) }
-    {
         let start = space.start();
         let (low, high) = halves_of(start);
-        let layout = Layout { places };
+        let layout = Layout { places: limit };
         let Probe { shard, first, .. } = layout.probe(start);
         let mut words = vec![in alloc; 0u64; layout.size()]?;
         words[PENDING] = 1;
@@ -98,7 +81,7 @@ impl<S: Space, A: Allocator + Copy> Board<S, A> {
         let about = About {
             space: Snapshot::of(space),
             limit,
-            places,
+            places: limit,
         };
         let (table, seat) = Table::of_words(alloc, words.as_slice(), &about)?;
         let mut counts = [0u16; SHARDS];

@@ -1,3 +1,1 @@
-pub mod Diamond
-pub mod Ladder
 pub mod Worker

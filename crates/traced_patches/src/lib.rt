@@ -5,7 +5,6 @@
 #![tactic(auto)]
 
 mod labels;
-mod pairs;
 mod reasons;
 mod traced;
 

@@ -10,10 +10,9 @@ use crate::judge::Judge;
 use crate::tally::SearchTally;
 use crate::trials::Trials;
 use question_model::{Places, SearchCounts};
-use set_sweep::Workers;
 use std::alloc::{AllocError, Allocator};
 use std::thread::Threads;
-use thread_jobs::Gate;
+use thread_jobs::{Gate, Workers};
 
 /// What a search finds, and the workloads that do not fail, in order, if they are kept.
 #[derive(Drop)]

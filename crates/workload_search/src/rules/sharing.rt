@@ -13,10 +13,10 @@ use crate::rules::judge::RuleJudge;
 use crate::rules::oracle::groups_of;
 use enough_rules::{EnoughSets, sets_of};
 use question_model::Places;
-use set_sweep::Workers;
 use std::alloc::{AllocError, Allocator};
 use std::thread;
 use std::thread::Threads;
+use thread_jobs::Workers;
 
 /// The minimal sets of rules that are enough for all workloads of a judge's search that do not fail, and the minimal
 /// groups of which one rule is needed, each in canonical order. `passing` are these workloads, in order, and the

@@ -18,7 +18,7 @@ decision_report-requires g c =
     c.in_ok-faults.ensures in
     record {
       on_base = c.requires.on_base;
-      closed = subst (λ fs. AreClosed script.traced.patches (map (λ f. f.first) fs)) (sym c.deref-2.ensures.value)
+      closed = subst (λ fs. AreClosed script.traced.patches (map (λ f. f.first) fs)) (sym c.deref.ensures.value)
           (decided_closed script.demands script.base.now script.traced.patches faults decided);
     }
 
@@ -33,12 +33,12 @@ returns-clause-reported g c = λ last is.
     c.in_ok-faults.ensures in
     let counted = subst (λ ps. CountsClosed ps c.closed_number.result) c.graph-2.ensures c.closed_number.ensures in
     let firsts = subst (λ fs. AreSections (detail_of settings script.demands) script.base.now script.traced.patches
-    (map (λ f. f.first) fs) (map (λ d. d.first) written.listed)) c.deref-2.ensures.value written.firsts in
+    (map (λ f. f.first) fs) (map (λ d. d.first) written.listed)) c.deref.ensures.value written.firsts in
     let many : c.len.result ≡ length faults = search rules in
     subst (λ n. IsDecision settings script.demands script.base.now last script.traced.patches text n) (sym many)
     (is_decision settings script.demands script.base.now script.traced last c.closed_number.result faults written.listed
     text
-    is counted decided (written.of_faults ∙ c.deref-2.ensures.value) firsts written.whole)
+    is counted decided (written.of_faults ∙ c.deref.ensures.value) firsts written.whole)
 
 pub returns-clause-safe : goal.returns-clause-safe
 returns-clause-safe g c = λ none.

@@ -10,7 +10,7 @@ use Rattle.crash_model.specs.Reasons.{Explanation}
 use Rattle.question_model.specs.EnoughReport.{IsListedIfAny, enough_bytes}
 use Rattle.question_reports.specs.Chosen.{choices_of}
 use Rattle.question_reports.specs.EnoughFindings.{listed_first, listed_group}
-use Rattle.crash_text.proofs.Bodies.{same_explanation}
+use Rattle.crash_text.proofs.FoundSets.{same_explanation}
 use Rattle.crash_text.proofs.Sparing.{number_of, none_number}
 use Rattle.crash_text.proofs.enough.report_chosen.Goals as goal
 

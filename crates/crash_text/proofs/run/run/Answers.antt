@@ -1,14 +1,13 @@
 use Rattle.std.proofs.Common.{rules, ◌≡◌, ◌≢◌, List, Result, Ok, Err, IfOk, IfErr, ap, subst, sym, ◌∙◌}
 use Rattle.std.specs.Prelude.{All, string_bytes}
 use Rattle.std.proofs.lemmas.Result.{IfErr-weaker, IfOk-weaker}
-use Rattle.report_model.specs.Answer.{Refused, Reported, untraced}
+use Rattle.report_model.specs.Answer.{Refused, Reported, IsReport, untraced}
 use Rattle.crash_model.specs.Refusals.{run_of_script}
 use Rattle.crash_model.specs.ChosenWaits.{up_to_wait}
 use Rattle.crash_model.specs.Script.{IsAct}
 use Rattle.crash_model.specs.declared.refusals.RunFault.TheVariants.{OutOfMemory}
 use Rattle.crash_model.specs.declared.steps.Step.{Step}
 use Rattle.question_model.specs.Answers.{IsAnswerTo}
-use Rattle.question_model.specs.Asked.{CanBeAsked}
 use Rattle.question_model.specs.Decision.{IsDecision}
 use Rattle.question_model.specs.EnoughReport.{IsEnoughReport}
 use Rattle.question_model.specs.LinesReport.{IsLinesReport}
@@ -19,7 +18,7 @@ use Rattle.crash_text.specs.SearchingRules.{IsRuleSearchOf}
 use Rattle.crash_text.specs.Traced.{IsTraced, IsTraceRefusal, RisksNothing, FindsRisksAlone}
 use Rattle.crash_text.proofs.Answering.{has_base, nothing_at_risk, finds_risks, refused_script, refused_base}
 use Rattle.crash_text.proofs.Answering.{refused_steps}
-use Rattle.crash_text.proofs.Answering.{reported_on, reported_visit, refused_visit, refused_pool, reported_pool}
+use Rattle.crash_text.proofs.Answering.{reported_on, refused_sets, refused_pool, reported_pool}
 use Rattle.crash_text.proofs.Answering.{reported_rules, refused_lines, refused_waits, whole_steps}
 use Rattle.crash_text.proofs.Pools.{are_acts}
 use Rattle.crash_text.proofs.run.run.Goals as goal
@@ -51,84 +50,81 @@ returns-in_err-built-clause-refused g c =
     (subst (λ s. IsBaseRefusal asked.settings s fault) c.deref.ensures.value
     (c.in_err-built.ensures.refused memory)))
 
--- ---- a visit
+-- ---- the sets that fail
 
-pub visited-answer-requires-clause-limit : goal.visited-answer-requires-clause-limit
-visited-answer-requires-clause-limit g c κs within = subst CanBeAsked c.in-Visit.is c.requires.asked
-
-pub returns-in_err-script-in-Visit-clause-refused : goal.returns-in_err-script-in-Visit-clause-refused
-returns-in_err-script-in-Visit-clause-refused g c =
+pub returns-in_err-script-in-FailingSets-clause-refused : goal.returns-in_err-script-in-FailingSets-clause-refused
+returns-in_err-script-in-FailingSets-clause-refused g c =
     let asked = c.args.request.now in
     let read = c.in_ok-read.read in
     let base = c.in_ok-built.built in
-    let fault = c.in_err-script-in-Visit.field-0.0 in
+    let fault = c.in_err-script-in-FailingSets.field-0.0 in
     let start = has_base c.args.script.now asked.settings read.base.items _ read.traced.items base
     c.in_ok-read.ensures.ok c.in_ok-built.ensures.lawful c.deref.ensures.value c.in_ok-built.ensures.built in
-    let same : c.from_residual-in_err-script-in-Visit.result ≡ Err fault = search rules in
+    let same : c.from_residual-in_err-script-in-FailingSets.result ≡ Err fault = search rules in
     subst (λ r. IfErr r (λ f. f ≢ OutOfMemory
     → IsAnswerTo asked.question c.args.script.now asked.settings (Refused f))) (sym same)
-    (λ memory. subst (λ q. IsAnswerTo q c.args.script.now asked.settings (Refused fault)) (sym c.in-Visit.is)
+    (λ memory. subst (λ q. IsAnswerTo q c.args.script.now asked.settings (Refused fault)) (sym c.in-FailingSets.is)
     (untraced fault (refused_steps c.args.script.now asked.settings base read.traced.items fault start
-    (subst (λ s. IsTraceRefusal asked.settings base s fault) c.deref-in-Visit.ensures.value
-    (c.in_err-script-in-Visit.ensures.refused memory)))))
+    (subst (λ s. IsTraceRefusal asked.settings base s fault) c.deref-in-FailingSets.ensures.value
+    (c.in_err-script-in-FailingSets.ensures.refused memory)))))
 
-pub returns-in-Visit-clause-reported : goal.returns-in-Visit-clause-reported
-returns-in-Visit-clause-reported g c =
+pub returns-in-FailingSets-clause-reported : goal.returns-in-FailingSets-clause-reported
+returns-in-FailingSets-clause-reported g c =
     let asked = c.args.request.now in
     let read = c.in_ok-read.read in
     let base = c.in_ok-built.built in
     let start = has_base c.args.script.now asked.settings read.base.items _ read.traced.items base
     c.in_ok-read.ensures.ok c.in_ok-built.ensures.lawful c.deref.ensures.value c.in_ok-built.ensures.built in
-    let script = c.in_ok-script-in-Visit.script in
-    let traced = subst (λ s. IsTraced asked.settings base s script) c.deref-in-Visit.ensures.value
-    c.in_ok-script-in-Visit.ensures.traced in
-    subst (λ q. IfOk c.visited-answer.result (λ outcome. IsAnswerTo q c.args.script.now asked.settings
-    (Reported (string_bytes outcome.text) outcome.number))) (sym c.in-Visit.is)
-    (IfOk-weaker c.visited-answer.result _ _
-    (λ outcome is. reported_visit c.args.script.now asked.settings c.in-Visit.visit base read.traced.items script
-    (string_bytes outcome.text) outcome.number start traced is)
-    c.visited-answer.ensures.reported)
+    let script = c.in_ok-script-in-FailingSets.script in
+    let traced = subst (λ s. IsTraced asked.settings base s script) c.deref-in-FailingSets.ensures.value
+    c.in_ok-script-in-FailingSets.ensures.traced in
+    subst (λ q. IfOk c.explored.result (λ outcome. IsAnswerTo q c.args.script.now asked.settings
+    (Reported (string_bytes outcome.text) outcome.number))) (sym c.in-FailingSets.is)
+    (IfOk-weaker c.explored.result _ _
+    (λ outcome is. reported_on c.args.script.now asked.settings (IsReport asked.settings c.in-FailingSets.limit) base
+    read.traced.items script (string_bytes outcome.text) outcome.number start traced is)
+    c.explored.ensures.reported)
 
-pub returns-in-Visit-clause-refused : goal.returns-in-Visit-clause-refused
-returns-in-Visit-clause-refused g c =
+pub returns-in-FailingSets-clause-refused : goal.returns-in-FailingSets-clause-refused
+returns-in-FailingSets-clause-refused g c =
     let asked = c.args.request.now in
     let read = c.in_ok-read.read in
     let base = c.in_ok-built.built in
     let start = has_base c.args.script.now asked.settings read.base.items _ read.traced.items base
     c.in_ok-read.ensures.ok c.in_ok-built.ensures.lawful c.deref.ensures.value c.in_ok-built.ensures.built in
-    let script = c.in_ok-script-in-Visit.script in
-    let traced = subst (λ s. IsTraced asked.settings base s script) c.deref-in-Visit.ensures.value
-    c.in_ok-script-in-Visit.ensures.traced in
-    subst (λ q. IfErr c.visited-answer.result (λ f. f ≢ OutOfMemory
-    → IsAnswerTo q c.args.script.now asked.settings (Refused f))) (sym c.in-Visit.is)
-    (IfErr-weaker c.visited-answer.result _ _
+    let script = c.in_ok-script-in-FailingSets.script in
+    let traced = subst (λ s. IsTraced asked.settings base s script) c.deref-in-FailingSets.ensures.value
+    c.in_ok-script-in-FailingSets.ensures.traced in
+    subst (λ q. IfErr c.explored.result (λ f. f ≢ OutOfMemory
+    → IsAnswerTo q c.args.script.now asked.settings (Refused f))) (sym c.in-FailingSets.is)
+    (IfErr-weaker c.explored.result _ _
     (λ fault says memory. let many = says memory in
-    refused_visit c.args.script.now asked.settings c.in-Visit.visit base read.traced.items script fault start traced
+    refused_sets c.args.script.now asked.settings c.in-FailingSets.limit base read.traced.items script fault start traced
     many.0 many.1)
-    c.visited-answer.ensures.too_many)
+    c.explored.ensures.too_many)
 
-pub returns-in-Visit-clause-full : goal.returns-in-Visit-clause-full
-returns-in-Visit-clause-full g c = λ full none nothing.
+pub returns-in-FailingSets-clause-full : goal.returns-in-FailingSets-clause-full
+returns-in-FailingSets-clause-full g c = λ full none nothing.
     let asked = c.args.request.now in
     let read = c.in_ok-read.read in
     let base = c.in_ok-built.built in
     let start = has_base c.args.script.now asked.settings read.base.items _ read.traced.items base
     c.in_ok-read.ensures.ok c.in_ok-built.ensures.lawful c.deref.ensures.value c.in_ok-built.ensures.built in
-    c.visited-answer.ensures.safe (c.in_ok-script-in-Visit.ensures.full full none
-    (nothing_at_risk c.args.script.now asked.settings base read.traced.items _ start c.deref-in-Visit.ensures.value
-    (subst (λ q. RisksNothing q c.args.script.now asked.settings) c.in-Visit.is nothing)))
+    c.explored.ensures.safe (c.in_ok-script-in-FailingSets.ensures.full full none
+    (nothing_at_risk c.args.script.now asked.settings base read.traced.items _ start c.deref-in-FailingSets.ensures.value
+    (subst (λ q. RisksNothing q c.args.script.now asked.settings) c.in-FailingSets.is nothing)))
 
-pub returns-in-Visit-clause-at_risk : goal.returns-in-Visit-clause-at_risk
-returns-in-Visit-clause-at_risk g c = λ full none.
+pub returns-in-FailingSets-clause-at_risk : goal.returns-in-FailingSets-clause-at_risk
+returns-in-FailingSets-clause-at_risk g c = λ full none.
     let asked = c.args.request.now in
     let read = c.in_ok-read.read in
     let base = c.in_ok-built.built in
     let start = has_base c.args.script.now asked.settings read.base.items _ read.traced.items base
     c.in_ok-read.ensures.ok c.in_ok-built.ensures.lawful c.deref.ensures.value c.in_ok-built.ensures.built in
-    always c.visited-answer.result
-    (subst (λ q. FindsRisksAlone q c.args.script.now asked.settings) (sym c.in-Visit.is)
-    (finds_risks c.args.script.now asked.settings base read.traced.items _ start c.deref-in-Visit.ensures.value
-    (c.in_ok-script-in-Visit.ensures.at_risk full none)))
+    always c.explored.result
+    (subst (λ q. FindsRisksAlone q c.args.script.now asked.settings) (sym c.in-FailingSets.is)
+    (finds_risks c.args.script.now asked.settings base read.traced.items _ start c.deref-in-FailingSets.ensures.value
+    (c.in_ok-script-in-FailingSets.ensures.at_risk full none)))
 
 -- ---- a decision
 

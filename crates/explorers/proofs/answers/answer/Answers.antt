@@ -4,6 +4,7 @@ use Rattle.seen_board.specs.Known.{Known}
 use Rattle.seen_board.specs.Ended.{claims_made}
 use Rattle.explorers.specs.Ready.{Counts}
 use Rattle.explorers.proofs.Counting.{made_few, made_each, total_is}
+use Rattle.explorers.proofs.Overfilling.{overfills_rows}
 use Rattle.explorers.proofs.answers.answer.Goals as goal
 
 pub returns-then-is_over-clause-too_many : goal.returns-then-is_over-clause-too_many
@@ -11,7 +12,8 @@ returns-then-is_over-clause-too_many g c = λ _.
     let same = c.finished-is_finished.ensures.no c.if-is_finished.false in
     let over : c.finished-is_finished.new.seat.over ≡ 1 = ap (λ (seat : Known). seat.over) same
     ∙ c.requires.output.0.1 c.if-is_over.true in
-    rw (c.requires.board.0, c.requires.board.1, c.requires.board.2) at c.close-contents.ensures.over over
+    overfills_rows _ c.args.limit
+    (rw (c.requires.board.0, c.requires.board.1, c.requires.board.2) at c.close-contents.ensures.over over)
 
 pub returns-then-is_finished-clause-each_once : goal.returns-then-is_finished-clause-each_once
 returns-then-is_finished-clause-each_once g c =

@@ -18,9 +18,9 @@ returns-clause-found g c =
     omega (arith, fits, c.requires.small) in
     record {
       total = (concat e.rows, c.requires.done.list, sym c.count_entries-total.ensures);
-      within = c.if-total-room.false;
+      within = c.if-total-limit.false;
       broken = all_in_order (λ w. IsReached next start w × (good w → ⊥)) l c.in_order.result.items
-          (broken_all e next start c.args.room.places good l c.requires.entries c.requires.settled c.requires.done short
+          (broken_all e next start c.args.limit good l c.requires.entries c.requires.settled c.requires.done short
           c.in_ok-broken.ensures)
           c.in_order.ensures.same c.in_order.ensures.ordered;
     }

@@ -1,6 +1,5 @@
-use Rattle.explorers.proofs.Overfilling.{overfills_any}
+use Rattle.explorers.proofs.Counting.{made_none}
 use Rattle.explorers.proofs.exploring.explore.Goals as goal
 
-pub returns-clause-too_many : goal.returns-clause-too_many
-returns-clause-too_many g c = λ is. overfills_any _ c.args.limit c.for_any.result.limit c.for_any.result.places
-    c.for_any.ensures.limit c.for_any.ensures.places (c.explore_in_room.ensures.too_many is)
+pub returns-in-Err-clause-at_most_once : goal.returns-in-Err-clause-at_most_once
+returns-in-Err-clause-at_most_once g c = made_none _

@@ -3,11 +3,11 @@ use Rattle.report_json.proofs.report.write_report.Goals as goal
 
 pub returns : goal.returns
 returns g c =
-    let early = c.in_ok-write_early.ensures in (
-      early.0,
-      early.1,
-      whole_text c.args.report.now early.0 _ _ _ _ _ _ _ _ c.requires.empty c.in_ok-push_str.ensures.bytes
+    let failing = c.in_ok-write_failing.ensures in (
+      failing.0,
+      failing.1,
+      whole_text c.args.report.now failing.0 _ _ _ _ _ _ _ _ c.requires.empty c.in_ok-push_str.ensures.bytes
           (c.in_ok-write_first_keys.ensures c.args.report.now.traced.now) c.in_ok-write.ensures.bytes
-          c.in_ok-write_promise_keys.ensures early.2
-          (c.in_ok-write_from_module.ensures early.0 early.1) c.in_ok-push_str-2.ensures.bytes,
+          c.in_ok-write_promise_keys.ensures failing.2 c.in_ok-write_from_module.ensures
+          c.in_ok-push_str-2.ensures.bytes,
     )

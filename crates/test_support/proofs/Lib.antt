@@ -1,2 +1,0 @@
-mod Asks
-mod Shapes

@@ -1,4 +1,0 @@
-pub mod Computed
-pub mod Examples
-pub mod Spelled
-pub mod Opened
