@@ -2,7 +2,7 @@
 
 from . import report_json, report_text
 from .explore import explore, fails
-from .summary import counted_faults
+from .verdicts import first_of_each_fault
 
 
 def decision(found, settings, closed, decided):
@@ -15,7 +15,7 @@ def decision(found, settings, closed, decided):
 def report(found, settings):
     """The report of an answer."""
     if found.search is None and (settings.decide or settings.enough):
-        return decision(found, settings, len(found.closed), counted_faults(found.failing))
+        return decision(found, settings, len(found.closed), first_of_each_fault(found.failing))
     if settings.json:
         value = report_json.report_value if found.search is None else report_json.search_value
         return report_json.text_of(found, settings, value(found, settings))

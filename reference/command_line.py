@@ -11,21 +11,18 @@ from .settings import MOST_PATCHES, Settings
 
 MOST_BYTES = 1048576
 MOST_GIVEN = 16
-MOST_ON_A_BOARD = 32768
+MOST_CLOSED_SETS = 32768
 
 TOO_MUCH = 3
 """The exit status where the question is too big for the reference. Crashmap has 0, 1 and 2."""
 
-NUMBERS = {"blocks": (16, 16, 128), "journal": (0, 0, 122), "limit": (4096, 1, 10 ** 9), "workers": (1, 1, 16),
-           "search": (None, 1, 8), "max-patches": (MOST_PATCHES, 1, MOST_PATCHES),
+NUMBERS = {"blocks": (16, 16, 128), "journal": (0, 0, 122), "limit": (4096, 1, MOST_CLOSED_SETS),
+           "workers": (1, 1, 16), "search": (None, 1, 8), "max-patches": (MOST_PATCHES, 1, MOST_PATCHES),
            "max-script-bytes": (MOST_BYTES, 0, 10 ** 9)}
 """Options with a number: the number without the option, the least and the greatest."""
 
-CHOICES = {"module": ("soft", MODULES), "explorer": ("auto", ("auto", "board", "sweep"))}
-"""Options with a word: the word without the option, and all words."""
-
-FLAGS = ("json", "explain", "summary", "needs", "strict", "atomic", "whole-blocks", "decide", "enough", "generations",
-         "durable", "syncs", "numbers")
+FLAGS = ("json", "explain", "strict", "atomic", "whole-blocks", "decide", "enough", "generations", "durable", "syncs",
+         "numbers")
 
 
 class CommandLineFault(Exception):
@@ -86,8 +83,7 @@ def parser_of_words():
     parser.add_argument("script", nargs="?", metavar="SCRIPT")
     for name, (default, low, high) in NUMBERS.items():
         parser.add_argument("--" + name, default=default, action=once(number_between(low, high)))
-    for name, (default, values) in CHOICES.items():
-        parser.add_argument("--" + name, default=default, action=once(one_of(values)))
+    parser.add_argument("--module", default="soft", action=once(one_of(MODULES)))
     for name in FLAGS:
         parser.add_argument("--" + name, action="store_true")
     parser.add_argument("--faults", dest="counted", action=once(numbers_of_faults))
@@ -114,22 +110,16 @@ def check_rules(parser, call):
 
 def check_questions(parser, call):
     """Refuses options that do not go together."""
-    if call.needs and call.summary:
-        parser.error("--needs with --summary")
-    given = getattr(call, "given", set())
     asked = [name for name, is_asked in (("decide", call.decide), ("enough", call.enough),
                                          ("search", call.search is not None)) if is_asked]
-    for name in ("summary", "needs", "limit", "explorer") if asked else ():
-        if name in given or getattr(call, name) is True:
-            parser.error("--%s with --%s" % (asked[0], name))
+    if asked and "limit" in getattr(call, "given", set()):
+        parser.error("--%s with --limit" % asked[0])
     if call.decide and len(asked) > 1:
         parser.error("--decide with --%s" % asked[1])
     if call.syncs and (not call.enough or call.search is not None):
         parser.error("--syncs without --enough of one script")
     if call.numbers and not call.json:
         parser.error("--numbers without --json")
-    if call.explorer == "board" and call.limit > MOST_ON_A_BOARD:
-        parser.error("--explorer board: a limit above %d" % MOST_ON_A_BOARD)
 
 
 def read_words(words):

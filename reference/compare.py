@@ -1,10 +1,10 @@
 """python3 -m reference.compare PROGRAM [--count N] [--seed S] [--workers 1,4] [--options LEVEL] [--big] [--jobs J]
 
-Runs a program on random cases, with each number of workers and both explorers, and compares standard output, the exit
-status and standard error with what the reference answers. Where the command line is at fault, standard error must only
-not be empty. Every other case gets its script as a file, the rest on standard input. PROGRAM may have several words,
-quoted as for a shell. A case that is too much for the reference counts as failed. With --big the cases are scripts of
-100 to 124 patches with `--decide`, which the second way of the reference answers; such a case takes it some seconds.
+Runs a program on random cases, with each number of workers, and compares standard output, the exit status and standard
+error with what the reference answers. Where the command line is at fault, standard error must only not be empty. Every
+other case gets its script as a file, the rest on standard input. PROGRAM may have several words, quoted as for a shell.
+A case that is too much for the reference counts as failed. With --big the cases are scripts of 100 to 124 patches with
+`--decide`, which the second way of the reference answers; such a case takes it some seconds.
 Prints each difference and a last line `N passed, M failed`; the exit status is 1 where something differs.
 """
 
@@ -17,13 +17,11 @@ import sys
 import tempfile
 from collections import namedtuple
 
-from .command_line import MOST_ON_A_BOARD, TOO_MUCH
+from .command_line import TOO_MUCH
 from .level import LEVEL, LEVELS, raise_to
 from .random_cases.big import make_big_case
 from .random_cases.make import make_case
 from .runs import Run, differences, run_program, run_reference, run_second_way
-
-EXPLORERS = ("board", "sweep")
 
 BIG = "big"
 """The level of big scripts with `--decide`."""
@@ -58,12 +56,7 @@ def ways_of(case, workers):
     """The options that a case is run with, one list for each run."""
     if not case.is_plain():
         return [[]]
-    counts = [["--workers", str(count)] for count in workers]
-    if case.decide or case.enough or case.search:
-        return counts
-    fits_a_board = case.limit is None or case.limit <= MOST_ON_A_BOARD
-    explorers = EXPLORERS if fits_a_board else EXPLORERS[1:]
-    return [["--explorer", explorer] + count for explorer in explorers for count in counts]
+    return [["--workers", str(count)] for count in workers]
 
 
 def run_ways(plan, case, words, given, wanted):

@@ -5,19 +5,18 @@ from collections import namedtuple
 from .closed_sets import closed_sets
 from .disk import formatted
 from .enough import enough_lines_of, enough_of
-from .needs import needs_of
 from .rules import ordering, put_in, taken_out
 from .script import PROMISE_ACTS, WAIT_ACTS, build_base, read_script
 from .search import search
 from .trace import trace
 from .work import Work
 
-Found = namedtuple("Found", "base patches closed failing without added needs enough search"
+Found = namedtuple("Found", "base patches closed failing without added enough search"
                             " promises waits tells_promises",
-                   defaults=(None, None, None, None, None, None, None, None, (), (), False))
+                   defaults=(None, None, None, None, None, None, None, (), (), False))
 """The parts of an answer: the base, the patches, the closed and the failing sets, the rules that were taken out and
-put in, and what `--needs`, `--enough` and `--search` found. What was not asked for is None. `promises` and `waits` are
-those of the script, and `tells_promises` says whether it has a line of either kind."""
+put in, and what `--enough` and `--search` found. What was not asked for is None. `promises` and `waits` are those of
+the script, and `tells_promises` says whether it has a line of either kind."""
 
 
 def start(script, settings):
@@ -59,15 +58,13 @@ def found_without_limit(found, steps, rules, settings):
 
 
 def found_within_limit(found, steps, rules, settings):
-    """The answer to all other questions."""
+    """The answer with every failing set."""
     patches = trace(found.base, steps, settings, rules)
     closed = closed_sets(patches, settings.limit)
     work = Work(found.base, steps, settings)
     promises = work.promises()
     failing = work.judge.failing(patches, closed, promises)
-    needs = needs_of(work, rules, patches) if settings.needs else None
-    return found._replace(patches=patches, closed=closed, failing=failing, needs=needs, promises=promises,
-                          waits=work.waits())
+    return found._replace(patches=patches, closed=closed, failing=failing, promises=promises, waits=work.waits())
 
 
 def fails(found):

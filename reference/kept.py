@@ -7,7 +7,7 @@ import shlex
 import subprocess
 from collections import namedtuple
 
-from .noise import images, listed
+from .noise import listed
 from .runs import Run, differences, run_either_way, run_reference
 
 TOP = pathlib.Path(__file__).resolve().parent.parent
@@ -98,11 +98,11 @@ def page():
     return values + [Value(str(path.relative_to(TOP)), "has no script in cases.mjs", None) for path in lonely]
 
 
-# The noise: images that a program crate makes from the same seeds, and those that a file lists for both.
+# The images that a file lists for a program crate and for the reference.
 
 
 def noise_images():
-    """The answers on images of noise and on listed images, which the program's `stdout` has."""
+    """The answers on listed images, which the program's `stdout` has."""
     folder = TOP / "crates" / "hostile_images"
-    lines = images.lines() + listed.lines((folder / "stdin").read_text())
+    lines = listed.lines((folder / "stdin").read_text())
     return [file_value(folder / "stdout", "".join(line + "\n" for line in lines).encode())]

@@ -2,7 +2,7 @@
 
 Tries the reference against itself on random cases, by laws that follow from the definitions:
 
-decide: `--decide` is `--summary` without its numbers of failing sets.
+decide: `--decide` has each fault of the failing sets once, with the first set that has it.
 enough: a list of rules that is made with `--without` and `--with` alone is free of failing sets exactly where it has
     all rules of a list that `--enough` prints. The lists are the smallest that have a rule of each line `needs`, and
     each block there is the first one of `--decide` without those rules.
@@ -33,13 +33,12 @@ from .level import LEVELS, raise_to
 from .promise_laws import check_promises
 from .random_cases.make import chance_of, make_case
 from .refusals import Refusal, TooMuch
-from .report_json import compact
 from .rules import JOURNAL_RULES, PARTS, ordering, rules_of, written
 from .script import read_script, spelled
 from .second_way import decide
 from .settings import Settings
-from .summary import counted_faults
 from .trace import trace
+from .verdicts import each_fault, in_order
 
 LIMIT = 10 ** 6
 SHARES = [0.3, 0.6, 0.8, 0.9, 0.95] * 12
@@ -81,17 +80,20 @@ def first_block(script, settings, **others):
     return json.loads(answer(script, settings)[0])["faults"][0]
 
 
+def set_alone(value):
+    """A set of a report without its faults."""
+    return {key: one for key, one in value.items() if key in ("set", "writes", "replay")}
+
+
 def check_decide(laws, script, settings):
-    """`--decide` is `--summary` without its numbers of failing sets."""
-    summary = limited(script, settings, summary=True, json=False)
-    rows = [row for row in summary[0].split("\n") if row.split(" ")[0] not in ("failing", "sets")]
-    laws.check("decide, text", answer(script, settings._replace(json=False)), ("\n".join(rows), summary[1]))
-    value = json.loads(limited(script, settings, summary=True, json=True)[0])
-    value["closed"] = str(value["closed"])
-    del value["sets"]
-    for one in value["faults"]:
-        del one["sets"]
-    laws.check("decide, json", answer(script, settings._replace(json=True))[0], compact(value))
+    """`--decide` has each fault of the failing sets once, with the first set that has it."""
+    first = {}
+    for one in json.loads(limited(script, settings, json=True)[0])["failing"]:
+        for text in one["faults"]:
+            first.setdefault(text, set_alone(one))
+    faults = json.loads(answer(script, settings._replace(json=True))[0])["faults"]
+    laws.check("decide, faults", [one["fault"] for one in faults], [text for text, _ in in_order(first.items())])
+    laws.check("decide, first sets", {one["fault"]: set_alone(one) for one in faults}, first)
 
 
 def is_safe(script, settings, rules):
@@ -99,7 +101,7 @@ def is_safe(script, settings, rules):
     words = [written(rule) for rule in rules]
     without = tuple(word for word in rules_of(settings.module) if word not in words)
     added = tuple(word for word in settings.added if word in words)
-    return not limited(script, settings, summary=True, json=False, without=without, added=added)[1]
+    return not limited(script, settings, without=without, added=added)[1]
 
 
 def lists_to_try(chance, rules, listed):
@@ -172,8 +174,7 @@ class SingleScripts:
         rows = self.base + ["start"] + self.keeps + [self.pool[place] for place in places]
         script = "".join(row + "\n" for row in rows).encode()
         try:
-            return list(map(without_shows, json.loads(
-                limited(script, self.settings, json=True, summary=False)[0])["failing"]))
+            return list(map(without_shows, json.loads(limited(script, self.settings, json=True)[0])["failing"]))
         except Refusal as refusal:
             return refusal.number
 
@@ -237,15 +238,13 @@ def check_before(laws, chance, case):
 
 def check_two_ways(laws, chance, case):
     """The second way, on a small script."""
-    asked = case.settings()._replace(summary=False, needs=False, search=None, strict=chance.random() < 0.5,
-                                     atomic=chance.random() < 0.5)
+    asked = case.settings()._replace(search=None, strict=chance.random() < 0.5, atomic=chance.random() < 0.5)
     added = case.added + [rule for rule in BEFORE if chance.random() < 0.3 and rule not in case.added]
     asked = asked._replace(added=tuple(added), decide=True, enough=False)
     if not case.has_too_many(1500, ordering(case.module, case.without, added)):
         laws.check("two ways, decide", decide.answer(case.script, asked), answer(case.script, asked))
         laws.check("two ways, numbers", decide.numbers_of(case.script, asked), [
-            (text, sets, first.patch_set)
-            for text, sets, first in counted_faults(explore(case.script, asked).failing)])
+            (text, len(some), some[0].patch_set) for text, some in each_fault(explore(case.script, asked).failing)])
     if len(added) <= 3 and not case.has_too_many(1500, []):
         asked = asked._replace(decide=False, enough=True)
         laws.check("two ways, enough", decide.answer(case.script, asked), answer(case.script, asked))

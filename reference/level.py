@@ -2,8 +2,8 @@
 
 LEVELS = ("plain", "extended", "deciding", "choosing", "searching", "reaching", "all", "operations", "promises",
           "syncs", "numbers")
-"""`plain`: those of the first release. `extended`: also rules, `--explain`, `--summary`, `--needs` and `--strict`.
-`deciding`: also `--decide`. `choosing`: also `--enough`. `searching`: also `--search`. `reaching`: also
+"""`plain`: those of the first release. `extended`: also rules, `--explain` and `--strict`. `deciding`: also
+`--decide`. `choosing`: also `--enough`. `searching`: also `--search`. `reaching`: also
 `--whole-blocks`, rules with `before`, and `--search` with `--enough`. `all`: also `--atomic`. `operations`: also
 `overwrite`, `truncate` and `replace`, the soft rule `MapClear:PtrClear`, and `--generations`. `promises`: also `sync`
 and `fsync`, `keep`, `hold` and `spare`, `--durable` and `--faults`. `syncs`: also `--enough --syncs`. `numbers`: also

@@ -70,7 +70,7 @@ def failing_sets(script, settings):
 def check_syncs(laws, chance, case):
     """Where more lines wait, no set fails that did not; and a set of lines is enough where the script is, in which only
     these lines are left. A promise of `--durable` would stay where its line is taken out, so it is not asked for."""
-    settings = case.settings()._replace(durable=False, decide=False, summary=False, needs=False, search=None)
+    settings = case.settings()._replace(durable=False, decide=False, search=None)
     found = explore(case.script, settings._replace(enough=True, syncs=True))
     lines = [wait.line for wait in found.waits]
     fewer = [line for line in lines if chance.random() < 0.5]
@@ -90,8 +90,8 @@ def check_hold(laws, case):
     if not fsyncs or len(others) != len(traced):
         return
     at = fsyncs[-1]
-    settings = case.settings()._replace(search=None, enough=False, syncs=False, decide=False, summary=False,
-                                        needs=False, limit=LIMIT, counted=(BROKEN_PROMISE,), strict=False, atomic=False)
+    settings = case.settings()._replace(search=None, enough=False, syncs=False, decide=False, limit=LIMIT,
+                                        counted=(BROKEN_PROMISE,), strict=False, atomic=False)
     held = script_of(base, traced[:at + 1] + ["hold " + traced[at][6:]] + traced[at + 1:])
     by_hold = explore(held, settings._replace(durable=False))
     by_fsync = explore(script_of(base, traced), settings._replace(durable=True))

@@ -9,7 +9,6 @@ from .promises import allowed_to_some, spare_texts
 from .refusals import REFUSAL_TEXTS
 from .rules import written
 from .script import spelled_path
-from .summary import each_fault
 from .verdicts import shows_of
 
 
@@ -99,22 +98,9 @@ def section_value(one, detail):
     return value
 
 
-def need_value(need, detail):
-    """What one rule is needed for."""
-    value = {"rule": written(need.rule), "pairs": need.pairs}
-    if need.pairs and need.closed is None:
-        value["too_many"] = True
-    elif need.pairs:
-        value["closed"] = need.closed
-        value["failing"] = need.failing
-        if need.first:
-            value["first"] = section_value(need.first, detail)
-    return value
-
-
 def fault_value(fault, detail):
     """A fault and the first set that has it."""
-    text, _, first = fault
+    text, first = fault
     shows = shows_of(first)
     value = dict(set_value(first, detail), fault=text)
     if detail.shown:
@@ -170,15 +156,9 @@ def decision_value(found, settings, closed, decided):
 
 
 def report_value(found, settings):
-    """The report of all other questions."""
+    """The report with every failing set."""
     detail = Detail(found, settings)
     value = dict(trace_value(found, settings), closed=len(found.closed), patches=len(found.patches))
-    if found.needs is not None:
-        return dict(value, failing=len(found.failing), rules=[need_value(need, detail) for need in found.needs])
-    if settings.summary:
-        return dict(value, sets=len(found.failing), faults=[
-            dict(fault_value((text, None, having[0]), detail), sets=len(having))
-            for text, having in each_fault(found.failing)])
     return dict(value, failing=[section_value(one, detail) for one in found.failing])
 
 

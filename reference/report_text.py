@@ -6,7 +6,6 @@ from .promises import allowed_to_some, spare_texts
 from .refusals import REFUSAL_TEXTS
 from .rules import written
 from .script import spelled_path
-from .summary import counted_faults
 from .verdicts import shows_of
 
 
@@ -71,20 +70,9 @@ def section_lines(one, explain):
     return set_lines(one, explain) + [line for text in one.faults for line in told_lines(one, text, explain)]
 
 
-def need_lines(need, explain):
-    """What one rule is needed for."""
-    head = "rule %s pairs %d" % (written(need.rule), need.pairs)
-    if need.pairs == 0:
-        return [head]
-    if need.closed is None:
-        return [head + " too many"]
-    lines = [head + " closed %d failing %d" % (need.closed, need.failing)]
-    return lines + (section_lines(need.first, explain) if need.first else [])
-
-
 def fault_lines(fault, explain):
     """A fault and the first set that has it."""
-    text, _, first = fault
+    text, first = fault
     return told_lines(first, text, explain) + set_lines(first, explain)
 
 
@@ -128,21 +116,10 @@ def decision_lines(found, settings, closed, decided):
     return lines + [line for fault in decided for line in fault_lines(fault, settings.explain)]
 
 
-def summary_lines(found, settings):
-    """Each fault once."""
-    return [line for text, sets, first in counted_faults(found.failing)
-            for line in told_lines(first, text, settings.explain) + ["sets %d" % sets]
-            + set_lines(first, settings.explain)]
-
-
 def report_lines(found, settings):
-    """The report of all other questions."""
+    """The report with every failing set."""
     lines = ["patches %d" % len(found.patches), "closed %d" % len(found.closed), "failing %d" % len(found.failing)]
     lines += trace_lines(found, settings)
-    if found.needs is not None:
-        return lines + [line for need in found.needs for line in need_lines(need, settings.explain)]
-    if settings.summary:
-        return lines + summary_lines(found, settings)
     return lines + [line for one in found.failing for line in section_lines(one, settings.explain)]
 
 

@@ -35,7 +35,7 @@ def run_either_way(words, script):
 def answer_either_way(script, settings):
     """As `answer`, by the second way where there are too many closed sets to enumerate, or where `--enough` comes to
     too many without some of the rules."""
-    if settings.search is None and not settings.needs and prepared(script, settings)[-1] > MOST_SETS:
+    if settings.search is None and prepared(script, settings)[-1] > MOST_SETS:
         return second_answer(script, settings)
     try:
         return answer(script, settings)

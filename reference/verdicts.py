@@ -1,5 +1,6 @@
 """Which closed sets fail, and how."""
 
+import re
 from collections import namedtuple
 
 from .closed_sets import writes_to
@@ -15,6 +16,26 @@ it, and the texts of the faults. `shows` has for each broken promise among these
 def shows_of(one):
     """What is shown for each broken promise of a failing set, by the fault's text."""
     return dict(zip([text for text in one.faults if number_of(text) == BROKEN_PROMISE], one.shows))
+
+
+def in_order(rows):
+    """Rows that begin with the text of a fault, in the order of reports: by the number of the fault, and then by the
+    numbers in its text."""
+    return sorted(rows, key=lambda row: [int(number) for number in re.findall("[0-9]+", row[0])])
+
+
+def each_fault(failing):
+    """Each fault of failing sets with the sets that have it, in the order of reports."""
+    having = {}
+    for one in failing:
+        for text in one.faults:
+            having.setdefault(text, []).append(one)
+    return in_order(having.items())
+
+
+def first_of_each_fault(failing):
+    """Each fault of failing sets with the first set that has it, in the order of reports."""
+    return [(text, some[0]) for text, some in each_fault(failing)]
 
 
 Look = namedtuple("Look", "replay faults wrong")

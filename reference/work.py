@@ -1,13 +1,12 @@
 """A workload: a base with traced steps, whose sets can be judged under any rules."""
 
 from .closed_sets import closed_sets, is_closed
-from .needs import pairs_of
 from .promises import promises_of
 from .refusals import TooMuch
+from .rules import written
 from .script import spelled
-from .summary import counted_faults
 from .trace import trace
-from .verdicts import Judge
+from .verdicts import Judge, first_of_each_fault
 from .waits import waits_of
 
 NOT_YET = object()
@@ -51,11 +50,12 @@ class Work:
 
     def first_faults(self, rules, waiting):
         """The first fault under the rules, in a list, or an empty list."""
-        return counted_faults(self.failing(rules, waiting))[:1]
+        return first_of_each_fault(self.failing(rules, waiting))[:1]
 
     def matter(self, rules):
         """Those of the rules that put a pair of patches in order. The others change nothing."""
-        return [rule for rule in rules if pairs_of(rule, self.graph_by(rule)) > 0]
+        return [rule for rule in rules if any(
+            written(rule) in why for patch in self.graph_by(rule) for why in patch.why.values())]
 
     def failing_without_rules(self):
         """The sets that fail where no rule puts anything in order, or None where there are too many sets."""
@@ -79,8 +79,8 @@ class Work:
         return any(not any(self.is_excluded(rule, patch_set) for rule in rules) for patch_set in without)
 
     def first_fault(self, rules):
-        """The first fault under the rules: (text, number of sets, first set)."""
-        return counted_faults(self.failing(rules))[0]
+        """The first fault under the rules: its text and the first set that has it."""
+        return first_of_each_fault(self.failing(rules))[0]
 
     def fails(self, rules):
         """Whether a set fails under the rules."""

@@ -16,13 +16,17 @@ export const RULES = {
     .filter(why => why.includes(":")),
 };
 
+/** For which file systems with a metadata journal an answer holds. */
+const AT_ONCE = "That is so on a file system which allocates a block when it is written, as ext3 does. XFS and ext4 "
+  + "allocate blocks later, and crashmap-judge asks about them too. ";
+
 /** Lines that wait, which go by their numbers. */
 const LINES = {
   one: "line", many: "lines", title: "Lines that have to wait", isNeeded: "has to wait", none: "No line has to wait",
   noneAtAll: "no line at all", needed: ["line has to wait", "lines have to wait"],
   whole: "All lines together are", notEnough: "the lines are not enough",
-  withNone: clean => `No line has to wait: if none waits, replay leaves ${clean} after every crash. `
-    + "The graph has no arrow of a line.",
+  withNone: (clean, module) => `No line has to wait: if none waits, replay leaves ${clean} after every crash. `
+    + `${module === "meta" ? AT_ONCE : ""}The graph has no arrow of a line.`,
   alone: isOne => `If only ${isOne ? "it waits" : "they wait"}`,
   withoutIt: "Without it this crash is possible, even if all the other lines wait.",
   withoutThem: "If none of them waits, this crash is possible. If any one of them and all the other lines wait",

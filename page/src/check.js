@@ -5,7 +5,7 @@ import {
 } from "./form.js";
 import { checkPromises } from "./promises.js";
 
-/** Longer lists of faults, rules, sets of rules or lines, or failing sets are shown up to here. */
+/** Longer lists of faults, of failing sets, or of sets of rules or lines are shown up to here. */
 export const MOST_CHOICES = 500;
 const MOST_PATCHES = 1000;
 const BLOCK_BYTES = 128, FEWEST_BLOCKS = 16, MOST_BLOCKS = 128, OUTSIDE_JOURNAL = 6;
@@ -88,9 +88,8 @@ function checkChange(place, change, report) {
 
 /* --- what can be chosen --- */
 
-/** A decision has no numbers of failing sets, and its number of closed sets is a text. */
-export const isDecision = ({ faults, closed, sets }) =>
-  faults !== undefined && typeof closed === "string" && sets === undefined;
+/** A decision lists faults, and its number of closed sets is a text. */
+export const isDecision = ({ faults }) => faults !== undefined;
 
 /** What is enough; there too the number of closed sets is a text. */
 export const isOfEnough = ({ enough }) => enough !== undefined;
@@ -98,7 +97,6 @@ export const isOfEnough = ({ enough }) => enough !== undefined;
 function checkFault(place, one, report) {
   checkObject(place, one);
   checkText(`${place}.fault`, one.fault);
-  if (!isDecision(report) && !isOfEnough(report)) checkCount(`${place}.sets`, one.sets, 1, report.closed);
   checkSet(place, one, report);
 }
 
@@ -117,18 +115,6 @@ function checkSome(place, some, { waits = [] }, isOfLine) {
   checkList(place, some);
   some.forEach((line, k) =>
     must(waits.some(wait => wait.line === line), `${place}[${k}]`, "the line of one of waits", line));
-}
-
-function checkRule(place, one, report) {
-  checkObject(place, one);
-  checkText(`${place}.rule`, one.rule);
-  checkCount(`${place}.pairs`, one.pairs, 0);
-  if (one.too_many !== undefined) must(one.too_many === true, `${place}.too_many`, "true", one.too_many);
-  if (one.pairs > 0 && !one.too_many) {
-    checkCount(`${place}.closed`, one.closed, 1);
-    checkCount(`${place}.failing`, one.failing, 0, one.closed);
-  }
-  if (one.first !== undefined) checkFailing(`${place}.first`, one.first, report);
 }
 
 export function checkFailing(place, one, report) {
@@ -183,16 +169,12 @@ function checkEnough(json) {
 }
 
 function checkLists(json) {
-  const [name, check] = json.faults !== undefined ? ["faults", checkFault]
-    : json.rules !== undefined ? ["rules", checkRule] : ["failing", checkFailing];
+  const [name, check] = isDecision(json) ? ["faults", checkFault] : ["failing", checkFailing];
   if (json[name] === undefined) {
-    throw new ReportError("This report lists no faults, no rules and no failing sets. "
-      + "Make it with --json --explain --summary.");
+    throw new ReportError("This report lists no faults and no failing sets. Make it with --json --explain --decide.");
   }
   checkList(name, json[name]);
-  if (name === "rules") checkCount("failing", json.failing, 0, json.closed);
-  else if (name === "faults" && !isDecision(json)) checkCount("sets", json.sets, 0, json.closed);
-  else if (name === "failing") checkLength(json);
+  if (name === "failing") checkLength(json);
   json[name].slice(0, MOST_CHOICES).forEach((one, k) => check(`${name}[${k}]`, one, json));
 }
 
@@ -200,7 +182,7 @@ function checkLists(json) {
 export function checkReport(json) {
   if (!isObject(json)) throw new ReportError(`A report is a JSON object, but this file holds ${kindOf(json)}.`);
   if (json.base === undefined || json.trace === undefined) {
-    throw new ReportError("This report does not say what its patches are. Make it with --json --explain --summary.");
+    throw new ReportError("This report does not say what its patches are. Make it with --json --explain --decide.");
   }
   checkBase(json.base);
   checkTrace(json.trace, json.base.length);

@@ -32,31 +32,26 @@ const FIRST_WORDS = "This report has the first fault. One made with --decide has
 
 /** What holds of all crashes together, where the choices do not say it. */
 function drawVerdict(report) {
-  const { failing, closed, asks, choices } = report;
+  const { failing, asks } = report;
   if (asks === "search") return drawSearchVerdict(report);
   if (asks === "enough") return failing ? element("p", { class: "verdict" }, FIRST_WORDS) : "";
-  if (failing === 0) return element("p", { class: "verdict good" }, nothingFails(report));
-  if (asks !== "rules") return "";
-  const still = choices.length > 1 ? "With all of them" : "This ordering has no rule:";
-  return element("p", { class: "verdict" },
-    `${still} ${failing} of ${closed} crashes leave a broken disk. Without --needs the report lists them.`);
+  return failing === 0 ? element("p", { class: "verdict good" }, nothingFails(report)) : "";
 }
 
 const drawSearchVerdict = report =>
   element("p", { class: report.search.failing ? "verdict" : "verdict good" }, searchVerdict(report));
 
 function nothingFails(report) {
-  const { closed, asks } = report;
+  const { closed } = report;
   const crashes = closed === 1 ? "the one crash that is possible" : `each of the ${closed} crashes that are possible`;
-  return `${asks === "rules" ? "With all of them nothing fails" : "None"}: after ${crashes}, `
-    + `replay leaves ${cleanDisk(report)}.`;
+  return `None: after ${crashes}, replay leaves ${cleanDisk(report)}.`;
 }
 
 /** A list that is too long to look through. */
 function drawCut({ listed, choices, title, asks, enough, about }) {
   const shown = choices.length - 1;
   if (listed <= shown) return "";
-  const advice = asks === "sets" ? " A report made with --summary has each fault once." : "";
+  const advice = asks === "sets" ? " A report made with --decide has each fault once." : "";
   const names = enough ? `sets and groups of ${about.many}` : title.toLowerCase();
   const part = enough ? `${shown.toLocaleString("en")} of them` : `the first ${shown}`;
   return element("p", { class: "verdict cut" }, `This report lists ${listed.toLocaleString("en")} `

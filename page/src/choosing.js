@@ -1,13 +1,12 @@
-// What a person can choose to look at in a report: faults, rules or failing sets, and the run without a crash. A choice
-// has words, its patches with their block writes, and the rules and lines that its ordering is without.
+// What a person can choose to look at in a report: faults or failing sets, and the run without a crash. A choice has
+// words, its patches with their block writes, and the rules and lines that its ordering is without.
 import { MOST_CHOICES } from "./check.js";
 import { shownOf } from "./promises.js";
-import { bytesOf, countOf } from "./words.js";
+import { bytesOf } from "./words.js";
 
 /** The choices in their order, with a title; the run without a crash comes last. */
 export function choicesOf(json, report) {
   const [title, all, choiceOf, asks] = json.faults ? ["Faults", json.faults, faultChoice, "faults"]
-    : json.rules ? ["Rules that the script needs", usedFirst(json.rules), ruleChoice, "rules"]
     : ["Failing sets", json.failing, setChoice, "sets"];
   const choices = all.slice(0, MOST_CHOICES).map(choiceOf);
   return { title, asks, listed: all.length, choices: [...choices, wholeRun(report)] };
@@ -17,8 +16,7 @@ const changesOf = replay => (replay ?? []).map(({ block, bytes }) => ({ block, b
 export const crashOf = one => ({ set: one.set, writes: one.writes, replay: changesOf(one.replay),
   shown: shownOf(one.faults ?? [one.fault], one.shows) });
 
-export const faultChoice = one => ({ ...faultWords(one.fault), count: one.sets, units: ["set", "sets"],
-  faults: [one.fault], ...crashOf(one) });
+export const faultChoice = one => ({ ...faultWords(one.fault), faults: [one.fault], ...crashOf(one) });
 
 const setChoice = one =>
   ({ label: `set ${one.set.join(" ")}`, more: one.faults.join("; "), faults: one.faults, ...crashOf(one) });
@@ -45,21 +43,4 @@ export function runsOf(report, ids) {
     else runs.push({ block, patches: [id] });
   }
   return runs;
-}
-
-/* --- rules, with --needs --- */
-
-/** Rules that order patches of this script come first. */
-const usedFirst = rules => [...rules.filter(rule => rule.pairs > 0), ...rules.filter(rule => rule.pairs === 0)];
-
-/** A rule can be looked at where some crash is prevented by it. */
-function ruleChoice(rule) {
-  const pairs = countOf(rule.pairs, "pair", "pairs");
-  const said = rule.pairs === 0 ? "no pair"
-    : rule.too_many ? `${pairs}; too many closed sets without it`
-    : `${pairs}; without it ${rule.failing} of ${rule.closed} sets fail`;
-  const one = { label: rule.rule, more: said, without: [rule.rule], faults: [], off: true };
-  if (!rule.first) return one;
-  const { faults } = rule.first;
-  return { ...one, more: `${said}: ${faults[0]}`, off: false, faults, ...crashOf(rule.first) };
 }

@@ -73,6 +73,33 @@ export function pathOf(image, root, inode, depth = 0) {
   return null;
 }
 
+/** The inode that a path leads to, or null; it can be free. */
+export function targetOf(image, root, path) {
+  let inode = 0;
+  for (const name of path.slice(1).split("/")) {
+    const entries = directoriesOf(image, root).find(one => one.inode === inode)?.entries ?? [];
+    const named = entries.filter(one => one.name === name && one.target < INODES);
+    const entry = named.find(one => inodeOf(image, one.target).kind !== FREE) ?? named[0];
+    if (!entry) return null;
+    inode = entry.target;
+  }
+  return inode;
+}
+
+/** What a path shows on an image, as the program writes it (docs/PROMISES.md). */
+export function shownOn(image, root, path) {
+  const inode = targetOf(image, root, path), { kind, slots } = inodeOf(image, inode ?? 0);
+  if (inode === null || kind === FREE) return "nothing";
+  if (kind === DIRECTORY) return directoriesOf(image, root).some(one => one.inode === inode) ? "directory" : "nothing";
+  const used = slots.slice(0, slots.findLastIndex(Boolean) + 1);
+  return ["file", ...used.map(block => blockShown(image, root, block))].join(" ");
+}
+
+function blockShown(image, root, block) {
+  if (block < root || block >= image.length) return block ? "wild" : "-";
+  return [...image[block].subarray(0, 4)].map(byte => byte.toString(16).padStart(2, "0")).join("");
+}
+
 /** The copies that replay makes on a crash image, in order: those of committed transactions, the first first. */
 export function replayCopies(report, image) {
   const copies = [];

@@ -55,11 +55,11 @@ export function foundWords({ enough, about: { many, none, notEnough } }) {
 
 /** What a set is enough for, or what a group prevents. */
 export const enoughWords = ({ names, isEnough }, report) =>
-  isEnough ? setWords(names, report.about, cleanDisk(report)) : groupWords(names, report.about, cleanDisk(report));
+  isEnough ? setWords(names, report, cleanDisk(report)) : groupWords(names, report.about, cleanDisk(report));
 
-function setWords(names, { one, many, alone, withNone }, clean) {
+function setWords(names, { about: { one, many, alone, withNone }, module }, clean) {
   const isOne = names.length === 1;
-  if (!names.length) return withNone(clean);
+  if (!names.length) return withNone(clean, module);
   const smaller = isOne ? "" : "No smaller part of them is enough. ";
   return `${isOne ? `This ${one} is` : `These ${many} are`} enough: ${listOf(names)}. ${alone(isOne)}, replay leaves `
     + `${clean} after every crash. ${smaller}The graph has no arrow of another ${one}.`;

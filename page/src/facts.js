@@ -8,7 +8,6 @@ import { drawPromises } from "./promises.js";
 import { searchNeedsWords, searchSetWords } from "./search.js";
 import { copyWords } from "./steps.js";
 import { element, view } from "./view.js";
-import { listOf } from "./words.js";
 
 /** The faults with what they mean, and which set this is. A search's workload may come without states. */
 export function drawFacts(choice, states) {
@@ -49,10 +48,8 @@ function setWords(choice) {
 }
 
 /** Which one of several sets this is. */
-function whichWords({ isPicked, names, without, count }) {
+function whichWords({ isPicked, names, count }) {
   if (isPicked) return "";
   if (view.report.search) return searchSetWords({ names, count });
-  if (names) return "; the first set with this fault";
-  if (without) return `; the first crash that ${listOf(without)} prevents`;
-  return count > 1 ? `; the first of ${count}` : "";
+  return view.report.asks === "sets" ? "" : "; the first set with this fault";
 }

@@ -3,11 +3,12 @@ import { countedWords } from "./clean.js";
 import { foundWords } from "./enough.js";
 import { realNames } from "./real.js";
 import { refusedWords, searchTitle } from "./search.js";
-import { actions, element, view } from "./view.js";
+import { actions, byId, element, view } from "./view.js";
 import { countOf, quoted, shortened } from "./words.js";
 
 const MOST_LINES = 400, MOST_LETTERS = 200;
-const MODULES = { async: "no ordering", soft: "soft updates", meta: "a metadata journal", full: "a full journal" };
+const MODULES = { async: "no ordering, as ext2", soft: "soft updates, as FFS",
+  meta: "a metadata journal, as ext3 with data=ordered", full: "a full journal, as ext3 with data=journal" };
 
 /** The script's name, or else the report's. */
 export const nameNow = () => view.run?.script ?? view.run?.report ?? "a report";
@@ -31,7 +32,7 @@ export function titleNow() {
   const found = report.search ? searchTitle(report)
     : report.enough ? foundWords(report)
     : report.isDecision ? `${countOf(report.failing, "fault", "faults")} in ${report.closed} sets`
-    : `${neededWords(report)}${report.failing} of ${report.closed} sets fail`;
+    : `${report.failing} of ${report.closed} sets fail`;
   const disk = report.base ? `, ${diskWords(report)}` : "";
   return `${nameNow()}: ${found} under ${orderingWords(report)}${asked}${disk} - crashmap`;
 }
@@ -56,15 +57,8 @@ function drawCounts(report) {
     counted(search.workloads, "workload", "workloads")]
     : [counted(report.trace.length, "patch", "patches"), counted(report.closed, "closed set", "closed sets")];
   return element("dl", {}, fact("module", report.module, "module"), sizes,
-    counted(count, ...names, isBad ? "bad" : ""),
-    report.asks === "rules" ? counted(neededIn(report), ...NEEDED_NAMES, "") : null);
+    counted(count, ...names, isBad ? "bad" : ""));
 }
-
-const NEEDED_NAMES = ["needed rule", "needed rules"];
-
-/** How many rules prevent a crash, as `--needs` says. */
-const neededIn = ({ choices }) => choices.filter(choice => choice.without && choice.faults.length).length;
-const neededWords = report => report.asks === "rules" ? `${countOf(neededIn(report), ...NEEDED_NAMES)}, ` : "";
 
 /** The number that the report is about, and its words for one and for more. */
 function resultOf({ enough, about, failing, isDecision, search }) {
@@ -123,7 +117,7 @@ function drawScript() {
   const lines = text.replace(/\n$/, "").split("\n"), start = lines.findIndex(line => line === "start");
   const shown = lines.slice(0, MOST_LINES).map((line, k) => drawLine(line, k, start));
   const rest = lines.length > MOST_LINES && element("li", {}, `and ${lines.length - MOST_LINES} more lines`);
-  return element("details", { id: "script", open: innerWidth > 820 },
+  return element("details", { id: "script", open: innerWidth > 820, ontoggle: () => showLine() },
     element("summary", {}, `Script, ${countOf(lines.length, "line", "lines")}`), element("ol", {}, shown, rest));
 }
 
@@ -134,4 +128,19 @@ function drawLine(line, k, start) {
   const real = kind === "comment" ? [] : realNames(line);
   return element("li", { class: kind }, shortened(line, MOST_LETTERS),
     real.length ? element("small", {}, shortened(real.join(" "), MOST_LETTERS)) : null);
+}
+
+/** The line of the script that was marked last, or null. */
+let lineShown = null;
+
+/** Marks a line of the script and brings it into the middle of the panel; if there is none, the line `start` is at its
+    top. Without a line it shows the last one again. */
+export function showLine(line = lineShown) {
+  lineShown = line;
+  const list = byId("script")?.querySelector("ol"), items = [...list?.children ?? []];
+  items.forEach((item, k) => item.classList.toggle("now", k + 1 === line));
+  const first = items[line - 1] ?? list?.querySelector(".begin");
+  if (!first) return;
+  const room = items[line - 1] ? (list.clientHeight - first.offsetHeight) / 2 : 0;
+  list.scrollTop = first.offsetTop - list.offsetTop - room;
 }

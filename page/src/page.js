@@ -3,10 +3,11 @@ import { isLine } from "./about.js";
 import { drawChoices } from "./choices.js";
 import { imageOf, replayedImage } from "./disk.js";
 import { patchesNamed, placesNamed } from "./faults.js";
-import { drawHead, titleNow } from "./head.js";
+import { drawHead, showLine, titleNow } from "./head.js";
 import { pickedChoice } from "./pick.js";
 import { drawGraph, paintGraph } from "./picture.js";
 import { drawPlain } from "./plain.js";
+import { lineThatMatters } from "./promises.js";
 import { drawSteps, paintSteps } from "./steps.js";
 import { drawDisk } from "./tables.js";
 import { actions, byId, choiceNow, choicesNow, element, idsAt, view } from "./view.js";
@@ -49,6 +50,7 @@ function choosePatches(step) {
   drawChoices();
   drawGraph();
   drawSteps();
+  showLine(report.search ? null : lineThatMatters(choice));
   goTo(view.step);
 }
 

@@ -1,7 +1,10 @@
 // A broken promise: what its paths show after the crash, what was promised, and what may stand in.
+import { imageOf, shownOn } from "./disk.js";
 import { checkCount, checkList, checkObject, checkText, checkTexts, must } from "./form.js";
+import { lineBehind, momentWords } from "./moment.js";
 import { realPath } from "./real.js";
 import { element, view } from "./view.js";
+import { below, listOf } from "./words.js";
 
 const BROKEN = /^10 broken promise: line (\d+)$/;
 const MOST_PATHS = 4;
@@ -39,11 +42,18 @@ export function shownOf(faults, shows) {
   return Object.fromEntries(broken.slice(0, shows?.length ?? 0).map((text, k) => [text, shows[k]]));
 }
 
-/** A table for each promise that a crash breaks. */
-export const drawPromises = ({ faults, shown }) => faults.flatMap(text => {
-  const promise = promiseAt(Number(BROKEN.exec(text)?.[1]));
-  return promise && shown?.[text] !== undefined ? [drawPromise(promise, shown[text])] : [];
+/** A sentence and a table for each promise that a crash breaks. */
+export const drawPromises = choice => choice.faults.flatMap(text => {
+  const promise = promiseAt(Number(BROKEN.exec(text)?.[1])), shown = choice.shown?.[text];
+  if (!promise || shown === undefined) return [];
+  return [element("p", { class: "broken" }, brokenWords(choice, promise, shown)), drawPromise(promise, shown)];
 });
+
+/** The line that matters most of what can be looked at: that behind which the power fails, or null without a crash. */
+export function lineThatMatters({ faults, set }) {
+  const promise = faults.map(text => promiseAt(Number(BROKEN.exec(text)?.[1]))).find(Boolean);
+  return promise && view.report.operations ? lineBehind(view.report, set, promise)?.line ?? promise.line : null;
+}
 
 /** The promise of a line. A search numbers the lines of its pool, and of these a workload's report has the promises
     alone at their places. */
@@ -52,13 +62,23 @@ function promiseAt(line) {
   return promise && view.report.search && wordOf(promise) === "fsync" ? undefined : promise;
 }
 
+const pathsOf = promise => promise.hold ?? promise.keep;
+
+function brokenWords({ set }, promise, shown) {
+  const parts = partsOf(shown), kinds = parts.map((part, k) => kindOf(part, promise, k));
+  const said = listOf(kinds.map((kind, k) => `${realPath(pathsOf(promise)[k])} is ${kind}`));
+  const image = view.after ?? view.crash;
+  return `${said} if the power fails ${momentWords(view.report, image, set, promise, parts)}.`;
+}
+
 function drawPromise(promise, shown) {
-  const paths = promise.hold ?? promise.keep, first = `line ${promise.line}: ${wordOf(promise)}`;
-  const allowed = promise.shows.map((words, k) => drawShown(k ? "or later" : "promised", partsOf(words)));
+  const paths = pathsOf(promise).map(realPath), first = `line ${promise.line}: ${wordOf(promise)}`;
+  const draw = (name, words, kind) => drawShown(name, partsOf(words), { promise, paths, kind });
+  const allowed = promise.shows.map((words, k) => draw(k ? "or later" : "promised", words));
   return element("table", { class: "promise" },
-    element("thead", {}, element("tr", {}, [first, ...paths.map(realPath)].map(words => element("th", {}, words)))),
-    element("tbody", {}, drawShown("after the crash", partsOf(shown), "found"), allowed,
-      promise.spares.map(words => drawSpare(words, paths))));
+    element("thead", {}, element("tr", {}, [first, ...paths].map(words => element("th", {}, words)))),
+    element("tbody", {}, draw("after the crash", shown, "found"), allowed,
+      promise.spares.map(words => drawSpare(words, promise, paths))));
 }
 
 /** The word of a promise's line. With --durable an fsync makes the promise of a hold. */
@@ -71,13 +91,48 @@ function wordOf({ line, hold }) {
 const partsOf = words => words.split(" | ");
 
 /** `/q file 46020000`: a path that stands in for the one that is promised, which can be that one itself. */
-function drawSpare(words, paths) {
-  const [path, ...rest] = words.split(" ");
-  return drawShown(paths.includes(path) ? "or" : `or as ${realPath(path)}`, [rest.join(" ")]);
+function drawSpare(words, promise, paths) {
+  const [path, ...rest] = words.split(" "), name = pathsOf(promise).includes(path) ? "or" : `or as ${realPath(path)}`;
+  return drawShown(name, [rest.join(" ")], { promise, paths: name === "or" ? paths : [realPath(path)] });
 }
 
-const drawShown = (name, parts, kind) => element("tr", { class: kind },
-  element("th", { scope: "row" }, name), parts.map(words => element("td", {}, shownWords(words))));
+/** A row: what each path shows, in a word, and behind it the bytes of its blocks. */
+const drawShown = (name, parts, { promise, paths, kind }) => element("tr", { class: kind },
+  element("th", { scope: "row" }, name), parts.map((part, k) => element("td", { "data-state": paths[k] },
+    kind ? kindOf(part, promise, k) : allowedKind(part, promise, k), ...drawBytes(part))));
 
-/** `file` and four bytes of each block; with none of them the file is empty. */
-const shownWords = words => words === "file" ? "an empty file" : words;
+/** What is allowed is never torn: a journal that stands in is neither the old file nor the new one. */
+function allowedKind(part, promise, k) {
+  const kind = kindOf(part, promise, k);
+  return kind === "gone" ? "not there" : kind.startsWith("torn") ? "whole" : kind;
+}
+
+const bytesIn = part => part.split(" ").slice(1);
+const drawBytes = part => bytesIn(part).length ? [" ", element("small", {}, bytesIn(part).join(" "))] : [];
+
+/** What a path shows, in a word: `old` is as before the first operation, and `new` another thing that is allowed. Of a
+    file that never was like this it is said of each block. */
+function kindOf(part, promise, k) {
+  if (part === "nothing") return "gone";
+  if (part === "file") return "empty";
+  if (part === "directory") return part;
+  const path = pathsOf(promise)[k], { report } = view, old = shownOn(report.base, report.root, path);
+  const own = promise.spares.filter(words => words.startsWith(`${path} `)).map(words => words.slice(path.length + 1));
+  const allowed = [...promise.shows.map(words => partsOf(words)[k]), ...own];
+  if (part === old) return "old";
+  if (allowed.includes(part)) return "new";
+  if (shownBefore(promise.line, path).includes(part)) return "older";
+  return `torn (${bytesIn(part).map((bytes, slot) => blockKind(bytes, slot, old, allowed)).join(", ")})`;
+}
+
+/** What a path shows before each operation that stands before a line. */
+function shownBefore(line, path) {
+  const { report } = view, begins = report.operations.filter(one => one.line < line).map(one => one.patches[0].id);
+  return begins.map(begin => shownOn(imageOf(report, below(begin)), report.root, path));
+}
+
+function blockKind(bytes, slot, old, allowed) {
+  if (bytes === "-" || bytes === "wild") return bytes === "-" ? "no block" : "a wild pointer";
+  if (bytesIn(old)[slot] === bytes) return "old";
+  return allowed.some(words => bytesIn(words)[slot] === bytes) ? "new" : "other data";
+}

@@ -1,6 +1,6 @@
-// The report of a script as `crashmap --json --explain --summary` prints it (or with `--needs`, `--decide` or
-// `--enough`), brought into the one form that the page works on: the patches with their bytes, the script's operations,
-// and what a person can choose to look at.
+// The report of a script as `crashmap --json --explain` prints it (also with `--decide` or `--enough`), brought into the
+// one form that the page works on: the patches with their bytes, the script's operations, and what a person can choose
+// to look at.
 import { aboutOf } from "./about.js";
 import { checkReport, isDecision, isOfEnough } from "./check.js";
 import { choicesOf } from "./choosing.js";
@@ -41,7 +41,7 @@ function numberOf(closed) {
 /** The number of failing sets; where it is not known, the number of faults that the report has. */
 function failingOf(json) {
   if (isOfEnough(json)) return json.first === undefined ? 0 : 1;
-  return isDecision(json) ? json.faults.length : json.sets ?? json.failing.length ?? json.failing;
+  return isDecision(json) ? json.faults.length : json.failing.length;
 }
 
 /** The script's operations with their patches, and for each journal block the block that it is a copy of. */

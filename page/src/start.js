@@ -18,9 +18,9 @@ function drawDrop(error) {
     element("input", { type: "file", accept: ".json,application/json", "aria-label": "Report",
       onchange: event => actions.open(event.target.files[0]) }),
     element("p", { class: "soft" }, "A report is what ",
-      element("code", {}, "crashmap SCRIPT --json --explain --summary"), " prints, or what it prints with ",
-      element("code", {}, "--needs"), ", ", element("code", {}, "--decide"), ", ", element("code", {}, "--enough"),
-      " or ", element("code", {}, "--search N"), " in place of ", element("code", {}, "--summary"), ".")));
+      element("code", {}, "crashmap SCRIPT --json --explain --decide"), " prints, or what it prints with ",
+      element("code", {}, "--enough"), " or ", element("code", {}, "--search N"), " in place of ",
+      element("code", {}, "--decide"), ", or without any of them.")));
   document.title = error ? "crashmap: this report cannot be shown" : "crashmap";
 }
 

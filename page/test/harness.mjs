@@ -176,7 +176,7 @@ const SHOWN = `(() => {
     ready: ids(node => node.state === "lost" && node.kinds.includes("ready")),
     rows: Object.fromEntries(rows), edges: edges.sort(), reasons: reasons.sort(), at: texts("#bar output")[0],
     title: document.title, meanings: texts(".meaning"), halves: texts(".half"),
-    words: texts(".facts > p:not(.fault):not(.meaning):not(.half):not(.soft)"),
+    words: texts(".facts > p:not(.fault):not(.meaning):not(.half):not(.broken):not(.soft)"), broken: texts(".broken"),
     error: texts("#drop .error"), cut: texts(".cut"), key: texts("#graph .key > span"),
     focus: document.activeElement?.textContent.replace(/\\s+/g, " ").trim(),
     sideways: document.documentElement.scrollWidth - document.documentElement.clientWidth,

@@ -30,9 +30,9 @@ const noReports = [
   ["a number", "7", "A report is a JSON object, but this file holds the number 7."],
   ["a text with HTML", JSON.stringify(HTML), "A report is a JSON object, but this file holds the text \"</script>"],
   ["a list", "[1,2]", "A report is a JSON object, but this file holds a list of 2."],
-  ["an empty object", "{}", "This report does not say what its patches are. Make it with --json --explain --summary."],
+  ["an empty object", "{}", "This report does not say what its patches are. Make it with --json --explain --decide."],
   ["a report without --explain", changed("create", ({ base, trace, ...rest }) => rest),
-    "This report does not say what its patches are. Make it with --json --explain --summary."],
+    "This report does not say what its patches are. Make it with --json --explain --decide."],
 ];
 
 /* --- reports of an odd form --- */
@@ -73,9 +73,11 @@ const odd = [
   ["pointer", r => { r.trace[1].after[0].why = []; },
     "trace[1].after[0].why must be a list of at least one reason, but it is a list of 0."],
   ["create", r => { delete r.module; }, "module must be a text, but it is missing."],
-  ["create", r => { r.closed = null; }, "closed must be a whole number, at least 1, but it is null."],
-  ["create", r => { r.closed = "4"; },
+  ["sets", r => { r.closed = null; }, "closed must be a whole number, at least 1, but it is null."],
+  ["sets", r => { r.closed = "4"; },
     "closed must be a whole number, at least 1, but it is the text \"4\"."],
+  ["create", r => { r.closed = 4; },
+    "closed must be the digits of a whole number, at least 1, but it is the number 4."],
   ["create", r => { r.patches = 3; }, "patches must be the length of trace (2), but it is the number 3."],
   ["create", r => { r.with = {}; }, "with must be a list, but it is an object."],
   ["pointer", r => { r.without = [7]; }, "without[0] must be a text, but it is the number 7."],
@@ -87,13 +89,12 @@ const odd = [
     "closed must be the digits of a whole number, at least 1, but it is the text \"24 \"."],
   ["decided", r => { r.faults[1].set = [5]; },
     "faults[1].set[0] must be a whole number from 0 to 4, but it is the number 5."],
-  ["create", r => { r.sets = 5; }, "sets must be a whole number from 0 to 4, but it is the number 5."],
+  ["sets", r => { r.closed = 35; }, "failing must be a list of at most 35 sets, but it is a list of 36."],
   ["create", r => { r.faults = { 0: r.faults[0] }; }, "faults must be a list, but it is an object."],
   ["create", r => { r.faults[0] = "1 dangling entry"; },
     "faults[0] must be an object, but it is the text \"1 dangling entry\"."],
   ["create", r => { r.faults[0].fault = 1; }, "faults[0].fault must be a text, but it is the number 1."],
-  ["create", r => { r.faults[0].sets = 0; },
-    "faults[0].sets must be a whole number from 1 to 4, but it is the number 0."],
+  ["sets", r => { r.failing[0].faults[0] = 1; }, "failing[0].faults[0] must be a text, but it is the number 1."],
   ["create", r => { r.faults[0].set = [2]; },
     "faults[0].set[0] must be a whole number from 0 to 1, but it is the number 2."],
   ["create", r => { r.faults[0].set = [1, 0]; },
@@ -125,13 +126,12 @@ const odd = [
   ["promise_spared", r => { r.counted = [0]; },
     "counted[0] must be a whole number, at least 1, but it is the number 0."],
   ["promise_spared", r => { r.counted = []; }, "counted must be a list of at least one number, but it is a list of 0."],
-  ["needs", r => { r.rules = null; }, "rules must be a list, but it is null."],
-  ["needs", r => { r.rules[0].pairs = -1; },
-    "rules[0].pairs must be a whole number, at least 0, but it is the number -1."],
-  ["needs", r => { r.rules[3].first.faults = []; },
-    "rules[3].first.faults must be a list of at least one fault, but it is a list of 0."],
-  ["needs", r => { delete r.rules[3].failing; },
-    "rules[3].failing must be a whole number from 0 to 11, but it is missing."],
+  ["all_sets", r => { r.failing[2] = null; }, "failing[2] must be an object, but it is null."],
+  ["all_sets", r => { delete r.failing[1].faults; }, "failing[1].faults must be a list, but it is missing."],
+  ["all_sets", r => { r.failing[3].faults = []; },
+    "failing[3].faults must be a list of at least one fault, but it is a list of 0."],
+  ["all_sets", r => { r.failing[3].set[0] = 4; },
+    "failing[3].set[0] must be a whole number from 0 to 3, but it is the number 4."],
   ["enough", r => { r.closed = 11; },
     "closed must be the digits of a whole number, at least 1, but it is the number 11."],
   ["enough", r => { r.enough = "all"; }, "enough must be a list, but it is the text \"all\"."],
@@ -215,9 +215,9 @@ async function testOddForms() {
     await drop(changed(name, change));
     checkSays(name, await shown(), `dropped.json: ${FORM}${words}`);
   }
-  await openText("bad", changed("create", ({ faults, sets, ...rest }) => rest));
-  checkSays("no list of what fails", await shown(), "bad.json: This report lists no faults, no rules and no failing "
-    + "sets. Make it with --json --explain --summary.");
+  await openText("bad", changed("create", ({ faults, ...rest }) => ({ ...rest, closed: 4 })));
+  checkSays("no list of what fails", await shown(), "bad.json: This report lists no faults and no failing sets. "
+    + "Make it with --json --explain --decide.");
 }
 
 /* --- reports that are shown, though something in them is unusual --- */
@@ -231,7 +231,7 @@ async function testHtmlInAReport() {
   }));
   const page = await shown();
   check("HTML in a report is shown as text", [page.faults, page.rules], [[`Fault ${HTML}`], [`with ${HTML}`]]);
-  check("HTML in a report does not run", [page.title.startsWith("html.json: 1 of 4"), page.error], [true, []]);
+  check("HTML in a report does not run", [page.title.startsWith("html.json: 1 fault in 4"), page.error], [true, []]);
   check("HTML in a report makes no element", await browser.ask('document.querySelectorAll("img").length'), 0);
   check("the script in the page is whole", await browser.ask('document.scripts.length'), 3);
 }
@@ -261,13 +261,13 @@ function manySets(count) {
 
 async function testManySets() {
   const failing = manySets(20000);
-  const text = changed("long", ({ faults, sets, ...rest }) => ({ ...rest, failing, closed: 2 ** 31 }));
+  const text = changed("long", ({ faults, ...rest }) => ({ ...rest, failing, closed: 2 ** 31 }));
   const before = Date.now();
   await openText("many", text);
   const page = await shown();
   check("20,000 failing sets: the page is there within 10 seconds", Date.now() - before < 10000, true);
   check("20,000 failing sets: the page says that it shows some", page.cut, ["This report lists 20,000 failing sets, "
-    + "and the page shows the first 500. A report made with --summary has each fault once."]);
+    + "and the page shows the first 500. A report made with --decide has each fault once."]);
   check("20,000 failing sets: so many can be chosen", page.choices.length, 501);
   check("20,000 failing sets: the head has their number", page.facts[3], "failing sets20000");
   check("20,000 failing sets: the first is on the disk", page.disk, failing[0].set);
@@ -292,7 +292,7 @@ async function testReplacedValues() {
   const strange = [null, true, -1, 0, 3, 1e9, 0.5, "", "x", "00", [], {}, [[]], [null], { set: 1 }];
   const draw = numbersFrom(57), answers = [];
   await open("create");
-  for (const name of ["create", "pointer", "reuse", "lost", "needs", "sets", "groups", "enough", "not_enough",
+  for (const name of ["create", "pointer", "reuse", "lost", "needed", "sets", "groups", "enough", "not_enough",
     "syncs", "search_kinds", "search_some"]) {
     for (let k = 0; k < 60; k++) {
       const report = reportOf(name), places = placesIn(report), [holder, key] = places[draw(places.length)];
@@ -310,9 +310,9 @@ async function testReplacedValues() {
 async function testDropped() {
   await open("create");
   check("a good report that is dropped is shown", await drop(reportText("pointer")), "shown");
-  check("its name is in the title", (await shown()).title.startsWith("dropped.json: 1 of 5 sets fail"), true);
+  check("its name is in the title", (await shown()).title.startsWith("dropped.json: 1 fault in 5 sets"), true);
   check("a bad one is refused", await drop("{}"), "dropped.json: This report does not say what its patches are. "
-    + "Make it with --json --explain --summary.");
+    + "Make it with --json --explain --decide.");
   check("a good one after it is shown", await drop(reportText("create")), "shown");
 }
 

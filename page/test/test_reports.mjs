@@ -1,8 +1,8 @@
 // node page/test/test_reports.mjs [FOLDER]: checks what pages show against their reports and against what is known of
 // the scripts. With FOLDER, pictures of pages are left there to be looked at.
-import { reasonsOf, reduction, traceWithout } from "./arrows.mjs";
+import { reasonsOf, reduction } from "./arrows.mjs";
 import { cases } from "./cases.mjs";
-import { browser, check, clickChoice, keepPicture, open, openEmpty, run, shown } from "./harness.mjs";
+import { browser, check, keepPicture, open, openEmpty, run, shown } from "./harness.mjs";
 
 /* --- what holds of every page, said from its report alone --- */
 
@@ -30,8 +30,9 @@ function checkFault(name, page, report, choice, writes) {
 async function testCreate() {
   const report = await open("create"), page = await shown();
   checkFault("create", page, report, 0);
-  check("create: the head", page.facts, ["moduleasync", "patches2", "closed sets4", "failing set1"]);
-  check("create: the fault", page.choices[0], "1 set1 dangling entrydirectory 0 entry 0 inode 1");
+  check("create: the head", page.facts, ["moduleasync", "patches2", "closed sets4", "fault1"]);
+  check("create: the fault", page.choices[0], "1 dangling entrydirectory 0 entry 0 inode 1");
+  check("create: which set it is", page.words, ["Patches on disk: 1; the first set with this fault"]);
   check("create: the operation", page.columns, ["create /a"]);
   check("create: inode 1", page.rows["inode 1"], { named: true, words: ["free", "free", "free"] });
   const entry = 'directory 0, entry 0 \u2192 inode 1 "a"';
@@ -101,7 +102,7 @@ async function testDecisions() {
   checkFault("decided", page, report, 0);
   check("decided: the head", page.facts, ["moduleasync", "patches5", "closed sets24", "faults3"]);
   check("decided: the title", page.title.includes(": 3 faults in 24 sets under async"), true);
-  check("decided: a fault has no number of sets", page.choices[0], "1 dangling entrydirectory 0 entry 0 inode 1");
+  check("decided: a fault", page.choices[0], "1 dangling entrydirectory 0 entry 0 inode 1");
   check("decided: no share of sets", await browser.ask('document.querySelector(".share")'), null);
   const { length } = report.faults;
   for (let choice = 0; choice < length; choice++) {
@@ -122,18 +123,30 @@ async function testImmense() {
   await keepPicture("immense");
 }
 
-/** Each rule that prevents a crash can be looked at, on the graph without it. */
-async function checkNeededRules({ rules, trace }, { facts, title, choices }) {
-  const needed = rules.filter(rule => rule.first);
-  check("the head has the number of needed rules", facts.at(-1), `needed rules${needed.length}`);
-  const begin = `needs.json: ${needed.length} needed rules, 0 of 7 sets fail under soft`;
-  check("and the title", title.slice(0, begin.length), begin);
-  for (const { rule, first } of needed) {
-    await clickChoice(choices.findIndex(words => words.startsWith(rule)));
-    const page = await shown(), left = traceWithout(trace, [rule]);
-    check(`${rule}: its crash`, [page.faults, page.disk], [first.faults.map(text => `Fault ${text}`), first.set]);
-    check(`${rule}: the arrows without it`, page.edges, reduction(left));
+/** A plain run lists every failing set, and says which part of all sets fails. */
+async function testSets() {
+  for (const [name, title, part] of [["sets", "36 of 48", 75], ["all_sets", "8 of 12", 67]]) {
+    const report = await open(name), page = await shown(), { length } = report.failing;
+    check(`${name}: the head`, page.facts.slice(2), [`closed sets${report.closed}`, `failing sets${length}`]);
+    check(`${name}: the title`, page.title.startsWith(`${name}.json: ${title} sets fail under async`), true);
+    const share = await browser.ask('document.querySelector(".share i").style.width');
+    check(`${name}: the share of sets that fail`, Math.round(parseFloat(share)), part);
+    check(`${name}: each set can be chosen`, page.choices.slice(0, -1),
+      report.failing.map(({ set, faults }) => `set ${set.join(" ")}${faults.join("; ")}`));
+    for (const choice of [0, length - 1]) {
+      await open(name, `#choice=${choice}`);
+      const one = report.failing[choice], chosen = await shown();
+      check(`${name}, set ${choice}: its faults`, chosen.faults, one.faults.map(text => `Fault ${text}`));
+      check(`${name}, set ${choice}: which set it is`, chosen.words, [`Patches on disk: ${one.set.join(" ")}`]);
+      checkGraph(`${name}, set ${choice}`, chosen, report, one.set, one.writes);
+    }
   }
+  await open("no_sets");
+  const page = await shown();
+  check("no set fails: the page says so", page.verdict,
+    ["None: after each of the 11 crashes that are possible, replay leaves a clean disk."]);
+  check("no set fails: the head", page.facts.at(-1), "failing sets0");
+  check("no set fails: no share", await browser.ask('document.querySelector(".share")'), null);
 }
 
 async function testOrderings() {
@@ -142,18 +155,6 @@ async function testOrderings() {
   check("a lost inode: the checker is strict", lost.rules, ["strict"]);
   check("a lost inode: its words", lost.faults, ["Fault 7 lost inode: inode 1"]);
   check("a lost inode: the patches of its names", lost.named, [1, 2]);
-  const report = await open("needs"), needs = await shown(), first = report.rules.find(rule => rule.first);
-  check("rules take the place of faults", needs.choices.length, report.rules.length + 1);
-  check("with all rules nothing fails", needs.verdict,
-    ["With all of them nothing fails: after each of the 7 crashes that are possible, replay leaves a clean disk."]);
-  const faults = first.first.faults.map(text => `Fault ${text}`);
-  check("the first rule that prevents a crash is looked at", needs.faults, faults);
-  check("its crash is on the disk", needs.disk, first.first.set);
-  await keepPicture("needs");
-  await checkNeededRules(report, needs);
-  await open("unruly");
-  check("an ordering with no rule says so", (await shown()).verdict, ["This ordering has no rule: "
-    + "36 of 48 crashes leave a broken disk. Without --needs the report lists them."]);
   const { trace } = await open("groups"), all = trace.map((_, id) => id);
   checkGraph("groups", await shown(), { trace }, all, [{ patches: all }]);
   const groups = await browser.ask('[...document.querySelectorAll("#graph .key span")].map(one => one.textContent)');
@@ -236,8 +237,9 @@ async function testNoReport() {
   await openEmpty();
   const words = await browser.ask("document.body.textContent");
   check("a page without a report asks for one", words.includes("Drop a report here"), true);
-  check("every case is tested", Object.keys(cases).length, 47);
+  check("every case is tested", Object.keys(cases).length, 48);
 }
 
-await run([testCreate, testReuse, testPointer, testTwice, testNothingFails, testDecisions, testImmense, testOrderings,
+await run([testCreate, testReuse, testPointer, testTwice, testNothingFails, testDecisions, testImmense, testSets,
+  testOrderings,
   testKeyboard, testSizesAndSchemes, testLong, testGenerations, testOverwritten, testNoReport]);

@@ -101,6 +101,9 @@ function groupWords(name, lines) {
 /** Lines that alone have to wait come before groups of more. */
 const inOrder = needs => [...needs].sort((a, b) => (a.syncs.length > 1) - (b.syncs.length > 1));
 
+/** What a path shows that is not its old contents. */
+const KINDS = { nothing: "gone", file: "empty" };
+
 /** A group shows its crash, what the promise's paths show, and the arrows where its lines do not wait. */
 async function testGroups() {
   for (const name of WITH_GROUPS) {
@@ -110,7 +113,7 @@ async function testGroups() {
       const page = await shown(), about = `${name}, group ${k}`;
       check(`${about}: the fault`, [page.faults, page.meanings.length], [[`Fault ${one.fault}`], 1]);
       check(`${about}: what the path shows`, page.promises[0][1],
-        ["after the crash", one.shows[0] === "file" ? "an empty file" : one.shows[0]]);
+        ["after the crash", KINDS[one.shows[0]] ?? `old ${one.shows[0].slice("file ".length)}`]);
       check(`${about}: the block writes`, page.steps, ["base", ...one.writes.map(write => `block ${write.block}`)]);
       check(`${about}: the patches on disk`, page.disk, one.set);
       check(`${about}: its words`, page.words, [groupWords(name, one.syncs),
@@ -188,7 +191,8 @@ async function testPickedPromise() {
 /* --- nothing is needed, or all is not enough --- */
 
 const NO_LINE = "No line has to wait: if none waits, replay leaves a clean disk that keeps every promise after every "
-  + "crash. The graph has no arrow of a line.";
+  + "crash. That is so on a file system which allocates a block when it is written, as ext3 does. XFS and ext4 allocate "
+  + "blocks later, and crashmap-judge asks about them too. The graph has no arrow of a line.";
 const NOTHING = "Nothing is needed: replay leaves a clean disk that keeps every promise after every crash. The report "
   + "does not say whether it is about rules or about lines that wait, so the graph has every arrow.";
 

@@ -22,13 +22,13 @@ async function testHead() {
   check("the head has the script's name", head.name, "crashmap a script");
   check("the head has the words, as a shell reads them", head.command,
     `crashmap '${path}' --module soft --without Ptr:InitFile --limit '$5 '\\''x'\\'''`);
-  check("the head has ordering, disk and checker", head.about, ["Ordering soft (soft updates) without Ptr:InitFile",
+  check("the head has ordering, disk and checker", head.about, ["Ordering soft (soft updates, as FFS) without Ptr:InitFile",
     "Disk 16 blocks, no journal, data from block 4", "Checker the usual one"]);
   check("the head has the script's text", head.lines, [
     ["comment", "# <b>bold</b> </script><script>document.title = 'broken'</script>"],
     ["base", "create /a"], ["begin", "start"], ["traced", "write /a"]]);
   check("and how long it is", head.summary, "Script, 4 lines");
-  check("the title has name, result, ordering and disk", (await shown()).title, "a script: 1 of 5 sets fail under soft "
+  check("the title has name, result, ordering and disk", (await shown()).title, "a script: 1 fault in 5 sets under soft "
     + "without Ptr:InitFile, 16 blocks, no journal, data from block 4 - crashmap");
   await keepPicture("head");
 }
@@ -58,17 +58,17 @@ async function testHeadOfAReport() {
     "The script's text is not in the report. A page that crashmap-page makes has it."]);
   await open("lost");
   check("a strict checker is named", (await browser.ask(HEAD)).about[2], "Checker strict");
-  check("in the title too", (await shown()).title, "lost.json: 5 of 12 sets fail under async, strict, "
+  check("in the title too", (await shown()).title, "lost.json: 2 faults in 12 sets under async, strict, "
     + "16 blocks, no journal, data from block 4 - crashmap");
   await open("half");
   check("a checker of whole operations is named", (await browser.ask(HEAD)).about[2], "Checker strict, atomic");
-  check("in the title as well", (await shown()).title, "half.json: 3 of 5 sets fail under soft, strict, atomic, "
+  check("in the title as well", (await shown()).title, "half.json: 1 fault in 5 sets under soft, strict, atomic, "
     + "16 blocks, no journal, data from block 4 - crashmap");
   check("the operation that is half done is named", (await shown()).halves[0],
     "Half done: line 3 rename /a /b.");
 }
 
-/* --- faults and rules --- */
+/* --- faults --- */
 
 /** Each kind of fault, and words that its sentence must have. */
 const KINDS = [
@@ -94,14 +94,6 @@ async function testMeanings() {
     const isSaid = meanings.length === 1 && meanings[0].includes(words);
     check(`a sentence for ${fault}`, [faults, isSaid], [[`Fault ${fault}`], true]);
   }
-}
-
-async function testRulesWithPairsFirst() {
-  const report = await open("needs"), { choices } = await shown();
-  const wanted = [...report.rules.filter(rule => rule.pairs), ...report.rules.filter(rule => !rule.pairs)];
-  check("rules with pairs come first, else in the ordering's order",
-    wanted.map(({ rule }, k) => choices[k].startsWith(rule)), wanted.map(() => true));
-  check("some rules have pairs, and some have none", wanted.map(({ pairs }) => pairs > 0).indexOf(false), 5);
 }
 
 /* --- the run without a crash --- */
@@ -218,19 +210,19 @@ async function testWhatIsKnown() {
 }
 
 async function testPickedWithoutARule() {
-  const report = await open("needs"), { choices } = await shown();
+  const report = await open("needed"), { choices } = await shown();
   const at = choices.findIndex(choice => choice.startsWith("MapClear:InodeFree"));
-  const { set, faults } = report.rules.find(({ rule }) => rule === "MapClear:InodeFree").first;
-  await open("needs", `#choice=${at}`);
-  await click(0);
-  await click(0);
+  const { set, fault } = report.needs.find(({ rules }) => rules.join() === "MapClear:InodeFree");
+  await open("needed", `#choice=${at}`);
+  await click(set[0]);
+  await click(set[0]);
   const page = await shown();
   check("a set without a rule is closed under the ordering without it", [page.disk, page.words.at(-1).startsWith(
     "Closed under the ordering without MapClear:InodeFree: ")], [set, true]);
-  check("and is the one that the rule prevents", page.faults, faults.map(text => `Fault ${text}`));
-  await open("needs", "#set=&rule=MapClear:InodeFree");
+  check("and is the one that the rule prevents", page.faults, [`Fault ${fault}`]);
+  await open("needed", "#set=&rule=MapClear:InodeFree");
   const [words] = (await shown()).words;
-  check("another set is not called the first that the rule prevents", words, "Patches on disk: none");
+  check("another set is not called the first with a fault", words, "Patches on disk: none");
 }
 
 async function testPickingByKeys() {
@@ -253,6 +245,6 @@ async function testPickingByKeys() {
   check("an address with patches that there are not is passed over", (await shown()).disk, [0, 2]);
 }
 
-await run([testHead, testLongHead, testHeadOfAReport, testMeanings, testRulesWithPairsFirst, testCleanRun,
+await run([testHead, testLongHead, testHeadOfAReport, testMeanings, testCleanRun,
   testCleanRunWithAJournal, testEverySet, testNotClosed, testPickedIsAsReported, testWhatIsKnown,
   testPickedWithoutARule, testPickingByKeys]);

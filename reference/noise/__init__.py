@@ -1,6 +1,6 @@
 """Images and scripts that nobody would write, the same for the same seed.
 
-`images` makes the images that the program crate `hostile_images` makes, and what the reference answers on them.
-`listed` answers on the images that a file of that crate lists.
+`images` makes lists of images that no operation makes. `listed` answers on the images of a list, as the program crate
+`hostile_images` does.
 `scripts` makes scripts from seeds, and `feed` feeds a program other scripts that are none.
 """

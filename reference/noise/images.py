@@ -1,19 +1,13 @@
-"""What replay, the checker, the planner and the reads of an image answer on images that no operation makes.
+"""Images that no operation makes, as a list of the kind that `listed` answers.
 
-The images are filled from fixed seeds, from noise to sound images with a few bytes damaged. All answers on the images
-of one shape and size go into one digest.
+They are filled from fixed seeds, from noise to sound images with a few bytes damaged.
 """
 
-import hashlib
-
-from ..changes import apply, spelled_name
-from ..disk import DIRECTORY, DIRECTORY_MARK, ENTRIES, FREE, INODES, POINTERS, formatted
-from ..faults import faults
+from ..changes import apply
+from ..disk import DIRECTORY, DIRECTORY_MARK, formatted
 from ..plan import plan
 from ..random_cases.world import operation_of_line
-from ..refusals import REFUSAL_TEXTS, Refused
-from ..replay import COMMITTED, DONE, replayed
-from ..rules import ROLES
+from ..replay import COMMITTED, DONE
 from .seeded import Noise
 
 COUNT = 100
@@ -27,7 +21,6 @@ PLANNED = ["create /a", "create /n", "create /d/n", "create /d/x/n", "mkdir /m",
            "unlink /d/x", "unlink /d", "link /d/y /z", "link /a /d/w", "rename /a /d/w", "rename /d/x /w", "rmdir /d",
            "rmdir /a"]
 SIZES = [(16, 6), (64, 20), (128, 60)]
-SPELLED_A = spelled_name("a")
 
 
 def few_bytes(noise):
@@ -115,83 +108,18 @@ def journaled(image, noise):
 
 
 SHAPES = {"AnyBytes": any_bytes, "FewBytes": bytes_that_mean_something, "Damaged": damaged, "Journaled": journaled}
-"""The shapes of images by the names that the program crate prints."""
+"""The shapes of images by their names."""
 
 
-class Answers:
-    """The answers on images so far, as a digest, with counts that show what the images are like."""
-
-    def __init__(self):
-        self.digest = hashlib.sha1()
-        self.clean = self.faults = self.planned = self.replayed = 0
-
-    def add(self, image):
-        """Adds the answers on an image before and after replay."""
-        after = replayed(image)
-        self.digest.update(bytes(after.data))
-        self.replayed += sum(image.block(block) != after.block(block) for block in range(image.blocks))
-        for one in (image, after):
-            self.add_reads(one)
-            self.add_check(one)
-            for line in PLANNED:
-                self.add_plan(one, operation_of_line(line))
-
-    def add_reads(self, image):
-        """Adds what inodes and blocks are read as."""
-        for inode in range(INODES):
-            self.digest.update(bytes(self.read_inode(image, inode)))
-        for block in range(image.blocks):
-            self.digest.update(bytes([image.in_data_area(block), image.byte(1, block), image.byte(block, 1)]))
-
-    def read_inode(self, image, inode):
-        """What one inode and its entries are read as."""
-        entries = [image.entry(inode, k) for k in range(ENTRIES)] if image.counts(inode) else []
-        free = [k for k, entry in enumerate(entries) if entry[0] == 0]
-        read = [image.kind(inode), image.links(inode)] + [image.pointer(inode, slot) for slot in range(POINTERS)]
-        read += [image.kind(inode) != FREE, free[0] if free else 255]
-        return read + [byte for entry in entries for byte in (entry[0], entry[1:] == SPELLED_A)]
-
-    def add_check(self, image):
-        """Adds the faults."""
-        found = faults(image)
-        self.digest.update(bytes([not found]) + "".join(found).encode())
-        self.faults += len(found)
-        self.clean += not found
-
-    def add_plan(self, image, operation):
-        """Adds the changes of an operation and the blocks after it, or why it is refused."""
-        try:
-            changes = plan(image, operation)
-        except Refused as refused:
-            self.digest.update(("%d %s" % (refused.number, REFUSAL_TEXTS[refused.number])).encode())
-            return
-        for change in changes:
-            self.digest.update(bytes([ROLES.index(change.role), change.block, change.offset]) + change.new)
-        changed = image.copy()
-        apply(changed, changes)
-        for change in changes:
-            self.digest.update(changed.block(change.block))
-        self.planned += 1
+def line_of(shape, blocks, journal, seed):
+    """An image of a shape, as a line of a list: its bytes, and the operations that are planned on it."""
+    disk, image = formatted(blocks, journal), formatted(blocks, journal)
+    SHAPES[shape](image, Noise(seed))
+    puts = ["%d 0 %s" % (block, bytes(image.block(block)).hex()) for block in range(blocks)
+            if image.block(block) != disk.block(block)]
+    return "; ".join(["%s of %d blocks, %d" % (shape, blocks, seed), "%d %d" % (blocks, journal), *puts, *PLANNED])
 
 
-def answers_of(shape, blocks, journal, count=COUNT):
-    """The answers on the images of one shape and size."""
-    answers = Answers()
-    for seed in range(count):
-        image = formatted(blocks, journal)
-        SHAPES[shape](image, Noise(seed))
-        answers.add(image)
-    return answers
-
-
-def line_of(shape, blocks, journal, count=COUNT):
-    """The answers on the images of one shape and size, as a line."""
-    answers = answers_of(shape, blocks, journal, count)
-    return "%s %d %d: clean %d faults %d planned %d replayed %d digest %s" % (
-        shape, blocks, journal, answers.clean, answers.faults, answers.planned, answers.replayed,
-        answers.digest.hexdigest())
-
-
-def lines(count=COUNT):
-    """A line for each shape and size."""
-    return [line_of(shape, *size, count) for shape in SHAPES for size in SIZES]
+def lines(shape, blocks, journal, count=COUNT):
+    """The images of one shape and size, as the lines of a list."""
+    return [line_of(shape, blocks, journal, seed) for seed in range(count)]

@@ -1,4 +1,4 @@
-"""Bytes that look random, the same for the same seed, made as the program crate `hostile_images` makes them."""
+"""Bytes that look random, the same for the same seed."""
 
 
 class Noise:

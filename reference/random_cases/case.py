@@ -8,8 +8,8 @@ from ..rules import ordering
 from ..settings import MOST_PATCHES, Settings
 from ..trace import trace
 
-FLAGS = ("explain", "summary", "needs", "strict", "atomic", "whole_blocks", "decide", "enough", "generations",
-         "durable", "syncs", "numbers")
+FLAGS = ("explain", "strict", "atomic", "whole_blocks", "decide", "enough", "generations", "durable", "syncs",
+         "numbers")
 
 
 class Case:
@@ -25,7 +25,7 @@ class Case:
         self.words = None
         self.missing = self.is_big = False
         self.without, self.added = [], []
-        self.explain = self.summary = self.needs = self.strict = False
+        self.explain = self.strict = False
         self.atomic = self.whole_blocks = self.decide = self.enough = False
         self.search = None
         self.generations = self.durable = self.syncs = self.numbers = False

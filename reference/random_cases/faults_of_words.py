@@ -4,7 +4,7 @@ from ..rules import JOURNAL_RULES, rules_of
 from .options import FIRST_PARTS
 
 PLAIN_FAULTS = [
-    ["--limit", "0"], ["--limit", "1000000001"], ["--explorer", "tree"], ["--explorer", "board", "--limit", "32769"],
+    ["--limit", "0"], ["--limit", "32769"], ["--summary"], ["--needs"], ["--explorer", "board"],
     ["--journal", "123"], ["--workers", "0"],
     ["--workers", "17"], ["--blocks", "15"], ["--blocks", "129"], ["--blocks", "x"],
     ["--module", "hard"], ["--module", "Soft"], ["--nothing"], ["one", "two"], ["--limit"],
@@ -31,14 +31,13 @@ def seventeen_rules():
 
 
 def extended_fault(chance, module):
-    """A fault in rules, or in ways to read a report."""
+    """A fault in rules, or in `--explain`."""
     own = rules_of(module)
     absent = chance.choice([rule for rule in rules_of("soft") + JOURNAL_RULES + ("Ptr:Ptr",) if rule not in own])
     rule = chance.choice(own or ("Ptr:Ptr",))
-    kinds = [["--without", absent], ["--with", absent, "--with", absent], ["--needs", "--summary"],
-             ["--summary", "--explain", "--needs", "--json"], ["--with"], ["--without"],
+    kinds = [["--without", absent], ["--with", absent, "--with", absent], ["--with"], ["--without"],
              ["--with", absent, "--without", absent], ["--with", rule, "--with", rule],
-             ["--with="], ["--explain=1"], ["--summary", "yes", "no"]]
+             ["--with="], ["--explain=1"], ["--explain", "--json", "--explain"], ["--explain", "yes", "no"]]
     kinds += [["--with", word] for word in NO_RULES] + [seventeen_rules()]
     if own:
         kinds += [["--without", rule, "--without", rule], ["--without", rule, "--with", rule],
@@ -48,9 +47,8 @@ def extended_fault(chance, module):
 
 def decide_fault(chance, module):
     """A fault in `--decide`."""
-    kinds = [["--decide"] + more for more in (["--summary"], ["--needs"], ["--limit", "4096"], ["--explorer", "auto"],
-                                              ["--explorer=sweep"], ["--explorer", "board"], ["--decide"])]
-    words = chance.choice(kinds + [["--limit=1", "--decide"], ["--decide=yes"]])
+    words = chance.choice([["--decide", "--limit", "4096"], ["--decide", "--decide"], ["--limit=1", "--decide"],
+                           ["--decide=yes"]])
     return ["--module", module] + words if chance.random() < 0.5 else words + ["--module", module]
 
 
@@ -58,9 +56,7 @@ def choosing_fault(chance, module):
     """A fault in `--decide`, or in `--enough`."""
     if chance.random() < 0.5:
         return decide_fault(chance, module)
-    kinds = [["--enough"] + more for more in (["--decide"], ["--summary"], ["--needs"], ["--limit", "4096"],
-                                              ["--explorer", "auto"], ["--explorer=sweep"], ["--explorer", "board"],
-                                              ["--enough"])]
+    kinds = [["--enough"] + more for more in (["--decide"], ["--limit", "4096"], ["--enough"])]
     words = chance.choice(kinds + [["--decide", "--enough"], ["--limit=1", "--enough"], ["--enough=yes"]])
     return ["--module", module] + words if chance.random() < 0.5 else words + ["--module", module]
 
@@ -69,8 +65,7 @@ def searching_fault(chance, module):
     """A fault in `--decide`, in `--enough`, or in `--search`."""
     if chance.random() < 0.5:
         return choosing_fault(chance, module)
-    kinds = [["--search", "2"] + more for more in (["--decide"], ["--summary"], ["--needs"], ["--limit", "4096"],
-                                                   ["--explorer", "auto"], ["--search", "2"])]
+    kinds = [["--search", "2"] + more for more in (["--decide"], ["--limit", "4096"], ["--search", "2"])]
     words = chance.choice(kinds + [["--search"]] + [["--search", word] for word in NO_NUMBERS])
     return ["--module", module] + words
 
@@ -80,8 +75,7 @@ def reaching_fault(chance, module):
     if chance.random() < 0.5:
         return searching_fault(chance, module)
     kinds = [["--whole-blocks=yes"], ["--whole-blocks", "--whole-blocks"]]
-    kinds += [["--search=8", "--enough"] + more for more in (["--decide"], ["--summary"], ["--needs"],
-                                                             ["--limit", "4096"], ["--explorer", "auto"], ["--enough"])]
+    kinds += [["--search=8", "--enough"] + more for more in (["--decide"], ["--limit", "4096"], ["--enough"])]
     kinds += [["--with", word] for word in NO_BEFORE_RULES]
     kinds += [["--with", "Ptr:before-Ptr", "--with", "Ptr:before-Ptr"], ["--without", "Ptr:before-Ptr"]]
     return ["--module", module] + chance.choice(kinds)
@@ -90,8 +84,7 @@ def reaching_fault(chance, module):
 def deciding_fault(chance, module):
     """A fault in a question about all sets, or in a rule for all operations before."""
     question = chance.choice(QUESTIONS)
-    kinds = [question + more for more in (["--summary"], ["--needs"], ["--limit", "4096"], ["--explorer", "auto"],
-                                          ["--explorer", "sweep"], ["--limit=1"])]
+    kinds = [question + more for more in (["--limit", "4096"], ["--limit=1"])]
     kinds += [["--decide", "--enough"], ["--decide", "--search", "2"], ["--search", "2", "--enough", "--decide"],
               ["--search"], ["--atomic=1"], ["--decide=yes"], ["--search", "1", "--search", "1"]]
     kinds += [["--search", word] for word in NO_NUMBERS] + [["--with", word] for word in NO_BEFORE_RULES]

@@ -107,7 +107,7 @@ def plain_case(chance, modules, heavy_share):
 def extended_pieces(case, chance):
     """The words of rules and ways to read a report, in pieces that stay together. The rules that are put in keep their
     order."""
-    pieces = [["--" + name] for name in ("explain", "summary", "needs") if getattr(case, name)]
+    pieces = [["--explain"]] * case.explain
     pieces += [joined(chance, "--without", rule) for rule in case.without]
     kept = [joined(chance, "--with", rule) for rule in case.added]
     pieces += [None] * len(kept)

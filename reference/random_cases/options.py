@@ -42,8 +42,6 @@ def extend(case, chance):
     """Gives a case rules and ways to read its report."""
     case.json = chance.random() < 0.4
     case.explain = chance.random() < 0.5
-    case.summary = chance.random() < 0.3
-    case.needs = not case.summary and chance.random() < 0.45
     own = rules_of(case.module)
     if own and chance.random() < 0.6:
         count = chance.choice([1, 1, 1, 1, 2, 2, 3, len(own)])
@@ -136,7 +134,7 @@ def ask_one_of(case, chance, questions):
         return
     prepare(case, chance, question)
     ask(case, chance, question)
-    drop_other_questions(case)
+    drop_limit(case)
     while case.enough and len(case.added) > 3 and case.added != list(rules_of("soft")):
         case.added.pop()
 
@@ -145,13 +143,12 @@ def decide(case, chance):
     """Asks for a decision in a third of the cases."""
     if chance.random() < 0.33:
         ask(case, chance, "decide")
-        drop_other_questions(case)
+        drop_limit(case)
 
 
-def drop_other_questions(case):
-    """Leaves out the words that do not go with a question about all sets."""
+def drop_limit(case):
+    """Leaves out the limit, which does not go with a question about all sets."""
     if case.decide or case.enough or case.search:
-        case.summary = case.needs = False
         case.limit = None
 
 

@@ -28,7 +28,7 @@ SAVES = (save, save, save, backup_by_copy, backup_by_rename, two_names, data_wri
 
 ANY_SHAPES = (any_operations, any_operations, used_again)
 
-QUESTIONS = ["none", "none", "none", "none", "summary", "summary", "needs", "decide", "decide", "enough", "search",
+QUESTIONS = ["none", "none", "none", "none", "none", "decide", "decide", "decide", "decide", "enough", "search",
              "search", "search enough"]
 
 LESS_OF_A_JOURNAL = [["Commit:Copy"], ["Commit:Copy"], ["Commit:Copy"], ["InPlace:Commit"], ["Commit:previous-Commit"],
@@ -93,7 +93,7 @@ def give_rules(case, chance, shape):
 def give_flags(case, chance, shape, question, level):
     """The options that every question goes with."""
     case.strict = False
-    case.summary = case.needs = case.decide = case.enough = False
+    case.decide = case.enough = False
     case.limit = case.search = None
     case.generations = chance.random() < 0.3
     case.atomic = case.atomic and chance.random() < 0.4
@@ -182,7 +182,7 @@ def asked(case, chance, base, traced, question, level):
         case.enough = True
         case.added = list(rules_of("soft")) if case.module == "async" and chance.random() < 0.7 else case.added[:2]
         return shortened(case, base, traced, 800 if is_journal(case) else 1400, rules=())
-    case.decide, case.summary, case.needs = [question == one for one in ("decide", "summary", "needs")]
+    case.decide = question == "decide"
     return shortened(case, base, traced, chance.choice([400 if is_journal(case) else 700, 2500, 4096]))
 
 
@@ -212,7 +212,7 @@ def promise(case, chance, level):
         case.module = "soft"
     case.module = pick_module(case, chance, shape)
     if shape in TOUCHING and chance.random() < 0.8:
-        question = chance.choice(["none", "none", "summary", "decide", question])
+        question = chance.choice(["none", "none", "decide", "decide", question])
     give_flags(case, chance, shape, question, level)
     give_geometry(case, chance)
     give_rules(case, chance, shape)
@@ -225,7 +225,7 @@ def promise(case, chance, level):
     base, traced = spoiled(case, chance, world.after([]), base, traced, level)
     lines = base + ["start"] + traced
     case.script = encoded(chance, with_comments(chance, lines) if chance.random() < 0.15 else lines)
-    if question in ("none", "summary", "needs") and chance.random() < 0.1:
+    if question == "none" and chance.random() < 0.1:
         case.limit = chance.choice([1, 3, 10, 100, 4096, 32768])
 
 

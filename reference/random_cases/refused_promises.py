@@ -58,9 +58,9 @@ NO_NUMBERS_OF_FAULTS = [
 
 SYNC_FAULTS = [
     ["--syncs"], ["--syncs", "--decide"], ["--syncs", "--search", "1"], ["--syncs", "--enough", "--search", "1"],
-    ["--syncs", "--enough", "--syncs"], ["--syncs", "--summary"], ["--syncs", "--needs"], ["--syncs=1", "--enough"],
-    ["--syncs", "--enough", "--decide"], ["--syncs", "--enough", "--limit", "5"], ["--enough", "--syncs", "--summary"],
-    ["--syncs", "--faults", "10"], ["--enough", "--syncs", "--explorer", "auto"]]
+    ["--syncs", "--enough", "--syncs"], ["--syncs", "--limit", "5"], ["--syncs=1", "--enough"],
+    ["--syncs", "--enough", "--decide"], ["--syncs", "--enough", "--limit", "5"], ["--enough", "--syncs", "--syncs=1"],
+    ["--syncs", "--faults", "10"], ["--limit=1", "--enough", "--syncs"]]
 
 NUMBER_FAULTS = [
     ["--numbers"], ["--numbers", "--decide"], ["--numbers", "--json", "--numbers"], ["--numbers=1", "--json"],

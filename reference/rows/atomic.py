@@ -2,7 +2,8 @@
 
 
 from .support import (
-    CREATE, DIRECTORY_REUSE, FULL_WORDS, META_WORDS, MKDIR, RENAME, Rows, WRITE, answered, blocks_of, with_line)
+    CREATE, DIRECTORY_REUSE, FULL_WORDS, META_WORDS, MKDIR, RENAME, Rows, WRITE, answered, blocks_of, counts,
+    first_numbers, with_line)
 
 
 class Atomic(Rows):
@@ -146,30 +147,21 @@ class Atomic(Rows):
             fault 1 dangling entry: directory 0 entry 0 inode 1
             fault 9 half-done operation
             """)
-        self.answers(CREATE, "--atomic --needs", 1, """
+        self.answers(CREATE, "--atomic --decide --without EntrySet:InodeInit", 1, """
             module soft
+            without EntrySet:InodeInit
             atomic
             patches 2
-            closed 3
-            failing 1
-            rule EntrySet:InodeInit pairs 1 closed 4 failing 2
+            closed 4
+            fault 1 dangling entry: directory 0 entry 0 inode 1
             set 1
             write block 4: 1
-            fault 1 dangling entry: directory 0 entry 0 inode 1
             fault 9 half-done operation
-            rule EntrySet:LinkUp pairs 0
-            rule EntrySet:Ptr pairs 0
-            rule InitFile:MapSet pairs 0
-            rule InitDir:MapSet pairs 0
-            rule Ptr:InitFile pairs 0
-            rule Ptr:InitDir pairs 0
-            rule Ptr:MapSet pairs 0
-            rule LinkDown:EntryClear pairs 0
-            rule InodeFree:EntryClear pairs 0
-            rule MapClear:InodeFree pairs 0
-            rule EntryClear:EntrySet pairs 0
-            rule MapClear:PtrClear pairs 0
+            set 0
+            write block 2: 0
             """)
+        self.assertEqual((counts(CREATE, module="soft", atomic=True), counts(CREATE, atomic=True)),
+                         ((2, 3, 1), (2, 4, 2)))
 
     def test_with_other_options(self):
         self.answers(RENAME, "--module async --strict --atomic", 1, """
@@ -216,26 +208,7 @@ class Atomic(Rows):
             fault 7 lost inode: inode 1
             fault 9 half-done operation
             """)
-        self.answers(RENAME, "--module async --strict --atomic --summary", 1, """
-            module async
-            strict
-            atomic
-            patches 4
-            closed 12
-            failing 8
-            fault 4 low link count: inode 1 entries 2 links 1
-            sets 2
-            set 1
-            write block 4: 1
-            fault 7 lost inode: inode 1
-            sets 3
-            set 2
-            write block 4: 2
-            fault 9 half-done operation
-            sets 8
-            set 0
-            write block 2: 0
-            """)
+        self.assertEqual([sets for _, sets, _ in first_numbers(RENAME, strict=True, atomic=True)], [2, 3, 8])
         self.answers(CREATE, "--strict --atomic --without EntrySet:Ptr --with Done:Done", 1, """
             module soft
             without EntrySet:Ptr

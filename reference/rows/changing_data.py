@@ -1,7 +1,6 @@
 """`overwrite`, `truncate` and `replace`: what they change, when they are refused, and which rules they need."""
 
-from .support import (LateRows, answered, closed_and_failing, enough_of, first_failing, lines_of, needs_table, program,
-                      script_of)
+from .support import LateRows, answered, closed_and_failing, enough_of, first_failing, lines_of, program, script_of
 
 OVERWRITE = "create /a ; write /a ; write /a ; start ; overwrite /a"
 REPLACE = "create /a ; write /a ; create /t ; start ; replace /t /a"
@@ -99,9 +98,9 @@ class UnderAJournal(LateRows):
             self.assertEqual(closed_and_failing(OVERWRITE, words), (closed, 0), rule)
 
     def test_rules_of_the_journal(self):
-        table = needs_table(OVERWRITE, META_6)[1]
-        self.assertIn(("Commit:FileData", 0, None, None, None), table)
-        self.assertIn(("InPlace:Commit", 1), [row[:2] for row in table])
+        whole = "\n".join(patches_of(OVERWRITE, META_6))
+        self.assertEqual((whole.count("Commit:FileData"), whole.count("InPlace:Commit")), (0, 1))
+        self.assertEqual(closed_and_failing(OVERWRITE, META_6, "--without Commit:FileData"), (20, 0))
 
     def test_data_behind_data_that_are_written_over(self):
         found = patches_of("create /a ; write /a ; start ; overwrite /a ; write /a", "--module meta --journal 8")
@@ -164,11 +163,10 @@ class WhichRules(LateRows):
     """What the rules are needed for."""
 
     def test_truncate(self):
-        out = answered("create /a ; write /a ; create /b ; start ; truncate /a ; write /b", "--needs")[0]
-        self.assertEqual(len(lines_of(out, "rule")), 13)
-        self.assertTrue(out.endswith("rule MapClear:PtrClear pairs 1 closed 10 failing 3\nset 1\nwrite block 1: 1\n"
-                                     "fault 5 used block marked free: inode 1 slot 0 block 5\n"))
-        self.assertTrue(answered("start ; create /a", "--needs")[0].endswith("rule MapClear:PtrClear pairs 0\n"))
+        rows, words = "create /a ; write /a ; create /b ; start ; truncate /a ; write /b", "--without MapClear:PtrClear"
+        self.assertEqual(closed_and_failing(rows, words), (10, 3))
+        self.assertTrue(answered(rows, words, "--decide")[0].endswith(
+            "fault 5 used block marked free: inode 1 slot 0 block 5\nset 1\nwrite block 1: 1\n"))
         rows = "create /a ; write /a ; start ; truncate /a"
         self.assertEqual(closed_and_failing(rows, "--without MapClear:PtrClear"), (4, 1))
 

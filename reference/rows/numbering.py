@@ -40,8 +40,8 @@ class Numbering(LateRows):
         self.assertEqual((json.loads(text)["geometry"], status), ({"block_size": 128, "blocks": 40, "journal": 12}, 0))
 
     def test_nothing_else_changes(self):
-        for words in ("", "--summary", "--needs", "--decide", "--enough", "--search 2", "--search 1 --enough",
-                      "--enough --syncs", "--explain"):
+        for words in ("", "--decide", "--enough", "--search 2", "--search 1 --enough", "--enough --syncs", "--explain",
+                      "--decide --explain", "--enough --explain"):
             with self.subTest(words):
                 rows = "create /a ; start ; write /a ; fsync /a"
                 text, status = answered(rows, "--module async --durable --json --numbers " + words)

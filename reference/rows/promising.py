@@ -6,8 +6,8 @@ BARE_SAVE = "create /a ; write /a ; start ; keep /a ; create /t ; write /t ; rep
 SAVE = BARE_SAVE.replace("replace", "fsync /t ; replace")
 JOURNALS = ("--module meta --blocks 24 --journal 14", "--module full --blocks 24 --journal 14")
 ORDERINGS = ("--module async", "--module soft") + JOURNALS
-BIG_JOURNALS = ("--limit 100000 --blocks 40 --module meta --journal 24",
-                "--limit 100000 --blocks 40 --module full --journal 24")
+BIG_JOURNALS = ("--limit 32768 --blocks 40 --module meta --journal 24",
+                "--limit 32768 --blocks 40 --module full --journal 24")
 TRUNCATE = "create /a ; write /a ; start ; keep /a ; group S ; truncate /a ; write /a ; end"
 
 
@@ -49,11 +49,8 @@ class Saves(OrderingRows):
         self.assertEqual(answered(BARE_SAVE, "--decide --json")[0], (
             '{"closed":"51","faults":[{"fault":"10 broken promise: line 4","set":[0,5,6],"writes":[{"block":2,'
             '"patches":[0,5]},{"block":4,"patches":[6]}]}],"module":"soft","patches":11}\n'))
-        self.assertEqual(answered(BARE_SAVE, "--summary --json")[0], (
-            '{"closed":51,"faults":[{"fault":"10 broken promise: line 4","set":[0,5,6],"sets":24,"writes":[{"block":2,'
-            '"patches":[0,5]},{"block":4,"patches":[6]}]}],"module":"soft","patches":11,"sets":24}\n'))
-        self.assertTrue("fault 10 broken promise: line 4\nsets 12\nset 0 1 2 3 4 9\nwrite block" in answered(
-            SAVE, "--module async --summary")[0])
+        self.assertIn("fault 10 broken promise: line 4\nset 0 1 2 3 4 9\nwrite block", answered(
+            SAVE, "--module async --decide")[0])
 
     def test_a_save_by_truncate(self):
         self.check_orderings({
@@ -160,10 +157,10 @@ class Rests(OrderingRows):
 
     def test_within_a_group(self):
         rows = ("create /a ; write /a ; start ; group S ; truncate /a ; keep /a ; write /a ; write /a ; end ; write /a")
-        text = answered(rows, "--explain --summary")[0]
+        text = answered(rows, "--explain --decide")[0]
         self.assertEqual(text[text.index("promise"):], (
             "promise line 6 keep /a\nshows file\nshows file 46010000 46010000\nshows file 46010000 46010000 46010000\n"
-            "fault 10 broken promise: line 6\nshows file 46010000\nsets 49\nset\n"))
+            "fault 10 broken promise: line 6\nshows file 46010000\nset\n"))
         self.assertEqual(closed_and_failing(rows), (89, 49))
         self.assertEqual(self.explained("create /a ; start ; keep /a ; group A ; end ; write /a", "", "shows"),
                          ["shows file", "shows file 46010000"])

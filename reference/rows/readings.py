@@ -1,14 +1,13 @@
-"""Ways to read a report: with patches, by faults, and by rules."""
+"""How a report is read: with patches, and with rules that are put in and taken out."""
 
 
 from ..rules import PARTS, rules_of
 from .support import (
-    BLOCK_REUSE, CREATE, CREATE_WRITE, DANGLING, DIRECTORY_REUSE, MARKED_FREE, META_WORDS, Rows, UNWRITTEN,
-    answered, lines, reuse_report, run, whole)
+    BLOCK_REUSE, CREATE, DANGLING, DIRECTORY_REUSE, META_WORDS, Rows, answered, lines, reuse_report, run, whole)
 
 
 class Readings(Rows):
-    """What `--explain` and `--summary` show, and rules that are put in and taken out."""
+    """What `--explain` shows, and rules that are put in and taken out."""
 
     def test_a_create_with_its_patches(self):
         wanted_text = lines("module async", "patches 2", "closed 4", "failing 1",
@@ -71,41 +70,6 @@ class Readings(Rows):
             "replay"))), report_text)
         self.assertEqual(status, 1)
 
-    def test_a_journal_by_faults(self):
-        first_set = reuse_report()[1]
-        self.assertEqual(answered(DIRECTORY_REUSE, META_WORDS, "--summary"), (lines("module meta", "patches 21",
-            "closed 629", "failing 48", "fault 3 unwritten pointer: inode 3 slot 0 block 17", "sets 48") + first_set,
-            1))
-
-    def test_a_written_file_by_faults(self):
-        self.answers(CREATE_WRITE, "--module async --summary", 1, """
-            module async
-            patches 5
-            closed 24
-            failing 10
-            fault 1 dangling entry: directory 0 entry 0 inode 1
-            sets 4
-            set 1
-            write block 4: 1
-            fault 3 unwritten pointer: inode 1 slot 0 block 5
-            sets 4
-            set 0 4
-            write block 2: 0 4
-            fault 5 used block marked free: inode 1 slot 0 block 5
-            sets 4
-            set 0 4
-            write block 2: 0 4
-            """)
-        self.assertEqual(answered(CREATE_WRITE, "--module async --summary --json"), (
-            '{"closed":24,"faults":[{"fault":"' + DANGLING
-            + '","set":[1],"sets":4,"writes":[{"block":4,"patches":[1]}]},{"fault":"' + UNWRITTEN
-            + '","set":[0,4],"sets":4,"writes":[{"block":2,"patches":[0,4]}]},{"fault":"' + MARKED_FREE
-            +
-            '","set":[0,4],"sets":4,"writes":[{"block":2,"patches":[0,4]}]}],"module":"async","patches":5,'
-            '"sets":10}\n', 1))
-        self.assertEqual(answered("start", "--module async --summary --json"), (
-            '{"closed":1,"faults":[],"module":"async","patches":0,"sets":0}\n', 0))
-
     def test_rules_put_in_and_taken_out(self):
         rules = rules_of("soft")
         self.assertEqual(answered(BLOCK_REUSE, "--module async", *("--with " + rule for rule in rules)), (lines(
@@ -123,25 +87,6 @@ class Readings(Rows):
             failing 0
             """)
 
-    def test_needs_of_rules_that_are_put_in(self):
-        self.answers(CREATE_WRITE, "--module async --with Ptr:MapSet --with EntrySet:InodeInit --needs", 1, """
-            module async
-            with Ptr:MapSet
-            with EntrySet:InodeInit
-            patches 5
-            closed 16
-            failing 2
-            rule Ptr:MapSet pairs 1 closed 20 failing 6
-            set 0 4
-            write block 2: 0 4
-            fault 3 unwritten pointer: inode 1 slot 0 block 5
-            fault 5 used block marked free: inode 1 slot 0 block 5
-            rule EntrySet:InodeInit pairs 1 closed 20 failing 6
-            set 1
-            write block 4: 1
-            fault 1 dangling entry: directory 0 entry 0 inode 1
-            """)
-
     def test_the_order_of_rules_in_a_report(self):
         self.assertEqual(answered(CREATE,
             "--without Ptr:MapSet --with Ptr:previous-Ptr --without EntrySet:Ptr --with Done:Done --json"), (
@@ -153,7 +98,7 @@ class Readings(Rows):
         for words in ("--module async --without EntrySet:InodeInit", "--module meta --without EntrySet:InodeInit",
             "--without Ptr:Ptr", "--with Ptr:Ptr --with Ptr:Ptr", "--without Ptr:MapSet --without Ptr:MapSet",
             "--without Ptr:MapSet --with Ptr:MapSet", "--with Ptr", "--with Data:Copy", "--with ptr:Ptr",
-            "--with Ptr:same-Ptr", "--with Ptr:previous-", "--with=", "--with", "--needs --summary", " ".join((
+            "--with Ptr:same-Ptr", "--with Ptr:previous-", "--with=", "--with", " ".join((
             "--with %s:previous-InPlace" % part for part in PARTS[:16])) + " --with Ptr:Ptr"):
             self.assertEqual(answered("start", words), ("", 2))
 

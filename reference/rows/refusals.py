@@ -120,6 +120,9 @@ class Refusals(unittest.TestCase):
         self.assertEqual(program([], script_of(CREATE)), ("module soft\npatches 2\nclosed 3\nfailing 0\n", "", 0))
 
     def test_words_of_the_command_line_that_are_none(self):
-        for words in (["--limit", "0"], ["--journal", "123"], ["--workers", "17"], ["one", "two"]):
-            out, err, status = program(words, script_of("start"))
-            self.assertEqual((out, status), ("", 2))
+        for words in (["--limit", "0"], ["--journal", "123"], ["--workers", "17"], ["one", "two"], ["--summary"],
+                      ["--needs"], ["--explorer", "board"], ["--limit", "32769"], ["--limit", "1000000000"]):
+            for script in ("start", CREATE, "no script"):
+                out, err, status = program(words, script_of(script))
+                self.assertEqual((out, bool(err), status), ("", True, 2), words)
+        self.assertEqual(program(["--limit", "32768"], script_of(CREATE)), program([], script_of(CREATE)))

@@ -485,8 +485,7 @@ class Searching(Rows):
 
     def test_options_that_do_not_go_with_a_question(self):
         for question in ("--decide", "--enough", "--search 1", "--search 8 --enough"):
-            for other in ("--summary", "--needs", "--limit 4096", "--explorer auto", "--explorer sweep",
-                "--explorer board"):
+            for other in ("--limit 1", "--limit 4096", "--limit=32768"):
                 self.assertEqual((answered("start", question, other), answered("start", other, question)), (("", 2), (
                     "", 2)))
 

@@ -3,9 +3,8 @@
 
 from ..closed_sets import ids_of
 from .support import (
-    CREATE, CREATE_BESIDE, DANGLING, DIRECTORY_REUSE, LINK_UNLINK, LOST, LOW, META_WORDS, MKDIR, RENAME,
-    RENAME_IN, RENAME_MKDIR, RENAME_OUT, Rows, UNLINK_CREATE, answered, counts, failing_ids, lines, parts,
-    program, reuse_report, script_of)
+    CREATE, CREATE_BESIDE, DANGLING, DIRECTORY_REUSE, LINK_UNLINK, META_WORDS, MKDIR, RENAME, RENAME_IN, RENAME_OUT,
+    Rows, UNLINK_CREATE, answered, counts, failing_ids, first_numbers, parts, program, reuse_report, script_of)
 
 
 class Strict(Rows):
@@ -38,21 +37,6 @@ class Strict(Rows):
             write block 4: 2
             write block 2: 3
             fault 7 lost inode: inode 1
-            """)
-        self.answers(RENAME, "--module async --strict --summary", 1, """
-            module async
-            strict
-            patches 4
-            closed 12
-            failing 5
-            fault 4 low link count: inode 1 entries 2 links 1
-            sets 2
-            set 1
-            write block 4: 1
-            fault 7 lost inode: inode 1
-            sets 3
-            set 2
-            write block 4: 2
             """)
         self.answers(RENAME, "--strict", 0, """
             module soft
@@ -144,63 +128,38 @@ class Strict(Rows):
             self.assertEqual(counts(rows, module="soft", added=added), wanted[:2] + (0,))
 
     def test_faults_of_a_rename_into_a_new_directory(self):
-        self.answers(RENAME_IN, "--module async --strict --summary", 1, """
+        self.answers(RENAME_IN, "--module async --strict --decide", 1, """
             module async
             strict
             patches 9
             closed 216
-            failing 169
             fault 1 dangling entry: directory 0 entry 1 inode 2
-            sets 36
             set 4
             write block 4: 4
             fault 3 unwritten pointer: inode 2 slot 0 block 5
-            sets 24
             set 0 3
             write block 2: 0 3
             fault 4 low link count: inode 1 entries 2 links 1
-            sets 8
             set 0 2 3 6
             write block 2: 0
             write block 5: 2
             write block 2: 3
             write block 5: 6
             fault 5 used block marked free: inode 2 slot 0 block 5
-            sets 36
             set 0 3
             write block 2: 0 3
             fault 7 lost inode: inode 1
-            sets 102
             set 7
             write block 4: 7
             fault 8 directory without a block: inode 2
-            sets 36
             set 0 4
             write block 2: 0
             write block 4: 4
             """)
+        self.assertEqual([sets for _, sets, _ in first_numbers(RENAME_IN, strict=True)], [36, 24, 8, 36, 102, 36])
+        self.assertEqual(counts(RENAME_IN, strict=True), (9, 216, 169))
         self.assertEqual([one.faults for one in parts(RENAME_IN, strict=True).failing if ids_of(one.patch_set) == [0,
             4, 7]], [["7 lost inode: inode 1", "8 directory without a block: inode 2"]])
-
-    def test_needs_of_a_rename_and_a_new_directory(self):
-        wanted_lines = ["module soft", "strict", "patches 9", "closed 37", "failing 0",
-            "rule EntrySet:InodeInit pairs 1 closed 37 failing 0", "rule EntrySet:LinkUp pairs 1 closed 52 failing 7",
-            "set 1", "write block 4: 1", "fault " + LOW, "rule EntrySet:Ptr pairs 1 closed 43 failing 6",
-            "set 0 1 2 4 8", "write block 2: 0", "write block 4: 1 2", "write block 2: 4", "write block 4: 8",
-            "fault 8 directory without a block: inode 2", "rule InitFile:MapSet pairs 0",
-            "rule InitDir:MapSet pairs 1 closed 47 failing 0", "rule Ptr:InitFile pairs 0",
-            "rule Ptr:InitDir pairs 1 closed 44 failing 7", "set 4 5 7", "write block 2: 4", "write block 1: 5",
-            "write block 2: 7", "fault 3 unwritten pointer: inode 2 slot 0 block 5",
-            "rule Ptr:MapSet pairs 1 closed 37 failing 0", "rule LinkDown:EntryClear pairs 1 closed 51 failing 7",
-            "set 0 1 3", "write block 2: 0", "write block 4: 1", "write block 2: 3", "fault " + LOW,
-            "rule InodeFree:EntryClear pairs 0", "rule MapClear:InodeFree pairs 0",
-            "rule EntryClear:EntrySet pairs 1 closed 61 failing 24", "set 2", "write block 4: 2", LOST,
-            "rule MapClear:PtrClear pairs 0"]
-        self.assertEqual(answered(RENAME_MKDIR, "--strict --needs"), (lines(*wanted_lines), 0))
-        plain_lines = (wanted_lines[:10] + ["rule EntrySet:Ptr pairs 1 closed 43 failing 0"] + wanted_lines[17:-5] + [
-            "rule EntryClear:EntrySet pairs 1 closed 61 failing 0", "rule MapClear:PtrClear pairs 0"])
-        plain_lines.remove("strict")
-        self.assertEqual(answered(RENAME_MKDIR, "--needs"), (lines(*plain_lines), 0))
 
     def test_an_inode_that_is_given_up_or_new_is_not_kept(self):
         self.assertEqual(counts(UNLINK_CREATE, module="soft", strict=True), (4, 5, 0))
@@ -216,27 +175,26 @@ class Strict(Rows):
             "module meta\nstrict\n"), 1))
 
     def test_a_commit_before_its_copies_loses_the_root(self):
-        self.answers(CREATE_BESIDE, "--module meta --journal 6 --strict --without Commit:Copy --summary", 1, """
+        self.answers(CREATE_BESIDE, "--module meta --journal 6 --strict --without Commit:Copy --decide", 1, """
             module meta
             without Commit:Copy
             strict
             patches 6
             closed 24
-            failing 12
             fault 3 unwritten pointer: inode 0 slot 0 block 10
-            sets 4
             set 0 2
             write block 5: 0
             write block 4: 2
             fault 7 lost inode: inode 0
-            sets 8
             set 2
             write block 4: 2
             fault 7 lost inode: inode 1
-            sets 12
             set 2
             write block 4: 2
             """)
+        freed = dict(module="meta", journal=6, without=("Commit:Copy",), strict=True)
+        self.assertEqual(counts(CREATE_BESIDE, **freed), (6, 24, 12))
+        self.assertEqual([sets for _, sets, _ in first_numbers(CREATE_BESIDE, **freed)], [4, 8, 12])
         self.assertEqual(counts(CREATE_BESIDE, module="meta", journal=6, without=("Commit:Copy",)), (6, 24, 4))
 
     def test_the_line_strict_in_reports(self):
@@ -253,5 +211,5 @@ class Strict(Rows):
             """)
         self.assertEqual(program("--strict --limit 2".split(), script_of(CREATE)), ("",
             "crashmap: 30 too many closed sets\n", 2))
-        for words in ("--strict=1", "--strict --needs --summary"):
+        for words in ("--strict=1", "--strict --strict"):
             self.assertEqual(answered("start", words), ("", 2))

@@ -4,7 +4,6 @@ A script is written on one line, with ` ; ` in place of each line feed.
 """
 
 import io
-import json
 import re
 import unittest
 from unittest import mock
@@ -20,7 +19,7 @@ from ..random_cases.world import operation_of_line
 from ..refusals import Refusal, Refused
 from ..second_way import decide
 from ..settings import Settings
-from ..summary import counted_faults
+from ..verdicts import each_fault
 
 CREATE = "start ; create /a"
 CREATE_WRITE = "start ; create /a ; write /a"
@@ -165,7 +164,7 @@ def unindented(text):
 def first_numbers(rows, **chosen):
     """Each fault with its number of sets and the first of them, by enumeration."""
     found = explore(script_of(rows), settings(decide=True, **chosen))
-    return [(text, sets, first.patch_set) for text, sets, first in counted_faults(found.failing)]
+    return [(text, len(some), some[0].patch_set) for text, some in each_fault(found.failing)]
 
 
 def second_numbers(rows, **chosen):
@@ -196,14 +195,6 @@ def blocks_of(text):
 def with_line(text, line, new):
     """The text with a new line after the first one that is `line`."""
     return text.replace(line + "\n", line + "\n" + new + "\n", 1)
-
-
-def needs_table(rows, *words):
-    """The head numbers, and then (rule, pairs, closed, failing, first set) of each rule."""
-    value = json.loads(answered(rows, "--needs --json", *words)[0])
-    return ((value["patches"], value["closed"], value["failing"]),
-            [(one["rule"], one["pairs"], one.get("closed"), one.get("failing"),
-              one["first"]["set"] if "first" in one else None) for one in value["rules"]])
 
 
 def reuse_report():

@@ -92,9 +92,8 @@ class WhichSyncs(LateRows):
 
     def test_command_lines(self):
         for words in ("--syncs", "--syncs --decide", "--enough --syncs --search 1", "--search 1 --syncs",
-                      "--enough --syncs --decide", "--enough --syncs --limit 4096", "--enough --syncs --summary",
-                      "--enough --syncs --needs", "--enough --syncs --explorer auto", "--enough --syncs --syncs",
-                      "--enough --syncs=1"):
+                      "--enough --syncs --decide", "--enough --syncs --limit 4096", "--limit=1 --enough --syncs",
+                      "--enough --syncs --syncs", "--enough --syncs=1"):
             self.assertEqual(answered("start", words), ("", 2), words)
 
 

@@ -1,7 +1,5 @@
 """The second way's answers."""
 
-import re
-
 from ..answer import decision, report
 from ..closed_sets import canonical_key
 from ..enough import enough_of
@@ -9,15 +7,11 @@ from ..explore import Found, fails, has_promises, start
 from ..refusals import Refusal, TooMuch
 from ..rules import put_in, taken_out
 from ..trace import trace
+from ..verdicts import in_order
 from ..work import Work
 from .fault_tests import tests_of
 from .reader import Problem
 from .search import families, first
-
-
-def in_order(found):
-    """Faults, as rows that begin with a text, in the order of reports."""
-    return sorted(found, key=lambda row: [int(number) for number in re.findall("[0-9]+", row[0])])
 
 
 def firsts(problem):
@@ -56,10 +50,9 @@ class SecondWork(Work):
         return not is_safe(self.problem(rules))
 
     def all_faults(self, rules):
-        """Each fault with the first set that has it. The number of its sets is not known."""
+        """Each fault with the first set that has it."""
         problem = self.problem(rules)
-        return [(text, None, self.judge.judged(problem.patches, one, problem.promises))
-                for text, one in firsts(problem)]
+        return [(text, self.judge.judged(problem.patches, one, problem.promises)) for text, one in firsts(problem)]
 
     def first_fault(self, rules):
         return self.all_faults(rules)[0]
@@ -80,7 +73,7 @@ def prepared(script, settings):
 def answer(script, settings):
     """The report on a script, and whether the exit status is 1, without enumeration: for `--decide`, for `--enough` of
     one script, and for a report without failing sets. `Refusal` where the script is refused, `TooMuch` for all else."""
-    if settings.search is not None or settings.needs or settings.syncs:
+    if settings.search is not None or settings.syncs:
         raise TooMuch("a question that the second way does not answer")
     work, rules, found, closed = prepared(script, settings)
     if settings.enough:
