@@ -39,6 +39,9 @@ build() {
     python3 "$top/launch/prove.py" "$top" "$1" </dev/null || exit 2
 }
 
+# names_program: whether CRASHMAP_PROGRAM names a program. The launcher itself is none, since it would call itself.
+names_program() { [ -n "${CRASHMAP_PROGRAM:-}" ] && ! [ "$CRASHMAP_PROGRAM" -ef "$top/crashmap" ]; }
+
 # program_to_time: the program that CRASHMAP_PROGRAM names, or else the one that is proved and built here
 program_to_time() {
     if [ -z "${CRASHMAP_PROGRAM:-}" ]; then
@@ -61,4 +64,18 @@ need_unproved() {
     say "compiles a program without proofs, in one to four minutes, and keeps it for later answers;" \
         "./crashmap --prove proves it once, in $first_proof"
     python3 "$top/launch/compile.py" "$top" "$1" </dev/null || exit 2
+}
+
+# warn_of_long_search: says how to get a faster program, if the options ask for a long search
+warn_of_long_search() {
+    local option
+    for option in ${options[@]+"${options[@]}"}; do
+        case $option in
+        --search=[4-8])
+            say "a search of four operations or more is some hundred times as fast with the proved program;" \
+                "./crashmap --prove makes it"
+            return
+            ;;
+        esac
+    done
 }
