@@ -3,3 +3,7 @@
 
 class Stop(Exception):
     """The recording cannot go on. The text says why, and `--lossy` does not help."""
+
+
+class NothingPromised(Stop):
+    """The script would make no promise, so that crashmap could not but say that each is kept."""

@@ -19,7 +19,7 @@ def follow(world, calls, command):
             birth = births.get(call.process) or world.lost(call, "nothing is known of how this process began")
             clone(world, birth)
         world.process = world.processes[call.process]
-        if call.result is not None and (call.result >= 0 or call.name == "mmap"):
+        if call.result is not None and call.result >= 0:
             HANDLERS[call.name](world, call, *call.arguments)
 
 
@@ -77,9 +77,12 @@ def open_at(world, call, at, path, flags, *_):
     if call.path is not None and world.inside(call.path) != within and not flags & {"O_TMPFILE"}:
         world.lost(call, "the kernel has another path")
     if within is None:
-        world.outside += "O_CREAT" in flags and not string_of(path).startswith("/dev/")
+        world.outside.open(world.real(at, string_of(path), True), flags)
     elif "O_TMPFILE" in flags:
-        world.cannot(call, "a file without a name (O_TMPFILE)", "it is a file outside the directory")
+        world.cannot(call, "a file without a name (O_TMPFILE)", "one with a name that no promise is about")
+        node = world.make_up(call, within, "nameless")
+        world.emit("opened", call, node)
+        world.process.slots[call.result] = (Opened(node, node.made_up, flags), "O_CLOEXEC" in flags)
     else:
         open_within(world, call, within, flags)
 
@@ -129,12 +132,17 @@ def close_range(world, call, first, last, flags):
             world.close(number, call)
 
 
-def on_file(handler):
-    """The handler of a call whose first argument is a descriptor: it gets the open file, if it is one to look at."""
+def on_file(handler, changes=False):
+    """The handler of a call whose first argument is a descriptor: it gets the open file, if it is one to look at.
+
+    A call that `changes` a file outside the directory is noted.
+    """
     def handle(world, call, descriptor, *arguments):
         opened = world.opened(call, descriptor)
         if opened:
             handler(world, call, opened, *arguments)
+        elif changes:
+            world.outside.write(descriptor_of(descriptor)[1])
     return handle
 
 
@@ -166,6 +174,7 @@ def write_at(world, call, opened, _, __, offset, flags=""):
 
 def copy_range(world, call, source, read_from, target, written_to, *_):
     """copy_file_range and splice. An offset of NULL is that of the open file."""
+    world.outside.write(descriptor_of(target)[1])
     source, target = world.opened(call, source), world.opened(call, target)
     read_to = source and source.offset + call.result
     if target and written_to == "NULL":
@@ -177,7 +186,7 @@ def copy_range(world, call, source, read_from, target, written_to, *_):
 
 
 def truncate(world, call, path, length):
-    within = world.locate(None, string_of(path), True)
+    within = world.locate(None, string_of(path), True, changes=True)
     if within is not None:
         world.resize(call, Opened(world.must(call, within), within, set()), number_of(length))
 
@@ -191,15 +200,26 @@ def fallocate(world, call, opened, mode, offset, length):
         world.cannot(call, "a range of a file is changed without a write", "nothing")
         opened.node.told.add("size")
     elif "KEEP_SIZE" not in mode:
-        world.resize(call, opened, max(opened.node.size, number_of(offset) + number_of(length)), True)
+        world.resize(call, opened, max(opened.node.size, number_of(offset) + number_of(length)))
 
 
-def mmap(world, call, _, length, __, flags, descriptor="-1", *___):
+def mmap(world, call, _, length, protection, flags, descriptor="-1", *___):
+    begin, end = call.result, call.result + number_of(length)
+    world.mappings = [it for it in world.mappings if it[1] <= begin or end <= it[0]]
     opened = world.opened(call, descriptor) if "MAP_SHARED" in flags else None
     if opened and opened.may_write():
-        world.cannot(call, "the writes through a mapping are not seen", "all blocks are written over here", opened.node)
-        opened.node.told.add("size")
-        world.touch(call, opened, range(-(-opened.node.size // world.options.block)))
+        world.mappings.append((begin, end, opened))
+        mprotect(world, call, str(begin), length, protection)
+
+
+def mprotect(world, call, address, length, protection, *_):
+    """Files are written by mappings that may be written. One that is only read may be written later."""
+    begin, end = number_of(address), number_of(address) + number_of(length)
+    for first, last, opened in world.mappings if "PROT_WRITE" in protection else ():
+        if first < end and begin < last:
+            world.cannot(call, "the writes through a mapping are not seen", "all blocks are written over", opened.node)
+            opened.node.told.add("size")
+            world.touch(call, opened, range(-(-opened.node.size // world.options.block)))
 
 
 def ioctl(world, call, opened, request, *_):
@@ -215,9 +235,9 @@ def unseen(world, call, *_):
 # Names.
 
 def at_path(handler):
-    """The handler of a call with a directory and a path: it gets the path, if it is one to look at."""
+    """The handler of a call with a directory and a path that it changes: it gets the path, if it is one to look at."""
     def handle(world, call, at, path, *arguments):
-        within = world.locate(at, string_of(path))
+        within = world.locate(at, string_of(path), changes=True)
         if within is not None:
             handler(world, call, within, *arguments)
     return handle
@@ -228,7 +248,7 @@ def mknod(world, call, path, mode, *_):
 
 
 def symlink(world, call, target, at, path):
-    within = world.locate(at, string_of(path))
+    within = world.locate(at, string_of(path), changes=True)
     if within is not None:
         world.make(call, "link", within).target = string_of(target)
 
@@ -236,9 +256,11 @@ def symlink(world, call, target, at, path):
 def link(world, call, source_at, source, target_at, target, flags=""):
     opened = world.opened(call, source_at) if "AT_EMPTY_PATH" in flags and string_of(source) == "" else None
     within = world.name_of(opened) if opened else world.locate(source_at, string_of(source), "FOLLOW" in flags)
-    target = world.locate(target_at, string_of(target))
+    target = world.locate(target_at, string_of(target), changes=True)
     if target is not None and within is None:
-        world.come(call, target)
+        world.come(call, world.real(source_at, string_of(source), "FOLLOW" in flags), target)
+    elif target is not None and world.must(call, within).made_up == within:
+        world.rename(call, within, target, flags)
     elif target is not None:
         node = world.must(call, within)
         world.enter(target, node)
@@ -246,14 +268,16 @@ def link(world, call, source_at, source, target_at, target, flags=""):
 
 
 def rename(world, call, source_at, source, target_at, target, flags=""):
-    source, target = world.locate(source_at, string_of(source)), world.locate(target_at, string_of(target))
+    place = world.real(source_at, string_of(source), False)
+    source = world.locate(source_at, string_of(source), changes=True)
+    target = world.locate(target_at, string_of(target), changes=True)
     if source is not None and target is not None:
         world.rename(call, source, target, flags)
     elif source is not None:
         world.cannot(call, "a file leaves the directory", "it is deleted")
         world.remove(call, source)
     elif target is not None:
-        world.come(call, target)
+        world.come(call, place, target)
 
 
 def here(handler, *places):
@@ -278,11 +302,12 @@ HANDLERS = {
     "creat": lambda world, call, path, *_: open_at(world, call, None, path, "O_CREAT|O_WRONLY|O_TRUNC"),
     **dict.fromkeys(("dup", "dup2", "dup3"), duplicate), "fcntl": fcntl, "close": close, "close_range": close_range,
     "lseek": on_file(seek), **dict.fromkeys(("read", "readv"), on_file(read)),
-    **dict.fromkeys(("write", "writev"), on_file(write)),
-    **dict.fromkeys(("pwrite64", "pwritev", "pwritev2"), on_file(write_at)),
+    **dict.fromkeys(("write", "writev"), on_file(write, changes=True)),
+    **dict.fromkeys(("pwrite64", "pwritev", "pwritev2"), on_file(write_at, changes=True)),
     **dict.fromkeys(("copy_file_range", "splice"), copy_range),
     "sendfile": lambda world, call, target, source, offset, *_: copy_range(world, call, source, offset, target, "NULL"),
-    "truncate": truncate, "ftruncate": on_file(ftruncate), "fallocate": on_file(fallocate), "mmap": mmap,
+    "truncate": truncate, "ftruncate": on_file(ftruncate, changes=True), "fallocate": on_file(fallocate, changes=True),
+    "mmap": mmap, **dict.fromkeys(("mprotect", "pkey_mprotect"), mprotect),
     "ioctl": on_file(ioctl), **dict.fromkeys(("io_uring_setup", "io_submit", "open_by_handle_at"), unseen),
     **dict.fromkeys(("fsync", "fdatasync"), fsync),
     **dict.fromkeys(("sync", "syncfs"), lambda world, call, *_: world.emit("sync", call)),

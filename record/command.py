@@ -2,17 +2,16 @@
 
 import argparse
 import os
-import shutil
 import sys
-import tempfile
 
-from record import Stop, calls, trace
-from record.script import Script, ended
+from record import NothingPromised, Stop
+from record.recording import observe
+from record.script import AS_EXT4
 from record.trace import printable
-from record.tree import difference, snapshot
-from record.world import World
+from record.world import PAGE
 
-PAGE = 4096
+WRITTEN, ERROR, NOTHING = 0, 2, 3  # The exit statuses; 3 where no promise would be made.
+MOST_NEW = 8
 
 
 def block_size(text):
@@ -29,44 +28,55 @@ def place(text):
     return text
 
 
-def parse(words):
-    """The options, with COMMAND as `command`."""
-    parser = argparse.ArgumentParser(prog="crashmap-record", allow_abbrev=False, description=(
-        "Runs COMMAND in the current directory, and writes a script for crashmap of what it does to the files there. "
-        "docs/RECORDING.md says more."))
-    add, many = parser.add_argument, {"action": "append", "default": []}
+def add_promises(add, many):
+    """The options that say what is promised."""
     add("--keep", **many, metavar="PATH", help="promise the old contents of this file or the new ones, and nothing "
-        "between; without it, of each file that was there before and is changed")
+        "between; without it, of each file that is changed, made or moved")
     add("--spare", **many, nargs=2, metavar=("PATH", "OTHER"), help="OTHER, a backup or a journal, stands in for PATH")
+    add("--most-new", type=int, default=MOST_NEW, metavar="N", help="promise files that were not there before, if they "
+        f"are not more than N ({MOST_NEW})")
+    add("--each-close", action="store_true", help="allow what a file holds when it is closed, or forced by an fsync")
+    add("--each-fsync", action="store_true", help="allow what a file holds when an fsync forces it")
+    add("--in-order", **many, nargs=2, metavar=("A", "B"), help="promise that the new contents of B are never there "
+        "with the old ones of A")
     add("--together", action="store_true", help="promise all files old, or all files new")
     add("--lasting", action="store_true", help="promise the new ones once the command has ended, too")
-    add("--delay", action="store_true", help="write new blocks where the file is forced, or at the end")
+
+
+def add_options(parser):
+    """The options of the recorder, and COMMAND."""
+    add, many = parser.add_argument, {"action": "append", "default": []}
+    add_promises(add, many)
+    add("--delay", action="store_const", const=True, help="write new blocks where the file is forced, or at the end")
+    add("--delay-as-ext4", dest="delay", action="store_const", const=AS_EXT4, help="the same, but also where the file "
+        "is renamed onto another one, or closed after it was cut to nothing")
+    add("--merge", action="store_true", help="put neighbouring writes of a file together, where a script has too many")
     add("--block", type=block_size, default=PAGE, metavar="BYTES", help=f"size of a block: {PAGE} or a multiple of it")
     add("--ignore", **many, metavar="PATTERN", help="leave files out, such as '*.lock'")
     add("--lossy", action="store_true", help="write a comment, and what comes nearest, where the model cannot say it")
     add("--trace", type=place, metavar="FILE", help="keep what strace wrote")
     add("-o", dest="output", type=place, metavar="FILE", help="write the script to this file")
     add("command", nargs=argparse.REMAINDER, metavar="-- COMMAND ..")
-    options = parser.parse_args(words)
+
+
+def check_options(parser, options):
+    """Takes the dashes off the command, and refuses options that do not go together."""
     options.command = options.command[1:] if options.command[:1] == ["--"] else options.command
     if not options.command:
         parser.error("there is no COMMAND")
+    if options.together and (options.each_close or options.each_fsync or options.in_order):
+        parser.error("--together goes with none of --each-close, --each-fsync and --in-order")
+
+
+def parse(words):
+    """The options, with COMMAND as `command`."""
+    parser = argparse.ArgumentParser(prog="crashmap-record", allow_abbrev=False, description=(
+        "Runs COMMAND in the current directory, and writes a script for crashmap of what it does to the files there. "
+        "docs/RECORDING.md says more."))
+    add_options(parser)
+    options = parser.parse_args(words)
+    check_options(parser, options)
     return options
-
-
-def below(top, path):
-    """A path that the user names, as one below the directory."""
-    directory, name = os.path.split(os.path.join(top, path))
-    found = os.path.relpath(os.path.join(os.path.realpath(directory), name), top)
-    if found.split("/")[0] in ("..", "."):
-        raise Stop(f"{printable(path) or 'an empty path'} is not below the current directory")
-    return found
-
-
-def missing(paths, *trees):
-    """What is wrong with promises of files that none of these trees has, or an empty text."""
-    return "\n".join(f"--keep {printable(path)}: there is no such file, before the command and behind it"
-                     for path in paths if not any(path in it and it[path].kind == "file" for it in trees))
 
 
 def say(text):
@@ -74,55 +84,21 @@ def say(text):
         print(f"crashmap-record: {line}", file=sys.stderr)
 
 
-def traced(options):
-    """Runs the command, and gives its exit status and the lines that strace wrote."""
-    with tempfile.NamedTemporaryFile("r", prefix="crashmap-record-", encoding="latin-1") as written:
-        status = trace.run(options.command, calls.HANDLERS, written.name, options.output is not None)
-        return status, written.readlines()
-
-
-def script_of(options, world, status, lines):
-    """The text of the script, of the world before the command and what strace saw of it."""
-    first = dict(world.nodes)
-    calls.follow(world, list(trace.read(lines)), options.command)
-    calls.tell_of_overlaps(world)
-    wrong = "\n".join(world.faults) or difference(world.top, options.block, world.nodes)
-    wrong = wrong or missing(options.keep, first, world.nodes)
-    if wrong:
-        raise Stop(wrong)
-    return Script(world, first, options).text(options.command, status)
-
-
-def record(options):
-    """Runs the command, and gives the script's text. The trace is kept at the end, since it can be in the directory."""
-    top = os.path.realpath("/proc/self/cwd")
-    options.keep = [below(top, it) for it in options.keep]
-    options.spare = [(below(top, path), below(top, other)) for path, other in options.spare]
-    if shutil.which(options.command[0]) is None:
-        raise Stop(f"there is no command {printable(options.command[0])}")
-    world = World(top, snapshot(top, options.block), options)
-    status, lines = traced(options)
-    if not lines:
-        raise Stop("strace could not trace the command")
-    say(ended(status) if status else "")
-    try:
-        return script_of(options, world, status, lines)
-    finally:
-        with open(options.trace or os.devnull, "w", encoding="latin-1") as kept:
-            kept.writelines(lines)
-
-
 def main(words):
     options = parse(words)
     try:
-        text = record(options)
+        observed = observe(options)
+        for warning in observed.warnings:
+            say(warning)
+        text = observed.recording().script
         with open(options.output or 1, "wb", closefd=options.output is not None) as output:
             output.write(text.encode("utf-8", "backslashreplace"))
-        return 0
+        return WRITTEN
     except BrokenPipeError:
-        return 0  # The reader of the script has stopped.
+        return WRITTEN  # The reader of the script has stopped.
     except Stop as stop:
         say(str(stop))
+        return NOTHING if isinstance(stop, NothingPromised) else ERROR
     except OSError as error:
         say(f"{printable(str(error.filename or options.output or 'standard output'))}: {error.strerror}")
-    return 2
+        return ERROR

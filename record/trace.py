@@ -13,13 +13,13 @@ from record import Stop
 HEX = re.compile(r"\\x([0-9a-f]{2})")
 LINE = re.compile(r"(\d+)\s+(.*)", re.DOTALL)
 RESUMED = re.compile(r"<\.\.\. \w+ resumed>(.*)", re.DOTALL)
-RESULT = re.compile(r"\s*=\s*(-?\d+|0x[0-9a-f]+)(?:<([^>]*)>)?")
+RESULT = re.compile(r"\s*=\s*(0x[0-9a-f]+|-?\d+)(?:<([^>]*)>)?")
 DESCRIPTOR = re.compile(r"(-?\d+|AT_FDCWD)(?:<([^>]*)>(\(deleted\))?)?")
 UNFINISHED = " <unfinished ...>"
 SHOWN = 160  # The most characters of a call that a message shows.
 
 
-@dataclasses.dataclass
+@dataclasses.dataclass(eq=False)
 class Call:
     """A system call that has returned. `first` and `last` are the lines of the trace where it begins and ends.
 
@@ -37,8 +37,24 @@ class Call:
 
     def shown(self):
         """The call as strace writes it, with its text readable."""
-        text = printable(decoded(self.text))
-        return text if len(text) <= SHOWN else text[:SHOWN - 3] + "..."
+        return shortened(printable(decoded(self.text)))
+
+    def named(self, top):
+        """The call with the files that it is about, their names below the directory `top`: `rename(".n1", "notes")`."""
+        texts = [named(it, top.rstrip("/") + "/") for it in self.arguments]
+        return shortened(printable(f"{self.name}({', '.join(it for it in texts if it is not None)})"))
+
+
+def shortened(text):
+    return text if len(text) <= SHOWN else text[:SHOWN - 3] + "..."
+
+
+def named(argument, top):
+    """An argument as people read it, or None for what was written and for the working directory."""
+    if argument.endswith('"...') or argument.startswith("AT_FDCWD"):
+        return None
+    path = string_of(argument) if argument.startswith('"') else descriptor_of(argument)[1]
+    return argument if path is None else f'"{path.removeprefix(top).removeprefix("./")}"'
 
 
 def decoded(text):

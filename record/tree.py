@@ -16,7 +16,8 @@ class Node:
     """Something that has names: `kind` is `file`, `directory`, `link` or `other`, and `names` are its paths.
 
     `size` is in bytes. `written` are the blocks that calls wrote, and `digests` those of the blocks as they were before
-    the recording, as `first_names` and `first_size` were. `told` has what was said of it.
+    the recording, as `first_names` and `first_size` were. `told` has what was said of it. `made_up` is a name that it
+    has in the script alone.
     """
     kind: str
     names: list = dataclasses.field(default_factory=list)
@@ -27,6 +28,7 @@ class Node:
     digests: list = dataclasses.field(default_factory=list)
     written: set = dataclasses.field(default_factory=set)
     told: set = dataclasses.field(default_factory=set)
+    made_up: str | None = None
 
 
 def kind_of(mode):

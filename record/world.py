@@ -10,6 +10,7 @@ from record.names import above
 from record.trace import Call, descriptor_of, printable
 from record.tree import Node
 
+PAGE = 4096  # The bytes of which a crash leaves all or none.
 SLOTS = 4  # The most blocks of a file.
 MOST_LINKS = 40  # As many symbolic links as the kernel follows in one path.
 
@@ -40,8 +41,9 @@ class Process:
 class Event:
     """Something that happened to a file. `kind` is a word of the script, or one of these:
 
-    `block` is a write to the one block of the file that is in `slot`; `opened` and `closed` are about an open file that
-    may write it; `comment` has its text in `text`. `other` is the file that a rename replaced.
+    `block` is a write to so many `pages` of the block of the file that is in `slot`; `opened` and `closed` are about an
+    open file that may write it; `comment` has its text in `text`. `other` is the file that a rename replaced. `merged`
+    are the other calls of an event that stands for so many `writes`.
     """
     kind: str
     call: Call | None = None
@@ -50,6 +52,37 @@ class Event:
     slot: int | None = None
     other: Node | None = None
     text: str = ""
+    pages: int = 1
+    writes: int = 1
+    merged: tuple = ()
+
+
+class Outside:
+    """The files outside the directory that the command changes. Some are of no interest: devices, those of the kernel,
+    and those that the command makes itself and that are gone in the end."""
+
+    def __init__(self):
+        self.made, self.changed = {}, []  # Whether each file that was opened to be written may be new.
+
+    def note(self, path, is_renamed=False):
+        """A call changes the file, or gives its name to another one."""
+        is_device = path.startswith(("/proc/", "/sys/")) or os.path.exists(path) and not os.path.isfile(path)
+        is_left = is_renamed or not self.made.get(path) or os.path.lexists(path)
+        if is_left and not is_device and path not in self.changed:
+            self.changed.append(path)
+
+    def open(self, path, flags):
+        """A call opens the file."""
+        if flags & {"O_WRONLY", "O_RDWR"}:
+            self.made[path] = self.made.get(path) or "O_CREAT" in flags
+        if flags & {"O_TRUNC", "O_EXCL"}:
+            self.note(path)
+
+    def write(self, path):
+        """A call changes the contents of the file by a descriptor. Those that the command did not open are not its
+        own."""
+        if path in self.made:
+            self.note(path)
 
 
 class World:
@@ -57,8 +90,9 @@ class World:
 
     def __init__(self, top, nodes, options):
         self.top, self.nodes, self.options = top, nodes, options
-        self.events, self.faults, self.ignored, self.outside = [], [], {}, 0
-        self.processes, self.process = {}, None
+        self.events, self.faults, self.ignored = [], [], {}
+        self.processes, self.process, self.mappings = {}, None, []
+        self.outside = Outside()
 
     # Telling.
 
@@ -137,9 +171,12 @@ class World:
                 place = here
         return place
 
-    def locate(self, argument, path, follows=False):
-        """The path below the directory that a call means, or None."""
-        return self.inside(self.real(argument, path, follows))
+    def locate(self, argument, path, follows=False, changes=False):
+        """The path below the directory that a call means, or None. Outside, a call that `changes` it is noted."""
+        place = self.real(argument, path, follows)
+        if changes and self.inside(place) is None:
+            self.outside.note(place)
+        return self.inside(place)
 
     def must(self, call, path):
         """The node at a path, which must be there."""
@@ -172,6 +209,8 @@ class World:
         if opened and opened.may_write() and not any(
                 slot[0] is opened for it in self.processes.values() if not it.has_ended for slot in it.slots.values()):
             self.events.append(Event("closed", call, opened.node))
+            if opened.node.made_up in opened.node.names:
+                self.remove(call, opened.node.made_up)
 
     # Names.
 
@@ -227,15 +266,26 @@ class World:
             self.rename(call, path, os.path.join(target, os.path.basename(path)), "")
         self.emit("rmdir", call, node, [source])
 
-    def come(self, call, target):
-        """A file comes from outside the directory, or gets a name after it had none."""
-        if target in self.nodes:
-            self.remove(call, target)
-        self.cannot(call, "a file comes from outside the directory", "a new file that is written")
-        node = self.make(call, "file", target)
+    def make_up(self, call, directory, label):
+        """A new file with a name of the recorder's own in that directory, which no promise is about."""
+        node, number = Node("file"), 1
+        while os.path.join(directory, f".{label}-{number}") in self.nodes:
+            number += 1
+        node.made_up = os.path.join(directory, f".{label}-{number}")
+        self.enter(node.made_up, node)
+        self.emit("create", call, node, [node.made_up])
+        return node
+
+    def come(self, call, source, target):
+        """A file comes from a place outside the directory."""
+        self.outside.note(source, is_renamed=True)
+        self.cannot(call, "a file comes from outside the directory", "a new file that is written, and then renamed")
+        node = self.make_up(call, os.path.dirname(target), "outside")
         node.told.add("size")
         here = os.path.join(self.top, target)
-        self.wrote(call, Opened(node, target, set()), 0, os.path.getsize(here) if os.path.isfile(here) else 0)
+        size = os.path.getsize(here) if os.path.isfile(here) else 0
+        self.wrote(call, Opened(node, node.made_up, set()), 0, size or 1)
+        self.rename(call, node.made_up, target, "")
 
     # Contents.
 
@@ -249,21 +299,23 @@ class World:
             self.cannot(call, "a file with a hole", "the blocks of the hole are written, too", node)
         node.written.update(range(min(first, node.size // size), last + 1))
         node.size = max(node.size, offset + count)
-        self.touch(call, opened, range(min(first, had), last + 1))
+        self.touch(call, opened, range(min(first, had), last + 1), (offset, offset + count))
         if opened.flags & {"O_SYNC", "O_DSYNC"}:
             self.fsync(call, opened)
 
-    def touch(self, call, opened, blocks):
-        """An event for each of these blocks. A file without a name has none, since no crash can show it."""
-        path = self.name_of(opened)
+    def touch(self, call, opened, blocks, between=(0, 0)):
+        """An event for each of these blocks, of which the bytes in between are written: a crash can come between two
+        pages. A file without a name has none, since no crash can show it."""
+        path, size = self.name_of(opened), self.options.block
         if path is not None and blocks and blocks[-1] >= SLOTS:
-            self.cannot(call, f"a file of more than {SLOTS} blocks of {self.options.block} bytes (--block takes larger "
-                        "ones)", "the blocks behind the fourth are left out", opened.node)
+            self.cannot(call, f"a file of more than {SLOTS} blocks of {size} bytes (--block takes larger ones)",
+                        "the blocks behind the fourth are left out", opened.node)
         for block in blocks[:max(0, SLOTS - blocks.start)] if path is not None else ():
-            self.emit("block", call, opened.node, [path], slot=block)
+            first, last = max(between[0], block * size) // PAGE, (min(between[1], (block + 1) * size) - 1) // PAGE
+            self.emit("block", call, opened.node, [path], slot=block, pages=max(1, last + 1 - first))
 
-    def resize(self, call, opened, length, allocates=False):
-        """A call sets the length of a file. `allocates` is for new blocks that read as zeros."""
+    def resize(self, call, opened, length):
+        """A call sets the length of a file. New blocks read as zeros."""
         node, size, before, path = opened.node, self.options.block, opened.node.size, self.name_of(opened)
         had, has = -(-before // size), -(-length // size)
         if node.kind != "file" or length == before:
@@ -272,12 +324,12 @@ class World:
         node.written.update(range(min(had, has) - 1, max(had, has)))
         if length == 0 and path is not None:
             self.emit("truncate", call, node, [path])
-        elif allocates:
-            self.touch(call, opened, range(had, has))
-        elif length and path is not None:
-            self.cannot(call, f"a file of {before} bytes gets {length} without a write: the model cuts files to nothing"
-                        " alone, and has no holes", "its last block is written over, and new ones are written", node)
-            self.touch(call, opened, range(max(0, min(had, has) - 1), has))
+        elif path is not None:
+            if has < had:
+                self.cannot(call, f"a file of {before} bytes is cut to {length}, and loses blocks: the model cuts files"
+                            " to nothing alone", "the last block that it keeps is written over", node)
+            # Where no block is new the last one has another end.
+            self.touch(call, opened, range(had, has) if has > had else range(has - 1, has))
 
     def fsync(self, call, opened):
         path = self.name_of(opened)

@@ -35,11 +35,12 @@ class Crash:
         return sum(len(roles) for _, roles, _ in self.lines)
 
 
-def report(text, module, *question):
+def report(text, ordering, *question):
     """The program's report of `--explain` on a script and a question, `--decide` if none is named, or `refused: ` and
-    why. Where no program is built the launcher compiles one."""
+    why. The ordering is a module, which options can follow: `meta --without Commit:FileData`. Where no program is built
+    the launcher compiles one."""
     blocks, journal = GEOMETRY.match(text).groups()
-    words = f"--module {module} --blocks {blocks} --journal {journal} --faults 10 --explain".split()
+    words = f"--module {ordering} --blocks {blocks} --journal {journal} --faults 10 --explain".split()
     built = program().resolve() if program().exists() else ROOT / "crashmap"
     run = subprocess.run([built, *words, *(question or ["--decide"])], input=text.encode(), check=False,
                          capture_output=True)
@@ -48,12 +49,14 @@ def report(text, module, *question):
     return run.stdout.decode() if run.returncode < 2 else f"refused: {run.stderr.decode().splitlines()[-1]}"
 
 
-def reference_report(text, module):
+def reference_report(text, ordering):
     """What the reference's second way answers in its place."""
     blocks, journal = GEOMETRY.match(text).groups()
+    module, *options = ordering.split(" ")
+    without = tuple(rule for option, rule in zip(options[::2], options[1::2]) if option == "--without")
     try:
         return decide.answer(text.encode(), Settings(module=module, blocks=int(blocks), journal=int(journal),
-                                                     explain=True, decide=True, counted=(10,)))[0]
+                                                     without=without, explain=True, decide=True, counted=(10,)))[0]
     except Refusal as refusal:
         return f"refused: {refusal.printed()}"
 
@@ -72,9 +75,9 @@ def crash_of(found):
     return Crash(broken[1], tuple(lines))
 
 
-def judge(text, module, answer=report):
+def judge(text, ordering, answer=report):
     """A `Crash`, None where the promise is kept, or the text of a refusal."""
-    found = answer(text, module)
+    found = answer(text, ordering)
     return found.removeprefix("refused: ") if found.startswith("refused: ") else crash_of(found)
 
 
@@ -84,9 +87,9 @@ def waits_of(text):
     return [at for at, line in enumerate(lines) if WAITS.fullmatch(line)]
 
 
-def needed(text, module):
+def needed(text, ordering):
     """The first of the smallest sets of waits that are enough, None where all are not, or the text of a refusal."""
-    found = report(text, module, "--enough", "--syncs")
+    found = report(text, ordering, "--enough", "--syncs")
     if found.startswith("refused: "):
         return found.removeprefix("refused: ")
     enough = re.search(r"^syncs(.*)$", found, re.MULTILINE)

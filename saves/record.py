@@ -1,6 +1,7 @@
 """Records the programs again: `python3 -m saves.record [NAME..]`. Not part of the gate, since versions change."""
 
 import contextlib
+import json
 import os
 import pathlib
 import pty
@@ -14,9 +15,9 @@ import time
 from saves.programs import PROGRAMS
 
 FOLDER = pathlib.Path(__file__).resolve().parent
-RECORDER = FOLDER.parent / "crashmap-record"
-SECONDS = 60  # The longest that a recording may take.
-SECONDS_TO_START = 3  # What an editor has until the first key is typed.
+RECORDER = FOLDER / "observe.py"
+SECONDS = 120  # The longest that a recording may take.
+SECONDS_TO_START = 8  # What an editor has until the first key is typed.
 
 
 def type_keys(terminal, keys):
@@ -45,16 +46,16 @@ def run(words, keys, **more):
             return b"", 2
 
 
-def record(program, *more):
-    """The script that is recorded of a program, or None. What is wrong goes to standard error."""
+def record(program):
+    """The scripts that are recorded of a program, by their suffixes, or none. What is wrong goes to standard error."""
     # Editors make no backups of files in /tmp.
     with tempfile.TemporaryDirectory(dir="/var/tmp") as room, tempfile.TemporaryDirectory(dir="/var/tmp") as home:
         environment = {**os.environ, "HOME": home, "LC_ALL": "C", "TERM": "xterm", "GIT_CONFIG_NOSYSTEM": "1"}
         subprocess.run(["sh", "-c", program.before], cwd=room, check=True, stdout=subprocess.DEVNULL, env=environment,
                        stderr=subprocess.DEVNULL)
-        words = [RECORDER, *program.options, *more, "--", *program.command]
+        words = [sys.executable, RECORDER, *program.options, "--", *program.command]
         text, status = run(words, program.keys, cwd=room, env=environment)
-        return None if status else text
+        return {} if status else json.loads(text)
 
 
 def main(names):
@@ -62,14 +63,12 @@ def main(names):
     for program in PROGRAMS:
         if names and program.name not in names:
             continue
-        needed = program.needs or program.command[0]
-        for more, suffix in (((), ""), (("--delay",), ".delay")):
-            text = record(program, *more) if shutil.which(needed) else None
-            if text is None:
-                print(f"{program.name}{suffix}: not recorded", file=sys.stderr)
-                failed += 1
-            else:
-                (FOLDER / f"{program.name}{suffix}.script").write_bytes(text)
+        scripts = record(program) if shutil.which(program.needs or program.command[0]) else {}
+        for suffix, text in scripts.items():
+            (FOLDER / f"{program.name}{suffix}.script").write_text(text)
+        if not scripts:
+            print(f"{program.name}: not recorded", file=sys.stderr)
+            failed += 1
     return 1 if failed else 0
 
 
