@@ -1,12 +1,21 @@
-"""Measures what each crate takes of the processors: `time_crates.py [COMMAND..]` runs a command, or else `rt ci`.
+"""Measures what each crate weighs: lines, functions, and seconds of the processors.
 
-It looks twice a second at the processes below the command, and prints a table when the command has ended: for each
-crate the minutes of processor time, how many of them its must-fail edits took, and the minutes by the clock in which
-something worked on it. A process that starts and ends between two looks is missed. The output and the exit status are
-the command's. Run it at the top of the repository. Not part of the gate.
+    time_crates.py [COMMAND..]                       times a command, or else `rt ci`, and prints a line for each crate
+    time_crates.py --keep STATE [COMMAND..]          also keeps the seconds in bench/weights/STATE.json
+    time_crates.py --take STATE [--of FOLDER] LOG..  keeps the lines that earlier runs printed
+    time_crates.py --page                            writes docs/WEIGHT.md of the states `begin` and `end`
+
+It looks twice a second at the processes below the command. A process that starts and ends between two looks is missed.
+Of each crate it tells apart the seconds of its proof, of its tests (their proof and all runs of programs) and of its
+wrong bodies. The output and the exit status are the command's.
+
+Not everything has to be run at once: what a run did not prove or try stays as an earlier run of the state kept it.
+Lines and functions are those of the checkout, or of FOLDER. Run it at the top of the repository. Not part of the gate.
 """
 
+import argparse
 import os
+import pathlib
 import re
 import resource
 import subprocess
@@ -14,7 +23,14 @@ import sys
 import threading
 import time
 
+import weights
+
 TICKS = os.sysconf("SC_CLK_TCK")
+LINE = re.compile(r"time: (\w+): ([\d.]+) seconds of proof, ([\d.]+) of tests, ([\d.]+) of wrong bodies")
+LINE_IN_MINUTES = re.compile(r"time: (\w+): ([\d.]+) minutes of processor time, ([\d.]+) of them on edits")
+"""What an earlier form of this command printed: tests are part of the first number there."""
+PROVED = re.compile(r"^(?:crashmap: proved (\w+),|rt: (\w+) proved)", re.MULTILINE)
+"""What a run says of a crate that it has proved. What it was at when it was cut off has no such line."""
 
 
 def read(path):
@@ -26,9 +42,8 @@ def read(path):
         return ""
 
 
-def crate_of(process):
-    """Returns the crate that a process works on, or None."""
-    words = read(f"/proc/{process}/cmdline").split("\0")
+def crate_of(words):
+    """Returns the crate that a process with these words works on, or None."""
     if "--crate-name" in words[:-1]:
         return words[words.index("--crate-name") + 1]
     for word in words[:4]:
@@ -38,12 +53,16 @@ def crate_of(process):
     return None
 
 
-def is_edit(process):
-    """Returns whether a process checks a crate with a must-fail edit, in a copy that rt made for it."""
+def kind_of(process, words):
+    """Returns what a process does for its crate: `edits` in a copy that rt made to try wrong bodies, `tests` where it
+    proves tests or is no prover, and else `proof`."""
     try:
-        return "/rt-edit-" in os.readlink(f"/proc/{process}/cwd") + "/"
+        if "/rt-edit-" in os.readlink(f"/proc/{process}/cwd") + "/":
+            return "edits"
     except OSError:
-        return False
+        pass
+    is_prover = os.path.basename(words[0]) == "rattle"
+    return "proof" if is_prover and "--test" not in words else "tests"
 
 
 def processes():
@@ -68,7 +87,7 @@ class Clock(threading.Thread):
 
     def __init__(self, top):
         super().__init__(daemon=True)
-        self.top, self.used, self.crates, self.edits, self.spans = top, {}, {}, set(), {}
+        self.top, self.used, self.works, self.spans = top, {}, {}, {}
 
     def run(self):
         last = time.monotonic()
@@ -79,44 +98,86 @@ class Clock(threading.Thread):
                 self.spans[crate] = self.spans.get(crate, 0) + now - last
             last = now
 
+    def work_of(self, process, above):
+        """Returns the crate that a process works on and what it does for it, or those of the process above it."""
+        words = read(f"/proc/{process}/cmdline").split("\0")
+        crate = crate_of(words)
+        return (crate, kind_of(process, words)) if crate else self.works.get(above, (None, "other"))
+
     def look(self):
         """Returns the crates that something works on."""
         found, busy = processes(), set()
         for process, (parent, start, seconds) in found.items():
             if is_below(process, self.top, found):
-                # A number can be used again, so the time of start belongs to it.
+                # A number can be used again, so the time of start belongs to it. A process can become another program.
                 key, above = (process, start), (parent, found.get(parent, (0, None))[1])
-                crate = self.crates.get(key) or crate_of(process) or self.crates.get(above)
-                self.crates[key], self.used[key] = crate, seconds
-                busy.add(crate)
-                if is_edit(process):
-                    self.edits.add(key)
+                if self.works.get(key, (None, "other"))[0] is None:
+                    self.works[key] = self.work_of(process, above)
+                self.used[key] = seconds
+                busy.add(self.works[key][0])
         return busy
 
-    def table(self):
-        """Returns the crates with their minutes of processor time, those of their edits, and those by the clock, the
-        longest first."""
-        sums, edits = {}, {}
+    def seconds(self):
+        """Returns the seconds of each crate by what they went into; those of no crate are under None."""
+        sums = {}
         for key, seconds in self.used.copy().items():
-            crate = self.crates[key]
-            sums[crate] = sums.get(crate, 0) + seconds
-            edits[crate] = edits.get(crate, 0) + seconds * (key in self.edits)
-        for crate, seconds in sorted(sums.items(), key=lambda it: -it[1]):
-            yield crate or "no crate", seconds / 60, edits[crate] / 60, self.spans.get(crate, 0) / 60
+            crate, kind = self.works[key]
+            of_crate = sums.setdefault(crate, dict.fromkeys(weights.KINDS, 0))
+            of_crate[kind] = of_crate.get(kind, 0) + seconds
+        return sums
 
 
-def main(words):
-    began, command = time.monotonic(), words or ["rt", "ci"]
+def timed(command):
+    """Runs a command, prints what each crate took, and returns the seconds and the command's exit status."""
+    began = time.monotonic()
     with subprocess.Popen(command) as process:
         clock = Clock(process.pid)
         clock.start()
-    for crate, minutes, edits, span in clock.table():
-        print(f"time: {crate}: {minutes:.1f} minutes of processor time, {edits:.1f} of them on edits,"
-              f" {span:.1f} by the clock")
+    seconds = clock.seconds()
+    for crate, it in sorted(seconds.items(), key=lambda item: -sum(item[1].values())):
+        span = clock.spans.get(crate, 0) / 60
+        if crate:
+            print(f"time: {crate}: {it['proof']:.0f} seconds of proof, {it['tests']:.0f} of tests,"
+                  f" {it['edits']:.0f} of wrong bodies, {span:.1f} minutes by the clock")
     used = resource.getrusage(resource.RUSAGE_CHILDREN)
     whole, span = (used.ru_utime + used.ru_stime) / 60, (time.monotonic() - began) / 60
     print(f"time: in all: {whole:.1f} minutes of processor time, {span:.1f} by the clock")
-    return process.returncode
+    return {crate: it for crate, it in seconds.items() if crate}, process.returncode
+
+
+def printed(text):
+    """Returns the seconds of each crate by the lines that a run printed, of those that it has proved if it says so."""
+    seconds = {crate: dict(zip(weights.KINDS, map(float, numbers))) for crate, *numbers in LINE.findall(text)}
+    for crate, whole, edits in LINE_IN_MINUTES.findall(text):
+        seconds[crate] = {"proof": 60 * (float(whole) - float(edits)), "edits": 60 * float(edits)}
+    proved = {crate for names in PROVED.findall(text) for crate in names if crate}
+    return {crate: it for crate, it in seconds.items() if crate in proved} if proved else seconds
+
+
+def asked_for(words):
+    """Returns what the words ask for."""
+    parser = argparse.ArgumentParser(description=__doc__, formatter_class=argparse.RawDescriptionHelpFormatter)
+    parser.add_argument("--keep", metavar="STATE", help="keep what the command takes")
+    parser.add_argument("--take", metavar="STATE", help="keep what runs printed into files")
+    parser.add_argument("--page", action="store_true", help="write docs/WEIGHT.md")
+    parser.add_argument("--of", metavar="FOLDER", default=".", type=pathlib.Path, help="the checkout that was timed")
+    parser.add_argument("words", nargs=argparse.REMAINDER, help="the command, or the files")
+    return parser.parse_args(words)
+
+
+def main(words):
+    asked = asked_for(words)
+    if asked.page:
+        weights.write_page()
+        return 0
+    if asked.take:
+        for log in asked.words:
+            weights.keep(asked.take, asked.of, printed(pathlib.Path(log).read_text(errors="replace")))
+        return 0
+    seconds, status = timed(asked.words or ["rt", "ci"])
+    if asked.keep:
+        weights.keep(asked.keep, asked.of, seconds)
+    return status
 
 
 if __name__ == "__main__":
