@@ -14,15 +14,15 @@ HEAD = {"atomic", "counted", "durable", "format", "generations", "geometry", "mo
 """The keys that reports on every question can have."""
 
 MAY_LACK = HEAD - {"format", "geometry", "module"}
-"""The keys without which a report is right. `first` is one of them in a rule, and is not in a report."""
+"""The keys without which a report is right."""
 
 OTHERS = (None, True, 0.5, "other", {"other": 1})
 """Values of other types, none of which is right anywhere, but `True` for some keys."""
 
-TOO_LARGE = {"after": 124, "block": 128, "block_size": 129, "blocks": 129, "closed": 10**9 + 1, "counted": 11,
+TOO_LARGE = {"after": 124, "block": 128, "block_size": 129, "blocks": 129, "closed": 32769, "counted": 11,
              "directory": 16, "entries": 161, "entry": 10, "format": 2, "ids": 124, "inode": 255, "journal": 123,
-             "kind": 11, "line": 2**20 + 1, "links": 160, "number": 21, "offset": 128, "pairs": 7627, "patch": 123,
-             "patches": 125, "pool": 2**20, "search": 9, "set": 124, "sets": 10**9 + 1, "slot": 4}
+             "kind": 11, "line": 2**20 + 1, "links": 160, "number": 21, "offset": 128, "patch": 123,
+             "patches": 125, "pool": 2**20, "search": 9, "set": 124, "slot": 4}
 """A number above the right ones, for the key that it has or is in a list of."""
 
 TOO_SMALL = {"block": 0, "block_size": 127, "blocks": 15, "closed": 0, "count": 0, "counted": 0, "entries": 0,
@@ -47,7 +47,7 @@ WRONG_BYTES = ("", "0", "zz", 256 * "g", 256 * "A", 258 * "0")
 WRONG_TEXTS = {
     "base": WRONG_BYTES, "bytes": WRONG_BYTES, "new": WRONG_BYTES, "undo": WRONG_BYTES,
     "closed": ("", "0", "01", "1e3", 39 * "9"),
-    "enough": WRONG_RULES, "rule": WRONG_RULES, "rules": WRONG_RULES, "why": WRONG_RULES, "with": WRONG_RULES,
+    "enough": WRONG_RULES, "rules": WRONG_RULES, "why": WRONG_RULES, "with": WRONG_RULES,
     "without": WRONG_RULES + ("Ptr:Ptr",),
     "keep": WRONG_PATHS, "hold": WRONG_PATHS, "shows": WRONG_SHOWN, "spares": ("/a", "file", "/a File", "/a / file"),
     "fault": WRONG_FAULTS, "faults": WRONG_FAULTS,
@@ -57,7 +57,7 @@ WRONG_TEXTS = {
 
 NEVER_EMPTY = {"patches", "steps", "keep", "hold", "counted", "why", "fault_numbers", "faults", "rules", "with",
                "without", "base"}
-"""Keys of lists that are not empty. `faults` and `rules` of a whole report can be."""
+"""Keys of lists that are not empty. `faults` of a whole report can be."""
 
 
 def question_of(report):
@@ -104,7 +104,7 @@ def set_at(report, place, value):
 
 def is_needed(place, key, is_search):
     """Whether the object at this place is wrong without the key. Nothing else tells that a search was explained."""
-    return key not in MAY_LACK and not (key == "first" and place) and not (key == "replay" and is_search)
+    return key not in MAY_LACK and not (key == "replay" and is_search)
 
 
 def wrong_objects(place, value, is_search):

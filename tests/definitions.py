@@ -1,7 +1,7 @@
 """Which files of definitions one must read for a run, and how many lines of code they have.
 
-Run as a program, this puts the lists, the table and the numbers into `docs/DEFINITIONS.md`; `test_definitions.py`
-compares.
+Run as a program, this makes the lists, the tables and the numbers of `docs/DEFINITIONS.md` again;
+`test_definitions.py` compares.
 """
 
 import re
@@ -26,7 +26,6 @@ PLAIN = {
                             "report_model/Whole", "report_model/WholeText"],
     "the answer": ["report_model/ScriptGraph", "report_model/Untraced", "report_model/Answer",
                    "question_model/Answers"],
-    "the premise of `run`": ["crash_model/Visits", "question_model/Asked"],
 }
 
 # What a plain run's files have for an option, or for a script that is refused: it is read and counted there.
@@ -38,6 +37,7 @@ INSIDE = {
 }
 
 WAITS = "lines that wait and promise, with `--durable` and `--faults`"
+DEVICES = "what `serve` and `answer_call` say of devices and of the exit status"
 
 # What is also read for what is asked for.
 ROWS = {
@@ -50,9 +50,6 @@ ROWS = {
     "`--strict`": ["crash_model/StepDisks", "crash_model/Strict"],
     "`--atomic`": ["crash_model/StepDisks", "crash_model/Atomic"],
     "`--explain`": ["crash_model/PatchTexts", "crash_model/Reasons", "report_model/Replayed", "report_model/Explain"],
-    "`--summary`": ["crash_model/FaultOrder", "crash_model/FirstSets", "crash_model/FaultRows",
-                    "report_model/Summary"],
-    "`--needs`": ["crash_model/RuleUse", "crash_model/OtherRules", "report_model/Needs"],
     "`--decide`": ["crash_model/FaultOrder", "crash_model/FirstSets", "question_model/Decided",
                    "question_model/ListedFault", "question_model/Decision"],
     "`--enough`": ["crash_model/FaultOrder", "crash_model/FirstSets", "crash_model/OtherRules",
@@ -65,8 +62,7 @@ ROWS = {
        ("Sequences", "Workloads", "SearchCounts", "SearchReport", "PoolAnswer")],
     "`--search` with `--enough`": ["question_model/" + name for name in
                                    ("MinimalRules", "EnoughFor", "SearchRulesReport")],
-    "what `serve` and `answer_call` say of devices and of the exit status":
-        ["byte_io/Counted", "command_line/Ranges", "crash_text/Served", "crash_text/Status"],
+    DEVICES: ["byte_io/Counted", "command_line/Ranges", "crash_text/Served", "crash_text/Status"],
 }
 
 # Rows that add to other rows.
@@ -85,12 +81,15 @@ ASKED_FOR = {
     "report_model/FaultLines": "shows_text",
     "report_model/Report": "broken_shown ReplayedBlock changed_blocks replayed_text",
     "report_model/OptionTexts": "Promise Explanation wait_text promise_text counted_numbers explained_text",
-    "report_model/Whole": "Explanation Promise CountedFault ListedRule",
-    "report_model/WholeText": "counted_fault_text listed_rule_text json_report",
-    "report_model/Answer": "explanation AreCountedFaults AreListedRules",
+    "report_model/Whole": "Explanation Promise",
+    "report_model/WholeText": "json_report",
+    "report_model/Answer": "explanation",
     "question_model/Answers": "IsDecision IsEnoughReport IsLinesReport IsLinesRefusal IsSearchReport IsSearchRefusal "
                               "IsSearchRulesReport IsReportedOfPool",
 }
+
+# The head of the table that says what each definition is.
+LAST_TABLE = "| definition | says | file |"
 
 IMPORT = re.compile(r"\s*(pub )?use ")
 NAMES = re.compile(r"(?:pub )?use Rattle\.(\w+)\.specs\.(\w+)\.\{(.*)\}")
@@ -112,8 +111,15 @@ def plain_run():
     return [name for part in PLAIN.values() for name in part]
 
 
+def run_files():
+    """The files that say what `run` answers."""
+    return list(dict.fromkeys([*plain_run(), *(name for asked, row in ROWS.items() if asked != DEVICES
+                                               for name in row)]))
+
+
 def files():
-    return list(dict.fromkeys([*plain_run(), *(name for row in ROWS.values() for name in row)]))
+    """The files that say what `run` answers, and those that say more of `serve` and `answer_call`."""
+    return [*run_files(), *ROWS[DEVICES]]
 
 
 def lines_of(names):
@@ -166,16 +172,65 @@ def parts():
 
 def numbers():
     """The numbers of the page's sentences, each with the words before and behind it."""
-    return [("is built from ", len(files()), " files"),
-            ("The files have ", sum(len(text_of(name)) for name in files()), " lines"),
-            ("Of these ", lines_of(files()), " are neither"),
+    return [("is built from ", len(run_files()), " files"),
+            ("The files have ", sum(len(text_of(name)) for name in run_files()), " lines"),
+            ("Of these ", lines_of(run_files()), " are neither"),
+            ("and of the exit status takes ", len(ROWS[DEVICES]), " files more"),
             ("For it you read ", len(plain_run()), " files whole"),
             ("They have ", lines_of(plain_run()), " lines of code")]
 
 
-def write_page():
-    """Puts the parts and the numbers in the place of those that the page has."""
-    page = PAGE.read_text()
+def path_of(name):
+    """A file of definitions as the last table names it."""
+    crate, _, stem = name.partition("/")
+    return f"{crate}/specs/{stem}.antt"
+
+
+def paths_in(cell):
+    """The files and folders that a cell of the last table names. A name without a folder is in the folder of the one
+    before it."""
+    folder, paths = "", []
+    for name in re.findall(r"`([^`]+)`", cell):
+        folder = name.rpartition("/")[0] if "/" in name else folder
+        paths.append(name if "/" in name else f"{folder}/{name}")
+    return paths
+
+
+def cell_of(paths):
+    """The cell that names these files."""
+    names = [path if path.rpartition("/")[0] != before.rpartition("/")[0] else path.rpartition("/")[2]
+             for before, path in zip(["", *paths], paths)]
+    return ", ".join(f"`{name}`" for name in names)
+
+
+def first_words(name):
+    """What a file says of itself: the first sentence of the comment that it begins with."""
+    lines = text_of(name)
+    words = " ".join(line.removeprefix("--").strip() for line in lines[:next(
+        k for k, line in enumerate(lines) if not line.startswith("--"))])
+    sentence = re.split(r"\.(?: |$)", words)[0]
+    return sentence[:1].lower() + sentence[1:]
+
+
+def definition_rows(page):
+    """The rows of the last table: those of the page, without files that are not there any more, and then one for each
+    file that none of them names."""
+    rows, named = [], set()
+    for about, says, cell in re.findall(r"^\| ([^|]*) \| ([^|]*) \| ([^|]*`) \|$", page[page.index(LAST_TABLE):], re.M):
+        paths = [path for path in paths_in(cell) if (CRATES / path).exists()]
+        named.update(paths)
+        if paths:
+            rows.append(f"| {about} | {says} | {cell_of(paths)} |")
+    folders = tuple(path for path in named if path.endswith("/"))
+    for name in files():
+        if path_of(name) not in named and not path_of(name).startswith(folders):
+            about = re.sub(r"(?<!^)(?=[A-Z])", " ", name.partition("/")[2]).lower()
+            rows.append(f"| {about} | {first_words(name)} | `{path_of(name)}` |")
+    return rows
+
+
+def page_made(page):
+    """The page with its lists, tables and numbers made again."""
     for part in parts():
         first = re.escape(re.match(r"[^:]+(: `\w+/)?|.*", part[0]).group())
         page, count = re.subn(rf"\n{first}[^\n]*(\n[^\n]+)*", lambda _: "\n" + "\n".join(part), page, count=1)
@@ -183,8 +238,9 @@ def write_page():
     for before, number, behind in numbers():
         page, count = re.subn(rf"{before}[\d,]+{behind}", f"{before}{number:,}{behind}", page)
         assert count == 1, before
-    PAGE.write_text(page)
+    rows = "\n".join([LAST_TABLE, "|---|---|---|", *definition_rows(page)])
+    return re.sub(rf"{re.escape(LAST_TABLE)}\n(.+\n)+", lambda _: f"{rows}\n", page)
 
 
 if __name__ == "__main__":
-    write_page()
+    PAGE.write_text(page_made(PAGE.read_text()))

@@ -1,9 +1,14 @@
-"""findings.py [--all]: makes the findings of docs/FINDINGS.md again, and compares.
+"""findings.py [--all] [--write]: makes the findings of docs/FINDINGS.md again, and compares.
+
+With --write it puts what differs into the page. A new command can be written there without its output, and a new row
+of a table without its last cells.
 
 A command is in a block of its own, after `$ ./crashmap`, and its whole output follows. A block marked `slow` runs
 with --all alone. A table has comments before it, each with the words of searches that all give this table, and a row
 for each rule: the shortest search that finds more failing workloads without the rule than with it, the first failing
-workload and its fault. Other tables have a row for each script and a column for each module: how many of its sets
+workload and its fault. A table of whole operations has a row for each search: its ordering, its length, how many
+workloads it tries, how many fail, and the first of these that leaves an operation half done. Searches of more than two operations there run with --all
+alone. Other tables have a row for each script and a column for each module: how many of its sets
 fail, or which of its lines have to wait. It says how long each command and each table took. The last line is
 `N passed, M failed`.
 """
@@ -27,6 +32,11 @@ TABLE = re.compile(r"^((?:<!-- searches: .* -->\n)+)\|.*\n\|.*\n((?:\|.*\n)+)", 
 SEARCHES = re.compile(r"<!-- searches: (.*) -->")
 SCRIPTS = re.compile(r"^<!-- (broken|syncs): (.*) -->\n\|[^|\n]*\|(.*)\|\n\|.*\n((?:\|.*\n)+)", re.MULTILINE)
 
+WHOLE = re.compile(r"^((?:<!-- whole: .* -->\n)+)\|.*\n\|.*\n((?:\|.*\n)+)", re.MULTILINE)
+WHOLE_WORDS = re.compile(r"<!-- whole: (.*) -->")
+MOST_QUICK = 2
+"""The most operations of a search for whole operations that does not take long."""
+
 Finding = namedtuple("Finding", "words wanted make is_slow")
 """The words of a command or of a table's searches, what the document has, what makes it again, and whether that
 takes long."""
@@ -44,15 +54,20 @@ def value(name, report):
     return re.search(rf"^{name} (.*)$", report, re.MULTILINE)[1]
 
 
+def first_workload(report):
+    """The steps of the first workload that a report shows, or `none`."""
+    steps = re.findall(r"^step (.*)$", report.split("\nset ")[0], re.MULTILINE)
+    return " ; ".join(f"`{step}`" for step in steps) or "none"
+
+
 def first_shown(words, rule, most=3):
     """The cells of a rule's row."""
     for operations in range(1, most + 1):
         search = [*words, "--search", str(operations)]
         report = printed_by([*search, "--without", rule])
         if int(value("failing", report)) > int(value("failing", printed_by(search))):
-            steps = re.findall(r"^step (.*)$", report.split("\nset ")[0], re.MULTILINE)
             fault = value("kind", report).partition(" ")[2]
-            return "%d | %s | %s" % (operations, " ; ".join("`%s`" % step for step in steps), fault)
+            return "%d | %s | %s" % (operations, first_workload(report), fault)
     return "none | | |"
 
 
@@ -61,6 +76,23 @@ def table_made(words, rows):
     rules = re.findall(r"^\| `([^`]*)` \|", rows, re.MULTILINE)
     made = ["| `%s` | %s" % (rule, first_shown(words, rule)) for rule in rules]
     return "".join(row + ("\n" if row.endswith("|") else " |\n") for row in made)
+
+
+def whole_row(words, ordering, operations):
+    """The row of a search for operations that a crash leaves half done."""
+    report = printed_by([*words, *shlex.split(ordering), "--search", operations, "--atomic"])
+    counts = f"{value('workloads', report)} | {value('failing', report)}"
+    half_done = first_workload(report.partition("\nkind 9 ")[2])
+    return f"| `{ordering}` | {operations} | {counts} | {half_done} |\n"
+
+
+def whole_findings(text):
+    """The rows of the tables of whole operations, each for each of the table's comments."""
+    for comments, rows in WHOLE.findall(text):
+        for words in map(shlex.split, WHOLE_WORDS.findall(comments)):
+            for row, ordering, operations in re.findall(r"^(\| `([^`]*)` \| (\d) \|.*\n)", rows, re.MULTILINE):
+                yield Finding(words, row, lambda given, it=(ordering, operations): whole_row(given, *it),
+                              int(operations) > MOST_QUICK)
 
 
 def ids_words(line):
@@ -95,7 +127,7 @@ def waiting_lines(words):
 
 def failing_sets(words):
     """How many sets of a script fail, and of how many."""
-    report = printed_by([*words, "--summary"])
+    report = printed_by(words)
     return f"{value('failing', report)} of {value('closed', report)}"
 
 
@@ -124,7 +156,17 @@ def findings():
         scripts.append(Finding(shlex.split(words), rows,
                                lambda given, cell=cell, names=names, kept=rows: scripts_made(cell, given, names, kept),
                                False))
-    return commands + tables + scripts
+    return commands + tables + [*whole_findings(text)] + scripts
+
+
+def write(finding, made):
+    """Puts what is made in the place of what the page has. A command stands before its output."""
+    command = f"$ ./crashmap {shlex.join(finding.words)}\n" if finding.make is printed_by else ""
+    text = FINDINGS.read_text()
+    if text.count(command + finding.wanted) != 1:
+        print("not written: the page does not have this once, or had another answer for it before")
+        return
+    FINDINGS.write_text(text.replace(command + finding.wanted, command + made))
 
 
 def main(words):
@@ -140,6 +182,8 @@ def main(words):
         print("%-6s %6.2f s  %s" % ("right" if right[-1] else "WRONG", seconds, shlex.join(finding.words)))
         if not right[-1]:
             print(made)
+            if "--write" in words:
+                write(finding, made)
     print("%d passed, %d failed" % (right.count(True), right.count(False)))
     return 0 if right and all(right) else 1
 

@@ -35,6 +35,8 @@ class LauncherTest(unittest.TestCase):
         (self.top / "crates.txt").write_text(f"# a program, a library below it and one beside\n{ROWS}beside: low\n")
         self.environment = os.environ | {"PATH": f"{self.room / 'bin'}:{os.environ['PATH']}", "FAKE": str(self.fake),
                                          "TMPDIR": str(self.temporary)}
+        for name in ("CRASHMAP_PROGRAM", "CRASHMAP_IMAGES", "CRASHMAP_UNPROVED"):
+            self.environment.pop(name, None)
         self.set_mode("passes")
 
     def set_mode(self, mode):

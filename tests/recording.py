@@ -9,6 +9,7 @@ import sys
 import tempfile
 import unittest
 
+from saves.judge import MODULES, crash_of, needed, reference_report, report
 from tests.program import ROOT
 
 RECORDER = ROOT / "crashmap-record"
@@ -40,8 +41,9 @@ class Recording(unittest.TestCase):
         self.folder = pathlib.Path(room.name)
         (self.folder / "f").write_text("hello\n")
 
-    def record(self, *words, **more):
-        return subprocess.run([RECORDER, *words], cwd=self.folder, capture_output=True, text=True, check=False,
+    def record(self, *words, within=".", **more):
+        """Runs the recorder in the directory, or in one below it."""
+        return subprocess.run([RECORDER, *words], cwd=self.folder / within, capture_output=True, text=True, check=False,
                               stdin=subprocess.DEVNULL, timeout=600, errors="surrogateescape", **more)
 
     def script(self, *words):
@@ -58,11 +60,11 @@ class Recording(unittest.TestCase):
         self.assertRegex("\n".join(steps_of(script)[0]), f"^{pattern}$")
         return script
 
-    def assert_refused(self, words, text, **more):
+    def assert_refused(self, words, text, status=2, **more):
         """The recorder says that, and writes no script. Nothing of its own is left in the directory."""
         before = set(os.listdir(self.folder))
         answer = self.record(*words, **more)
-        self.assertEqual((answer.returncode, answer.stdout), (2, ""))
+        self.assertEqual((answer.returncode, answer.stdout), (status, ""))
         self.assertRegex(answer.stderr, text)
         self.assertEqual({it for it in os.listdir(self.folder) if "crashmap" in it or "trace" in it} - before, set())
 
@@ -73,3 +75,40 @@ class Recording(unittest.TestCase):
         (self.folder / "d").mkdir()
         for name in ("f", "d/g"):
             (self.folder / name).write_text("hello\n")
+
+
+class Judged(Recording):
+    """Recordings that are judged without an ordering, under soft updates, and under the journals of metadata and of
+    everything. Where `is_compared` the reference must give the same reports."""
+
+    is_compared = False
+
+    def assert_judged(self, script, *wanted):
+        """In these words the program says what a crash leaves of the file, or None where the promise is kept."""
+        for module, left in zip(MODULES, wanted, strict=True):
+            with self.subTest(module):
+                crash = crash_of(self.report_of(script, module))
+                self.assertEqual(crash and crash.left(), left)
+
+    def report_of(self, script, module):
+        found = report(script, module)
+        if self.is_compared:
+            self.assertEqual(found, reference_report(script, module))
+        self.assertIn("\nclosed ", found)
+        return found
+
+    def assert_broken(self, script, *wanted):
+        """Which lines have a promise that a crash breaks, for each ordering."""
+        for module, lines in zip(MODULES, wanted, strict=True):
+            with self.subTest(module):
+                found = self.report_of(script, module)
+                broken = re.findall(r"^fault 10 broken promise: line (\d+)$", found, re.MULTILINE)
+                self.assertEqual([script.split("\n")[int(it) - 1] for it in broken], lines)
+
+    def assert_kept(self, script):
+        self.assert_judged(script, *[None] * len(MODULES))
+
+    def assert_needed(self, script, **wanted):
+        """The waits that a program needs under an ordering."""
+        lines = script.split("\n")
+        self.assertEqual({it: [lines[wait] for wait in needed(script, it)] for it in wanted}, wanted)

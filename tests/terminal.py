@@ -5,6 +5,7 @@ import pty
 import select
 import subprocess
 import termios
+import threading
 import time
 from typing import NamedTuple
 
@@ -36,19 +37,23 @@ def read_all(run, terminal):
 def shown_by(run, terminal, other_end, began):
     """Waits for a run to end, and returns what it did. The other end stays open so long, since a terminal may lose what
     was written last when nobody has it open any more."""
+    output = []
+    # A pipe holds little, so a long report is read while the run writes it.
+    reader = threading.Thread(target=lambda: output.append(run.stdout.read() if run.stdout else b""))
+    reader.start()
     shown = read_all(run, terminal)
-    output = run.stdout.read() if run.stdout else b""
+    reader.join()
     os.close(other_end)
     os.close(terminal)
-    return Shown(run.returncode, output, shown, time.monotonic() - began)
+    return Shown(run.returncode, output[0], shown, time.monotonic() - began)
 
 
-def on_terminal(words, text, stdin=subprocess.PIPE, stdout=subprocess.PIPE):
+def on_terminal(words, text, stdin=subprocess.PIPE, stdout=subprocess.PIPE, **options):
     """Runs a program with a terminal as its standard error, and this text on standard input, unless that is named.
-    Standard output is kept, unless it is named too."""
+    Standard output is kept, unless it is named too. The other options are those of `subprocess.Popen`."""
     terminal, other_end = pty.openpty()
     began = time.monotonic()
-    with subprocess.Popen(words, stdin=stdin, stdout=stdout, stderr=other_end) as run:
+    with subprocess.Popen(words, stdin=stdin, stdout=stdout, stderr=other_end, **options) as run:
         if run.stdin:
             write_all(run.stdin, text)
         return shown_by(run, terminal, other_end, began)

@@ -1,4 +1,4 @@
-"""The built program answers as each case file says, by each explorer and several numbers of workers.
+"""The built program answers as each case file says, with several numbers of workers.
 
 `rt ci` builds the program by two compilers, and each of the two is tried. Where `CRASHMAP_PROGRAM` names a program,
 that one alone is.
@@ -6,7 +6,6 @@ that one alone is.
 
 import concurrent.futures
 import difflib
-import itertools
 import os
 import pathlib
 import subprocess
@@ -14,13 +13,13 @@ import tempfile
 import unittest
 
 from tests import case_files
-from tests.program import program
+from tests.program import is_unproved, program
 
-EXPLORERS = ("board", "sweep")
 WORKERS = ("1", "2", "8", "16")
-# No explorer is added beside these options: the words name one, or nothing is explored.
-NO_EXPLORER_BESIDE = ("--explorer", "--decide", "--enough", "--search")
 SECONDS = 120
+UNPROVED_SECONDS = 5
+"""How long an unproved program may take for a run of a case before the case is left out."""
+
 MOST_LINES = 20
 MOST_LETTERS = 160
 
@@ -29,15 +28,15 @@ def names_option(words, option):
     return any(word == option or word.startswith(option + "=") for word in words)
 
 
+class TooLong(Exception):
+    """An unproved program took too long for a case."""
+
+
 def further_words(case):
     """What is added to the words of a case, in each of its runs."""
-    if case.fault is not None:
+    if is_unproved() or case.fault is not None or names_option(case.words, "--workers"):
         return [()]
-    is_settled = any(names_option(case.words, option) for option in NO_EXPLORER_BESIDE)
-    explorers = [()] if is_settled else [("--explorer", one) for one in EXPLORERS]
-    workers = [()] if names_option(case.words, "--workers") else [("--workers", one) for one in WORKERS]
-    runs = [one + other for one, other in itertools.product(explorers, workers)]
-    return runs if () in runs else [()] + runs
+    return [()] + [("--workers", one) for one in WORKERS]
 
 
 def difference(name, wanted, got):
@@ -66,9 +65,11 @@ def run_case(case, binary, folder):
     for words in further_words(case):
         try:
             run = subprocess.run([binary, *case.words, *words], input=case.script, capture_output=True, cwd=folder,
-                                 timeout=SECONDS)
+                                 timeout=UNPROVED_SECONDS if is_unproved() else SECONDS)
             told = wrong(case, run.returncode, run.stdout, run.stderr)
-        except subprocess.TimeoutExpired:
+        except subprocess.TimeoutExpired as error:
+            if is_unproved():
+                raise TooLong from error
             told = [f"no answer within {SECONDS} seconds"]
         if told:
             return [f"with {' '.join(words) or 'no further words'}:"] + told
@@ -104,7 +105,10 @@ class Answers:
 
 def test_of(path):
     def test(self):
-        told = self.told[path].result()
+        try:
+            told = self.told[path].result()
+        except TooLong:
+            self.skipTest("it takes an unproved program too long")
         if told:
             self.fail(told)
     return test
@@ -207,13 +211,12 @@ class BadCases(unittest.TestCase):
 
     def test_a_later_run_that_differs(self):
         program_file = self.folder / "program"
-        program_file.write_text('#!/bin/sh\ncase "$*" in *sweep*8) echo x;; esac\n')
+        program_file.write_text('#!/bin/sh\ncase "$*" in *8) echo x;; esac\n')
         program_file.chmod(0o755)
-        self.assertIn("with --explorer sweep --workers 8:", self.told(b"output:\n", binary=str(program_file)))
-        for words in (b"words: --explorer=board --workers 2\n", b"words: --decide\n"):
+        for words in (b"", b"words: --decide\n"):
+            self.assertIn("with --workers 8:", self.told(words + b"output:\n", binary=str(program_file)))
+        for words in (b"words: --workers 2\n", b"words: --workers=2 --decide\n"):
             self.assertEqual(self.told(words + b"output:\n", binary=str(program_file)), "")
-        program_file.write_text('#!/bin/sh\ncase "$*" in *decide*8) echo x;; esac\n')
-        self.assertIn("with --workers 8:", self.told(b"words: --decide\noutput:\n", binary=str(program_file)))
 
     def test_what_is_written_is_read(self):
         for number, case in enumerate((

@@ -6,7 +6,7 @@ import subprocess
 import tempfile
 import unittest
 
-from tests.program import ROOT, program
+from tests.program import ROOT, needs_a_proved_program, program
 
 MOST_SCRIPT_BYTES = 1 << 20
 CREATE = b"start\ncreate /a\n"
@@ -16,9 +16,9 @@ CREATED = b"module soft\npatches 2\nclosed 3\nfailing 0\n"
 HELP = ("Finds every state", "Usage: crashmap", "\nWhat to run:\n", "[SCRIPT]", "--blocks <N>", "--journal <JL>",
         "\nThe ordering:\n", "--module <M>", "--without <RULE>", "--with <RULE>", "--whole-blocks",
         "\nWhat fails:\n", "--strict", "--atomic",
-        "\nHow far:\n", "--limit <L>", "--explorer <E>", "--workers <W>", "--decide", "--enough", "--search <N>",
-        "\nHow to read it:\n", "--explain", "--summary", "--needs", "--json", "--numbers",
-        "--hints <WHEN>", "--options")
+        "\nHow far:\n", "--limit <L>", "--workers <W>", "--decide", "--enough", "--search <N>",
+        "\nHow to read it:\n", "--explain", "--json", "--numbers",
+        "--options", "--hints always")
 
 
 def answer(*words, script=b""):
@@ -37,12 +37,11 @@ class Help(unittest.TestCase):
                 self.assertIn(piece, rest)
                 rest = rest.partition(piece)[2]
 
-
     def test_words_of_reports_are_explained(self):
         help_text = answer("--help")[1].decode()
         explained = help_text.partition("\nWords of reports:\n")[2].partition("\n\n")[0]
         self.assertEqual([line[:10].strip() for line in explained.splitlines()],
-                         ["base", "closed", "pairs", "in place"])
+                         ["base", "closed", "in place"])
         self.assertTrue(all(len(line) > 30 for line in explained.splitlines()), explained)
 
     def test_a_strict_run_is_explained_by_what_a_user_loses(self):
@@ -75,8 +74,8 @@ class Options(unittest.TestCase):
             self.assertRegex(table, f"`{name}[ `]")
 
     def test_options_that_do_not_go_together_are_refused(self):
-        values = {"N": "3", "L": "9", "E": "sweep"}
-        symbols = {"--limit": "L", "--explorer": "E", "--search": "N"}
+        values = {"N": "3", "L": "9"}
+        symbols = {"--limit": "L", "--search": "N"}
         for line in self.listed():
             front, _, others = line.partition(" not with ")
             name, *value = front.split()
@@ -127,14 +126,8 @@ class Rules(unittest.TestCase):
     def test_a_list_without_rules(self):
         self.assertTrue(answer("--rules", "--module", "async")[1].startswith(b"async has no rules.\n\nA rule LATER"))
 
-    def test_a_bad_part_is_named_with_the_nearest_one(self):
-        self.assert_refused(["--without", "Ptr:InitFle"], "'InitFle'", "did you mean 'InitFile'?")
-        self.assert_refused(["--with", "Entryset:Ptr"], "'Entryset'", "did you mean 'EntrySet'?")
-        self.assert_refused(["--with", "EntryClr:Ptr"], "'EntryClr'", "did you mean 'EntryClear'?")
-        self.assert_refused(["--with", "LinkDwn:EntryClear"], "'LinkDwn'", "did you mean 'LinkDown'?")
-        self.assert_refused(["--with", "Done:previous-Comit"], "'Comit'", "did you mean 'Commit'?")
-
-    def test_a_part_that_resembles_no_other(self):
+    def test_a_bad_part_is_named(self):
+        self.assert_refused(["--without", "Ptr:InitFle"], "'InitFle'", "--rules lists them")
         self.assert_refused(["--with", "Sideways:Ptr"], "'Sideways'", "--rules lists them")
         self.assert_refused(["--with", "Ptr:Foo"], "'Foo'", "--rules lists them")
         self.assert_refused(["--with", "Ptr:"], "''", "--rules lists them")
@@ -150,10 +143,15 @@ class Scripts(unittest.TestCase):
         with tempfile.TemporaryDirectory() as folder:
             script = pathlib.Path(folder, "a.txt")
             script.write_bytes(CREATE)
-            self.assertEqual(answer(script, "--limit=32769"), (0, CREATED, b""))
+            self.assertEqual(answer(script, "--limit=32768"), (0, CREATED, b""))
 
-    def test_a_high_limit_needs_no_named_explorer(self):
-        self.assertEqual(answer("--limit=32769", script=CREATE), (0, CREATED, b""))
+    def test_options_that_there_are_not(self):
+        """Whatever the script is, and whatever other words there are."""
+        for gone in (["--summary"], ["--needs"], ["--explorer", "board"], ["--explorer=sweep"], ["--limit", "32769"]):
+            for others in ([], ["--module", "async"], ["--json"]):
+                for script in (CREATE, b"start\n", b"no script\n"):
+                    status, out, err = answer(*others, *gone, script=script)
+                    self.assertEqual((status, out, err[:7]), (2, b"", b"error: "), (gone, others))
 
     def test_a_refusal_that_cannot_be_printed_keeps_its_status(self):
         with open("/dev/full", "wb") as full:
@@ -165,6 +163,7 @@ class LongScripts(unittest.TestCase):
     def refuses(self, script, line):
         self.assertEqual(answer(script=script), (2, b"", line + b"\n"))
 
+    @needs_a_proved_program()
     def test_the_longest_script(self):
         self.refuses(b"\n" * MOST_SCRIPT_BYTES, b"crashmap: line 1048577: 43 no start line")
 

@@ -1,5 +1,4 @@
-"""The built program answers random cases and big scripts as the reference does, by both explorers and with one and four
-workers."""
+"""The built program answers random cases and big scripts as the reference does, with one and four workers."""
 
 import concurrent.futures
 import pathlib
@@ -10,8 +9,8 @@ import unittest
 HERE = pathlib.Path(__file__).resolve().parent
 sys.path[:0] = [str(HERE.parent), str(HERE)]
 
-from program import program
-from reference.compare import BIG, EXPLORERS, Plan, compare, run_case
+from program import is_unproved, needs_a_proved_program, program
+from reference.compare import BIG, Plan, compare, run_case
 from reference.explore import start
 from reference.level import LEVEL
 from reference.random_cases.big import LEAST_PATCHES, make_big_case
@@ -19,7 +18,7 @@ from reference.runs import Run, differences, run_program, run_reference
 from reference.settings import MOST_PATCHES
 from reference.trace import trace
 
-CASES = 400
+CASES = 40 if is_unproved() else 400
 BIG_CASES = 16
 SEED = "gate"
 JOBS = 4
@@ -44,14 +43,16 @@ class TheProgram(unittest.TestCase):
                      for one in results if one.differences]
         self.assertEqual(differing, [])
         self.assertEqual(len(results), CASES)
-        self.assertGreater(sum(one.runs for one in results), 2 * CASES)
+        self.assertGreater(sum(one.runs for one in results), 1.8 * CASES)
 
+    @needs_a_proved_program()
     def test_decides_big_scripts_as_the_reference(self):
         self.assertTrue(program().exists(), "%s is not built" % program())
         results = compare(Plan((str(program()),), SEED, BIG, (1, 4), 120), BIG_CASES, JOBS)
         self.assertEqual([(one.index, one.differences) for one in results if one.differences], [])
         self.assertEqual(sum(one.runs for one in results), 2 * BIG_CASES)
 
+    @needs_a_proved_program()
     def test_explores_big_scripts_as_the_reference(self):
         scripts = sorted((HERE.parent / "bench" / "scripts").glob("*.script"))
         self.assertGreaterEqual(len(scripts), 7)
@@ -60,22 +61,21 @@ class TheProgram(unittest.TestCase):
 
 
 def differences_of_big(path):
-    """How the program's answers to a big script differ from the reference's, by both explorers."""
+    """How the program's answers to a big script differ from the reference's."""
     words = re.search(r"^# ./crashmap \S+ (.*)$", path.read_text(), re.M)[1].split()
     wanted = run_reference(words, path.read_bytes())
-    ways = [["--explorer", explorer, "--workers", workers] for explorer in EXPLORERS for workers in ("1", "4")]
-    return [found for way in ways
-            for found in differences(run_program((str(program()),), words + way, path.read_bytes(), 120), wanted)]
+    return [found for workers in ("1", "2", "4", "16") for found in differences(
+        run_program((str(program()),), words + ["--workers", workers], path.read_bytes(), 120), wanted)]
 
 
 class TheComparison(unittest.TestCase):
     """A program that answers wrongly is found."""
 
-    def compared(self, mode, timeout=60, level="extended", case=REPORT, runs=4):
+    def compared(self, mode, timeout=60, level="extended", case=REPORT):
         """The differences of a stub from the reference, on one case."""
         stub = (sys.executable, str(HERE / "helpers" / "wrong_program.py"), mode)
         result = run_case(Plan(stub, SEED, level, (1, 4), timeout), case)
-        self.assertEqual(result.runs, runs)
+        self.assertEqual(result.runs, 2)
         return result.differences
 
     def ways(self, mode, timeout=60):
@@ -86,40 +86,40 @@ class TheComparison(unittest.TestCase):
         self.assertEqual(self.compared("right"), [])
 
     def test_finds_a_program_that_says_nothing(self):
-        self.assertEqual(len(self.ways("silent")), 4)
+        self.assertEqual(len(self.ways("silent")), 2)
 
     def test_finds_another_status(self):
-        self.assertEqual(len(self.ways("status")), 4)
+        self.assertEqual(len(self.ways("status")), 2)
 
     def test_finds_more_on_standard_error(self):
-        self.assertEqual(len(self.ways("errors")), 4)
+        self.assertEqual(len(self.ways("errors")), 2)
 
-    def test_finds_a_wrong_explorer(self):
-        self.assertEqual(self.ways("sweep"), ["--explorer sweep --workers 1", "--explorer sweep --workers 4"])
+    def test_finds_a_wrong_number(self):
+        self.assertEqual(len(self.ways("digit")), 2)
 
     def test_finds_a_wrong_number_of_workers(self):
-        self.assertEqual(self.ways("workers"), ["--explorer board --workers 4", "--explorer sweep --workers 4"])
+        self.assertEqual(self.ways("workers"), ["--workers 4"])
 
     def test_compares_decisions(self):
-        self.assertEqual(self.compared("right", level="deciding", runs=2), [])
-        self.assertEqual(len(self.compared("status", level="deciding", runs=2)), 2)
-        found = self.compared("workers", level="deciding", runs=2)
+        self.assertEqual(self.compared("right", level="deciding"), [])
+        self.assertEqual(len(self.compared("status", level="deciding")), 2)
+        found = self.compared("workers", level="deciding")
         self.assertEqual([one.split(":")[0] for one in found], ["--workers 4"])
 
     def test_compares_which_rules_are_enough(self):
-        self.assertEqual(self.compared("right", level="choosing", case=ENOUGH, runs=2), [])
-        self.assertEqual(len(self.compared("status", level="choosing", case=ENOUGH, runs=2)), 2)
-        found = self.compared("workers", level="choosing", case=ENOUGH, runs=2)
+        self.assertEqual(self.compared("right", level="choosing", case=ENOUGH), [])
+        self.assertEqual(len(self.compared("status", level="choosing", case=ENOUGH)), 2)
+        found = self.compared("workers", level="choosing", case=ENOUGH)
         self.assertEqual([one.split(":")[0] for one in found], ["--workers 4"])
 
     def test_compares_decisions_of_big_scripts(self):
-        self.assertEqual(self.compared("right", level=BIG, case=SMALLEST, runs=2), [])
-        found = self.compared("workers", level=BIG, case=SMALLEST, runs=2)
+        self.assertEqual(self.compared("right", level=BIG, case=SMALLEST), [])
+        found = self.compared("workers", level=BIG, case=SMALLEST)
         self.assertEqual([one.split(":")[0] for one in found], ["--workers 4"])
 
     def test_finds_a_program_that_does_not_end(self):
         found = self.compared("slow", 0.2)
-        self.assertEqual(len(found), 4)
+        self.assertEqual(len(found), 2)
         self.assertTrue(all("no answer in time" in one for one in found))
 
 

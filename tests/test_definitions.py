@@ -6,8 +6,8 @@ import sys
 import unittest
 
 sys.path.insert(0, str(pathlib.Path(__file__).resolve().parent))
-from definitions import ADDS, ASKED_FOR, CRATES, INSIDE, PAGE, ROWS
-from definitions import files, imports_of, lines_of, numbers, parts, plain_run
+from definitions import ADDS, ASKED_FOR, CRATES, INSIDE, LAST_TABLE, PAGE, ROWS
+from definitions import definition_rows, files, imports_of, lines_of, page_made, plain_run
 
 MOST_OF_A_PLAIN_RUN = 1_170
 
@@ -18,15 +18,30 @@ GHOST = re.compile(r"\s*ghost use Rattle\.(\w+)\.specs\.(\w+)\.\{")
 class Definitions(unittest.TestCase):
     """The page of definitions."""
 
-    def test_numbers(self):
-        page = PAGE.read_text()
-        for before, number, behind in numbers():
-            self.assertIn(f"{before}{number:,}{behind}", re.findall(rf"{before}[\d,]+{behind}", page))
+    maxDiff = None
 
-    def test_lists_and_table(self):
-        page = PAGE.read_text().splitlines()
-        for part in parts():
-            self.assertEqual([line for line in part if line not in page], [])
+    def test_the_page_is_the_one_that_is_made(self):
+        """`python3 tests/definitions.py` makes it again."""
+        page = PAGE.read_text()
+        self.assertEqual(page_made(page).splitlines(), page.splitlines())
+
+    def test_each_file_that_the_page_names_is_there(self):
+        named = re.findall(r"`(\w+/(?:specs|src)/[\w/]+\.\w+)`", PAGE.read_text())
+        self.assertGreater(len(named), 90)
+        self.assertEqual([path for path in named if not (CRATES / path).exists()], [])
+
+    def test_a_file_that_is_gone(self):
+        """A file that is not there is taken out, and a row with no other file."""
+        gone = "| nothing | says nothing | `question_model/specs/NotThere.antt` |"
+        both = "| lists | two files | `report_model/specs/NotThere.antt`, `Parts.antt` |"
+        made = definition_rows("\n".join([LAST_TABLE, gone, both]))
+        self.assertEqual(made[0], "| lists | two files | `report_model/specs/Parts.antt` |")
+
+    def test_a_file_that_no_row_names(self):
+        """Its row has its own words."""
+        rows = definition_rows(LAST_TABLE)
+        self.assertEqual(len(rows), len(files()))
+        self.assertIn("| rule texts | how a rule is written | `crash_model/specs/RuleTexts.antt` |", rows)
 
     def test_a_plain_run(self):
         self.assertLessEqual(lines_of(plain_run()), MOST_OF_A_PLAIN_RUN)

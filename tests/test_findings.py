@@ -4,8 +4,10 @@ import re
 import unittest
 
 from tests.findings import findings, printed_by
+from tests.program import needs_a_proved_program
 
 
+@needs_a_proved_program()
 class Findings(unittest.TestCase):
     def test_what_is_found(self):
         quick = [finding for finding in findings() if not finding.is_slow]
@@ -15,6 +17,7 @@ class Findings(unittest.TestCase):
                 self.assertEqual(finding.make(finding.words), finding.wanted)
 
 
+@needs_a_proved_program()
 class SingleRules(unittest.TestCase):
     """Which single rules that reach back keep a save by a new file which has no fsync, under soft updates."""
 

@@ -10,8 +10,8 @@ from tests.program import ROOT, program
 GALLERY = ROOT / "gallery"
 COMMAND = re.compile(r"^# \./crashmap (.*)$", re.MULTILINE)
 
-# Ways to read a report, in each of which the two explorers answer alike.
-READINGS = ("", "--json", "--summary", "--needs", "--explain --summary --json", "--explain --needs")
+# Ways to read a report, in each of which several workers answer as one does.
+READINGS = ("", "--json", "--decide", "--enough", "--explain --decide --json", "--explain --enough")
 
 
 def run(words):
@@ -24,6 +24,28 @@ def run(words):
 def number_of(word, report):
     """The number on the report's first line that begins with the word."""
     return int(re.search(rf"^{word} (\d+)$", report, re.MULTILINE)[1])
+
+
+def parts_of(report, word):
+    """The parts of a report that begin with a line of this word."""
+    return re.split(rf"^(?={word}\b)", report, flags=re.MULTILINE)[1:]
+
+
+def faults_of(decision):
+    """Each fault of a decision with what follows it: a set and its writes."""
+    return dict(part.split("\n", 1) for part in parts_of(decision, "fault"))
+
+
+def first_sets(report):
+    """Each fault of a report's failing sets with the first set that has it and its writes."""
+    first = {}
+    for part in parts_of(report, "set"):
+        lines = part.splitlines(keepends=True)
+        written = "".join(line for line in lines if not line.startswith("fault "))
+        for line in lines:
+            if line.startswith("fault "):
+                first.setdefault(line.rstrip("\n"), written)
+    return first
 
 
 class Gallery(unittest.TestCase):
@@ -49,21 +71,14 @@ class Gallery(unittest.TestCase):
         left = f"{number_of('failing', whole)} of {number_of('closed', whole)}"
         row = rf"\({re.escape(script.name)}\) .* {failing} of {closed} \| {left} \|"
         self.assertRegex((GALLERY / "README.md").read_text(), row)
-        self.assert_explorers_agree(words)
-        self.assert_decided_as_summed_up(words)
+        self.assert_workers_agree(words)
+        self.assertEqual(faults_of(run([*words, "--decide"])[1]), first_sets(report))
 
-    def assert_explorers_agree(self, words):
+    def assert_workers_agree(self, words):
         for reading in READINGS:
-            board = run([*words, *reading.split(), "--explorer", "board"])
-            sweep = run([*words, *reading.split(), "--explorer", "sweep", "--workers", "3"])
-            self.assertEqual(board, sweep, reading)
-            self.assertTrue(board[1], reading)
-
-    def assert_decided_as_summed_up(self, words):
-        """A decision is a summary without its numbers of failing sets."""
-        status, summary, errors = run([*words, "--summary"])
-        lines = [line for line in summary.splitlines(True) if not re.match("(failing|sets) ", line)]
-        self.assertEqual(run([*words, "--decide", "--workers", "3"]), (status, "".join(lines), errors))
+            one, three = (run([*words, *reading.split(), "--workers", workers]) for workers in ("1", "3"))
+            self.assertEqual(one, three, reading)
+            self.assertTrue(one[1], reading)
 
 
 if __name__ == "__main__":

@@ -1,5 +1,6 @@
 """The gate and the suite count as failed whatever did not run to its end and say so."""
 
+import os
 import pathlib
 import shutil
 import subprocess
@@ -107,15 +108,18 @@ class Gate(unittest.TestCase):
 class Suite(unittest.TestCase):
     """The suite's own last line and status, tried on a copy of run.py with other tests."""
 
-    def suite(self, text, *names):
-        """Runs a suite whose only file has a class of these lines, and gives its status and last line."""
+    def suite(self, text, *names, **added):
+        """Runs a suite whose only file has a class of these lines, and gives its status and last line. The program that
+        it is told of is a proved one, unless `added` has other variables of the environment."""
         folder = tempfile.TemporaryDirectory()
         self.addCleanup(folder.cleanup)
         tests = pathlib.Path(folder.name) / "tests"
         tests.mkdir()
         shutil.copy(ROOT / "tests/run.py", tests)
         (tests / "test_it.py").write_text(f"import unittest\nclass It(unittest.TestCase):\n{text}")
-        run = subprocess.run([sys.executable, tests / "run.py", *names], capture_output=True, text=True, check=False)
+        environment = {name: value for name, value in os.environ.items() if name != "CRASHMAP_UNPROVED"} | added
+        run = subprocess.run([sys.executable, tests / "run.py", *names], env=environment, capture_output=True, text=True,
+                             check=False)
         return run.returncode, run.stdout.splitlines()[-1]
 
     def test_a_test_that_passes(self):
@@ -137,6 +141,13 @@ class Suite(unittest.TestCase):
 
     def test_a_test_that_is_skipped(self):
         self.assertEqual(self.suite(f"    def test_it(self): self.skipTest('')\n{PASSES}"), (1, "1 passed, 1 failed"))
+
+    def test_a_test_that_is_skipped_on_an_unproved_program(self):
+        skips = "    def test_it(self): self.skipTest('')\n"
+        for lines, wanted in ((skips + PASSES, (0, "1 passed, 0 failed, 1 skipped")),
+                              (PASSES, (0, "1 passed, 0 failed, 0 skipped")),
+                              (skips, (1, "0 passed, 0 failed, 1 skipped"))):
+            self.assertEqual(self.suite(lines, CRASHMAP_UNPROVED="1"), wanted)
 
     def test_a_file_without_a_test(self):
         self.assertEqual(self.suite("    pass\n"), (1, "0 passed, 1 failed"))

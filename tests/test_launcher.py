@@ -22,6 +22,8 @@ PROVES = r"\./crashmap --prove proves it once, in \d+ to \d+ minutes on four pro
 COMPILES = re.compile(r"crashmap: compiles a program without proofs, in one to four minutes, and keeps it for later"
                       rf" answers; {PROVES}")
 UNPROVED = re.compile(rf"crashmap: this answer's program was not proved here; {PROVES}")
+LONG = ("crashmap: a search of four operations or more is some hundred times as fast with the proved program;"
+        " ./crashmap --prove makes it")
 NO_RT = "crashmap: the command rt of the Rattle kit is needed to build the program"
 
 
@@ -64,7 +66,8 @@ class UnprovedAnswers(LauncherTest):
     def test_a_script_that_is_typed(self):
         run = typed_on_terminal([self.top / "crashmap"], b"start\n", cwd=self.top, env=self.environment)
         first, second, rest = run.terminal.decode().split("\r\n")
-        self.assertEqual((run.status, run.output, rest), (1, b"unproved: \nstart\n", ""))
+        self.assertEqual((run.status, rest), (1, ""))
+        self.assertRegex(run.output, rb"^unproved: .*\nstart\n$")
         self.assertRegex(first, COMPILES)
         self.assertEqual(second, "crashmap: what the program says")
 
@@ -74,6 +77,16 @@ class UnprovedAnswers(LauncherTest):
             self.assert_unproved(*words, line=line, folder=self.room)
             self.assertEqual(self.words(), words)
             self.assertEqual((self.fake / "folder").read_text(), f"{self.room}\n")
+
+    def test_a_long_search_says_once_that_a_proved_program_is_faster(self):
+        self.assert_unproved(line=COMPILES)
+        for words in (("--search", "4"), ("a", "--search=8", "--atomic"), ("--module", "meta", "--search", "5", "a")):
+            errors = self.launch(*words)[2]
+            self.assertEqual(errors[1:], [LONG, "crashmap: what the program says"], words)
+        for words in (("--search", "3"), ("--search=2",), ("--limit", "4"), ("4",), ("--search", "--limit", "5")):
+            self.assert_unproved(*words)
+        self.prove()
+        self.assertEqual(self.launch("--search", "4"), (1, "proved: --search 4\n", []))
 
     def test_a_change_of_a_source_compiles_again(self):
         self.assert_unproved(line=COMPILES)
@@ -151,6 +164,89 @@ class Pages(LauncherTest):
         self.assertEqual(sorted(it.name for it in pages.FOLDER.iterdir()), sorted(pages.WORDS))
         for page, words in pages.WORDS.items():
             self.assertEqual(pages.printed(program(), words), (pages.FOLDER / page).read_bytes(), page)
+
+
+class Reading(LauncherTest):
+    """The command line is read in one place: which words are options, with which values, and which name a script."""
+
+    def read(self, *words):
+        """Returns the first word, when hints are given, and the options and scripts."""
+        parts = '"$first" "$hints" "${#options[@]}" "${options[@]}" "${scripts[@]}"'
+        command = f'set -eu; top=$0; . "$0/launch/words.sh"; read_words "$@"; printf "%s\\n" {parts}'
+        run = subprocess.run(["bash", "-c", command, self.top, *words], capture_output=True, text=True, check=True)
+        first, hints, number, *rest = run.stdout.split("\n")[:-1]
+        return first, hints, rest[:int(number)], rest[int(number):]
+
+    def test_options_and_scripts(self):
+        for words, options, scripts in (
+                (["--module", "meta", "a", "--strict"], ["--module=meta", "--strict"], ["a"]),
+                (["--strict", "a", "--with=b:c"], ["--strict", "--with=b:c"], ["a"]),
+                (["--limit", "--strict", "a"], ["--limit", "--strict"], ["a"]),
+                (["--explain", "a", "--", "--strict"], ["--explain"], ["a", "--strict"]),
+                (["-V", "-", "", "--blocks"], ["-V", "--blocks"], ["-", ""]),
+                (["--other", "a b"], ["--other"], ["a b"])):
+            self.assertEqual(self.read(*words), ("", "", options, scripts), words)
+
+    def test_words_of_the_launcher(self):
+        for words, wanted in (
+                (["--prove"], ("--prove", "", [], [])),
+                (["--proved", "--hints", "never", "a"], ("--proved", "never", [], ["a"])),
+                (["--strict", "--hints=always"], ("", "always", ["--strict"], [])),
+                (["a", "--prove", "--", "--hints"], ("", "", ["--prove"], ["a", "--hints"])),
+                (["--module", "--hints", "auto"], ("", "auto", ["--module"], []))):
+            self.assertEqual(self.read(*words), wanted, words)
+
+
+class NamedPrograms(LauncherTest):
+    """CRASHMAP_PROGRAM names another program that answers."""
+
+    def setUp(self):
+        super().setUp()
+        self.named = self.room / "named"
+        self.named.write_text('#!/bin/sh\necho "named: $*"\n')
+        self.named.chmod(0o755)
+
+    def test_it_answers_without_a_word_on_proofs(self):
+        answer = self.launch("--strict", "a", "--hints", "auto", CRASHMAP_PROGRAM=str(self.named))
+        self.assertEqual(answer, (0, "named: --strict a\n", []))
+        self.assertEqual(self.launch("--help", CRASHMAP_PROGRAM=str(self.named))[1], "named: --help\n")
+        self.assertEqual(self.calls(), [])
+
+    def test_the_proved_program_is_asked_for(self):
+        self.assertEqual(self.launch("--proved", "a", CRASHMAP_PROGRAM=str(self.named))[:2], (2, ""))
+        self.assertEqual(self.launch("--prove", "a", CRASHMAP_PROGRAM=str(self.named))[:2], (1, "proved: a\n"))
+
+    def test_the_launcher_does_not_call_itself(self):
+        self.prove()
+        self.assertEqual(self.launch("a", CRASHMAP_PROGRAM=str(self.top / "crashmap")), (1, "proved: a\n", []))
+
+
+class Suite(LauncherTest):
+    """--test runs the suite of the repository on the program that is there."""
+
+    RUN = """import os, pathlib, sys
+print(os.environ["CRASHMAP_PROGRAM"], os.environ.get("CRASHMAP_IMAGES"), os.environ.get("CRASHMAP_UNPROVED"))
+sys.exit(0 if pathlib.Path("installed").exists() else 1)
+"""
+
+    def setUp(self):
+        super().setUp()
+        for path, text in ((".ci/install", "#!/bin/sh\necho done >installed\n"), ("tests/run.py", self.RUN)):
+            (self.top / path).parent.mkdir()
+            (self.top / path).write_text(text)
+        (self.top / ".ci/install").chmod(0o755)
+
+    def test_on_an_unproved_program(self):
+        status, output, errors = self.launch("--test")
+        self.assertEqual((status, output), (0, f"{self.top}/out/unproved/crashmap None 1\n"))
+        self.assertRegex(errors[0], COMPILES)
+
+    def test_on_the_proved_program(self):
+        self.launch("--prove")
+        images = self.top / "out/proved/hostile_images"
+        shutil.copy(self.top / "out/proved/crashmap", images)
+        images.with_name("hostile_images.built").write_text("low:\n")
+        self.assertEqual(self.launch("--test"), (0, f"{self.top}/out/proved/crashmap {images} None\n", []))
 
 
 class Proofs(LauncherTest):

@@ -1,4 +1,4 @@
-"""The built program answers scripts of noise as the reference does, by both explorers with 1 to 16 workers."""
+"""The built program answers scripts of noise as the reference does, with 1 to 16 workers."""
 
 import concurrent.futures
 import functools
@@ -10,7 +10,7 @@ import unittest
 HERE = pathlib.Path(__file__).resolve().parent
 sys.path[:0] = [str(HERE.parent), str(HERE)]
 
-from program import program
+from program import needs_a_proved_program, program
 from reference.noise.scripts import COUNT, KINDS
 from reference.noise.seeded import Noise
 from reference.rules import MODULES
@@ -22,10 +22,9 @@ TIMEOUT = 60
 JOBS = 4
 
 ALONE = [()]
-"""The words that name no explorer and no number of workers."""
+"""The words that name no number of workers."""
 
-EVERY_WAY = [("--explorer", explorer, "--workers", workers)
-             for explorer, workers in itertools.product(("board", "sweep"), ("1", "2", "8", "16"))]
+EVERY_WAY = [("--workers", workers) for workers in ("1", "2", "8", "16")]
 
 
 def differences_of(kind, forms, ways, seed):
@@ -58,11 +57,13 @@ class ScriptsOfNoise(unittest.TestCase):
     def test_letters_of_scripts(self):
         self.compare("TellingBytes", [()], ALONE)
 
+    @needs_a_proved_program()
     def test_known_lines(self):
-        self.compare("KnownLines", [(), ("--json",)], EVERY_WAY)
+        self.compare("KnownLines", [(), ("--json",), ("--decide",)], EVERY_WAY)
 
+    @needs_a_proved_program()
     def test_lines_apart(self):
-        self.compare("LinesApart", [(), ("--json",)], EVERY_WAY)
+        self.compare("LinesApart", [(), ("--json",), ("--decide",)], EVERY_WAY)
 
 
 class AWrongProgram(unittest.TestCase):

@@ -87,7 +87,7 @@ class InABrowser(unittest.TestCase):
         self.assertTrue(scripts)
         with tempfile.TemporaryDirectory() as folder:
             for script in scripts:
-                text, questions = script.read_text(), [[], ["--needs"], ["--decide"], ["--enough"]]
+                text, questions = script.read_text(), [["--limit", "32768"], ["--decide"], ["--enough"]]
                 words = re.search(r"^# \./crashmap gallery/\S+ (.*)$", text, re.MULTILINE)[1].split()
                 if re.search(r"^f?sync\b", text, re.MULTILINE):
                     questions.append(["--enough", "--syncs"])
@@ -148,7 +148,7 @@ class CrashmapPage(unittest.TestCase):
         self.assertEqual(self.make(*words), (0, self.page_of_case("safe", "a script", CLEAN, words), b""))
 
     def test_options_that_it_adds_are_given(self):
-        words = [self.script, "--summary", "--module=async", "--json", "--explain"]
+        words = [self.script, "--decide", "--module=async", "--json", "--explain"]
         self.assertEqual(self.make(*words), (1, self.page_of_case("create", "a script", CREATE, words), b""))
 
     def test_options_end(self):
@@ -156,10 +156,17 @@ class CrashmapPage(unittest.TestCase):
         self.assertEqual(self.make(*words), (1, self.page_of_case("create", "a script", CREATE, words), b""))
 
     def test_rules(self):
-        case = cases()["needs"]
+        case = cases()["needed"]
         self.script.write_bytes(script_of(case))
-        words = ["--needs", "--module", "soft", self.script]
-        self.assertEqual(self.make(*words), (0, self.page_of_case("needs", "a script", script_of(case), words), b""))
+        words = ["--enough", "--module", "soft", self.script]
+        self.assertEqual(self.make(*words), (0, self.page_of_case("needed", "a script", script_of(case), words), b""))
+
+    def test_every_failing_set(self):
+        """A run with a limit is no decision, so the page lists the sets."""
+        case = cases()["all_sets"]
+        self.script.write_bytes(script_of(case))
+        words = [self.script, "--module", "async", "--strict", "--atomic", "--limit", "12"]
+        self.assertEqual(self.make(*words), (1, self.page_of_case("all_sets", "a script", script_of(case), words), b""))
 
     def test_standard_input(self):
         words = ["--module", "async"]
@@ -209,7 +216,7 @@ class CrashmapPage(unittest.TestCase):
 
     def test_words_that_do_not_go_together(self):
         """The program names all that it was given, so the page adds nothing."""
-        for words in (["--needs", "--summary"], ["--decide", "--limit=5"], ["--explorer", "sweep", "--enough"],
+        for words in (["--limit", "5", "--enough"], ["--decide", "--limit=5"], ["--search", "1", "--limit=5"],
                       ["--decide", "--enough"], ["--search", "2", "--enough", "--decide"]):
             with self.subTest(words):
                 status, out, err = self.is_the_programs(self.script, *words)
@@ -245,12 +252,12 @@ class CrashmapPage(unittest.TestCase):
         environment = {name: value for name, value in os.environ.items() if name != "CRASHMAP_PROGRAM"}
         words = [self.folder / "crashmap-page", "--unproved", "a", "--strict"]
         said = subprocess.run(words, env=environment, stdout=subprocess.PIPE, timeout=SECONDS, check=True).stdout
-        self.assertEqual(said, b"--unproved a --strict --json --explain --summary\n")
+        self.assertEqual(said, b"--unproved a --strict --json --explain --decide\n")
 
-    def test_other_questions_go_without_a_summary(self):
+    def test_other_questions_go_without_a_decision(self):
         """A report that begins with a brace is made a page, so what this program prints is passed on."""
         printing = self.stand_in('echo "$@"\n')
-        for question in ("--needs", "--decide", "--enough"):
+        for question in ("--limit=9", "--decide", "--enough", "--search=2"):
             said = f"a {question} --json --explain\n".encode()
             self.assertEqual(self.make("a", question, of=printing), (0, said, b""))
 

@@ -4,7 +4,7 @@ import subprocess
 import sys
 import unittest
 
-from tests.program import ROOT, program
+from tests.program import ROOT, needs_a_proved_program, program
 
 sys.path.insert(0, str(ROOT))
 
@@ -14,6 +14,7 @@ POOLS = sorted((ROOT / "pools").glob("*.script"))
 
 
 class Pools(unittest.TestCase):
+    @needs_a_proved_program()
     def test_each_pool_is_searched(self):
         self.assertEqual(len(POOLS), 9)
         for pool in POOLS:

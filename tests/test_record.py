@@ -1,5 +1,6 @@
 """`./crashmap-record` writes the script of what a command does to files, or says in a line why it cannot."""
 
+import json
 import os
 import pathlib
 import re
@@ -9,6 +10,7 @@ import subprocess
 import tempfile
 import unittest
 
+from tests.program import ROOT
 from tests.recording import PYTHON, RECORDER, Recording, can_trace, steps_of
 
 
@@ -26,7 +28,10 @@ class Calls(Recording):
                           base=("mkdir /d", "create /f", "write /f", "overwrite /f", "start", "hold /f"))
 
     def test_blocks(self):
-        """Which block a write goes to: by the offset, at the end, by pwrite and by copies."""
+        """Which block a write goes to: by the offset, at the end, by pwrite and by copies.
+
+        What `g` holds at last would read like what it held before, so there is one line more.
+        """
         program = ("import os\nf = os.open('f', os.O_RDWR | os.O_SYNC)\nos.write(f, bytes(9000))\n"
                    "os.pwrite(f, b'x', 4096)\n"
                    "g = os.open('g', os.O_RDWR | os.O_CREAT | os.O_EXCL | os.O_APPEND)\n"
@@ -35,7 +40,36 @@ class Calls(Recording):
                    "os.sendfile(os.open('g', os.O_WRONLY), f, None, 4097)")
         self.assert_steps(["--", PYTHON, "-c", program], "overwrite /f 0", "write /f", "write /f", "fsync /f",
                           "overwrite /f 1", "fsync /f", "create /g", "write /g", "write /g", "truncate /g", "write /g",
-                          "write /g", "spare /f /f")
+                          "overwrite /g 0", "write /g", "spare /f /f", "spare /g /g",
+                          base=("create /f", "write /f", "overwrite /f", "start", "hold /f", "hold /g"))
+
+    def test_each_write_is_a_line(self):
+        """Calls that write one block are as many lines, and so are the pages of a block that --block made."""
+        self.assert_steps(["--", "sh", "-c", "(echo a; echo b) >> f; echo c >> f"], *["overwrite /f 0"] * 3,
+                          "spare /f /f")
+        (self.folder / "f").write_bytes(bytes(16384))
+        program = "import os; os.pwrite(os.open('f', os.O_WRONLY), bytes(16384), 0)"
+        self.assert_steps(["--block", "16384", "--", PYTHON, "-c", program], *["overwrite /f 0"] * 4, "spare /f /f")
+
+    def test_lengths(self):
+        """A new length is a new end of the last block, or new blocks; the same length is nothing."""
+        for command, *steps in (("truncate -s 4096 f", "overwrite /f 0"), ("truncate -s 8192 f", "write /f"),
+                                ("truncate -s 8000 f", "overwrite /f 1"), ("truncate -s 8192 f", "overwrite /f 1"),
+                                ("truncate -s 10000 f", "write /f"), ("truncate -s 0 f", "truncate /f")):
+            with self.subTest(command):
+                self.assertEqual(steps_of(self.script("--", "sh", "-c", command))[0][-2:], [*steps, "spare /f /f"])
+        self.assert_refused(["--", "truncate", "-s", "0", "f"], "changed nothing", status=3)
+        self.make_directory()
+        program = "f = open('f', 'r+'); f.write('HELLO!'); f.truncate()"
+        self.assert_steps(["--", PYTHON, "-c", program], "overwrite /f 0", "spare /f /f")
+
+    def test_a_mapping_that_is_only_read(self):
+        read = ("import mmap, os; f = os.open('f', os.O_RDWR); m = mmap.mmap(f, 0, prot=mmap.PROT_READ); "
+                "os.pwrite(f, m[:2], 0)")
+        self.assert_steps(["--", PYTHON, "-c", read], "overwrite /f 0", "spare /f /f")
+        later = ("import ctypes, os; c = ctypes.CDLL(None); c.mmap.restype = ctypes.c_void_p; f = os.open('f', "
+                 "os.O_RDWR); m = ctypes.c_void_p(c.mmap(None, 4096, 1, 1, f, 0)); c.mprotect(m, 4096, 3)")
+        self.assert_refused(["--", PYTHON, "-c", later], "mprotect.*: the writes through a mapping are not seen")
 
 
 class Options(Recording):
@@ -45,26 +79,32 @@ class Options(Recording):
         self.assert_steps(["--delay", "--", "sh", "-c", save.replace(";", "; sync g;")], "create /g", "write /g",
                           "fsync /g", "replace /g /f", "spare /f /f")
 
+    def test_delay_as_ext4(self):
+        """A file is also written out where it is renamed onto another one, or closed after it was cut to nothing."""
+        self.assert_steps(["--delay-as-ext4", "--", "sh", "-c", "echo new > g; mv g f"], "create /g", "write /g",
+                          "replace /g /f", "spare /f /f")
+        self.assert_steps(["--delay-as-ext4", "--", "sh", "-c", "echo new > f; echo > h; rm h"], "truncate /f",
+                          "write /f", "create /h", "unlink /h", "spare /f /f")
+        self.assert_steps(["--delay-as-ext4", "--", "sh", "-c", "rm f; echo new > f; mkdir d"], "unlink /f",
+                          "create /f", "mkdir /d", "write /f", "spare /f /f")
+
     def test_together_and_lasting(self):
         (self.folder / "g").write_text("hello\n")
         base = [f"{word} /{name}" for name in "fg" for word in ("create", "write", "overwrite")]
         self.assert_steps(["--together", "--lasting", "--keep", "f", "--keep", "g", "--", "rm", "f", "g"], "unlink /f",
                           "unlink /g", "end", "keep /f", "keep /g", base=(*base, "start", "keep /f /g", "group SAVE"))
 
-        self.assert_refused(["--together", "--", "sh", "-c", "echo > h"], "a promise of 1 to 4 files, and here are 0")
-
-    def test_spare(self):
-        """A backup counts when it is complete, and before the file is changed."""
-        self.assert_steps(["--spare", "f", "f~", "--", "sh", "-c", "cp f f~; echo new > f"], "create /ftilde",
-                          "write /ftilde", "spare /f /ftilde", "truncate /f", "write /f", "spare /f /f")
-
-    def test_a_deleted_file(self):
-        self.assertIn("# no promise is made of f, which is deleted", self.script("--", "rm", "f"))
+        self.assert_refused(["--together", "--", "mkdir", "h"], "no file is changed or made", status=3)
+        self.assert_refused(["--together", "--", "sh", "-c", "for i in 1 2 3 4 5; do echo > $i; done"],
+                            "a promise of up to 4 files, and here are 5")
+        for option in (["--each-close"], ["--each-fsync"], ["--in-order", "f", "g"]):
+            self.assert_refused(["--together", *option, "--", "true"], "--together goes with none of")
 
     def test_ignore_and_block(self):
         script = self.script("--ignore", "g*", "--block", "8192", "--", "sh", "-c",
                              "head -c 9000 /dev/zero > f; echo > gg")
-        self.assertEqual(steps_of(script)[0][5:], ["truncate /f", "write /f", "write /f", "spare /f /f"])
+        self.assertEqual(steps_of(script)[0][-5:], ["truncate /f", "write /f", "overwrite /f 0", "write /f",
+                                                    "spare /f /f"])
         self.assertIn("# left out by --ignore g*: 2 changes", script)
 
     def test_output_and_trace(self):
@@ -86,7 +126,8 @@ class Options(Recording):
     def test_lossy(self):
         """A comment and the line that comes nearest, where the recorder refuses otherwise."""
         for command, text, *steps in (
-                ("ln -s f h", "a symbolic link", "create /h"), ("truncate -s 3 f", "gets 3 without", "overwrite /f 0"),
+                ("ln -s f h; echo > f", "a symbolic link", "create /h"),
+                ("head -c 5000 /dev/zero > f; truncate -s 3 f", "is cut to 3, and loses blocks", "overwrite /f 0"),
                 ("mv d e", "rename a directory", "mkdir /e", "rename /d/g /e/g", "rmdir /d"),
                 ("head -c 20000 /dev/zero > h", "more than 4 blocks", *["write /h"] * 4)):
             with self.subTest(command):
@@ -98,14 +139,84 @@ class Options(Recording):
                 self.assertRegex(answer.stdout, "\n(# .*\n|.*\n)*".join(map(re.escape, steps)))
 
 
+class ForOtherPrograms(Recording):
+    """What a program gets that judges a recording."""
+
+    PROGRAM = """
+import json, sys
+from record.candidates import with_candidates
+from record.command import parse
+from record.recording import observe
+observed = observe(parse(sys.argv[1:]))
+recording = observed.recording()
+asked = with_candidates(recording)
+delayed = observed.recording(delay=True, fsyncs=[(line.causes[-1].number, "g") for line in recording.lines.values()
+                                                  if line.text == "write /g"])
+print(json.dumps({
+    "script": recording.script, "merged": observed.recording(merge=True).merged, "delayed": delayed.script,
+    "asked": asked.script, "names": recording.names,
+    "promises": [(it.kind, it.line, it.paths, it.was_there, [(spare.line, spare.other) for spare in it.spares])
+                 for it in recording.promises],
+    "lines": [(number, it.text, it.causes[-1].text, it.forced) for number, it in recording.lines.items()],
+    "candidates": [(number, it.path, it.behind) for number, it in asked.candidates.items()]}))
+"""
+
+    def ask(self, *words):
+        run = subprocess.run([PYTHON, "-c", self.PROGRAM, *words], cwd=self.folder, capture_output=True, text=True,
+                             check=True, stdin=subprocess.DEVNULL, env=os.environ | {"PYTHONPATH": str(ROOT)})
+        return json.loads(run.stdout)
+
+    def test_recording(self):
+        program = "import os; g = open('g', 'w'); g.write('a'); g.flush(); g.write('b'); g.close(); os.rename('g', 'f')"
+        found = self.ask("--", PYTHON, "-c", program)
+        lines = {text: number for number, text in enumerate(found["script"].split("\n"), 1)}
+        hold, spare = lines["hold /f"], lines["spare /f /f"]
+        self.assertEqual(found["promises"], [["hold", hold, ["f"], True, [[spare, "f"]]]])
+        self.assertEqual(found["names"], {"/": ".", "/f": "f", "/g": "g"})
+        self.assertEqual([[text, cause.split(",")[0], forced] for _, text, cause, forced in found["lines"]], [
+            ["create /g", 'openat("g"', ["g"]], ["write /g", 'write("g"', ["g"]],
+            ["overwrite /g 0", 'write("g"', ["g"]], ["replace /g /f", 'rename("g"', ["f"]]])
+        self.assertEqual(len(found["merged"]), 1)
+        asked = [it for it in found["asked"].split("\n") if it[:1] not in ("#", "")]
+        self.assertEqual(asked[asked.index("create /g"):], [
+            "create /g", "write /g", "overwrite /g 0", "fsync /g", "replace /g /f", "fsync /f", "spare /f /f"])
+        self.assertEqual(found["candidates"], [[spare - 1, "g", spare - 2], [spare + 1, "f", spare - 1]])
+        delayed = steps_of(found["delayed"])[0]
+        self.assertEqual(delayed[delayed.index("create /g"):], [
+            "create /g", "write /g", "fsync /g", "overwrite /g 0", "replace /g /f", "spare /f /f"])
+
+
 class Refusals(Recording):
     def test_commands(self):
         self.assert_refused(["--", "no-such-command"], "^crashmap-record: there is no command no-such-command\n$")
-        self.assert_refused(["--", "true"], "^crashmap-record: the command changed nothing in this directory\n$")
-        self.assert_refused(["--", "false"], "^crashmap-record: the command ended with status 1\n.*changed nothing")
-        self.assert_refused(["--", "sh", "-c", "cd ..; echo > $$; rm $$"],
-                            r"changed nothing in this directory \(files outside of it: 1\)")
         self.assert_refused([], "there is no COMMAND")
+
+    def test_nothing_is_promised(self):
+        """Where there would be no promise there is no script, since it could only be kept."""
+        nothing = "the command changed nothing in this directory"
+        for command, told in (("true", f"^crashmap-record: {nothing}\n$"), ("mkdir e", "no file is changed or made"),
+                              ("exit 1", f"^crashmap-record: the command ended with status 1\n.*{nothing}\n$"),
+                              ("rm f", "no promise is made: none of f, which is deleted .--spare names what"),
+                              ("for i in 1 2 3 4 5 6 7 8 9; do echo > $i; done", "none of the 9 files that are new, "
+                               "since they are more than --most-new 8")):
+            with self.subTest(command):
+                self.make_directory()
+                self.assert_refused(["--", "sh", "-c", command], told, status=3)
+
+    def test_outside(self):
+        """Files outside the directory that are changed, or renamed to or from."""
+        (self.folder / "in").mkdir()
+        (self.folder / "in/f").write_text("hello\n")
+        for command, *named in (("echo >> ../f; echo > f", "f"), ("cp f ../g; echo > f", "g"),
+                                ("truncate -s 3 ../f; rm ../g; echo > f", "f", "g"), ("cat ../f > f",),
+                                ("echo > ../h; cp ../h f; rm ../h",), ("echo > ../h; mv ../h f", "h"),
+                                ("echo > /dev/null; cp f g; mv g ../g; echo > f", "g")):
+            with self.subTest(command):
+                answer = self.record("--lossy", "--", "sh", "-c", command, within="in")
+                self.assertEqual(answer.returncode, 0)
+                self.assertEqual(answer.stderr, "".join(
+                    f"crashmap-record: {self.folder}/{it} is outside the directory, and is changed or renamed: the "
+                    "script does not have it\n" for it in named))
 
     def test_a_command_that_fails_or_is_killed(self):
         for command, told in (("exit 3", "the command ended with status 3"),
@@ -194,7 +305,8 @@ class Refusals(Recording):
         (self.folder / os.fsdecode(odd)).write_text("x")
         script = self.script("--", "sh", "-c", 'for it in a*; do echo new > "$it"; mv "$it" "$it."; done')
         steps, names = steps_of(script)
-        self.assertEqual(steps[:5], ["create /ab", "write /ab", "overwrite /ab", "start", "truncate /ab"])
+        self.assertEqual(steps[:7], ["create /ab", "write /ab", "overwrite /ab", "start", "hold /ab", "hold /ab2",
+                                     "truncate /ab"])
         self.assertEqual(set(names.values()), {"a 'b\\n\\udcff>\"\\\\(,)", "a 'b\\n\\udcff>\"\\\\(,)."})
 
 

@@ -14,7 +14,7 @@ from record.trace import arguments_of, descriptor_of, printable, read
 from record.tree import difference, snapshot
 from tests.program import ROOT
 
-MOST_LINES = 900
+MOST_LINES = 1299
 
 
 def calls(*lines):
@@ -39,6 +39,17 @@ class Trace(unittest.TestCase):
                          [(7, "close", ["3</a>"], 0, 1, 1), (7, "read", ["3", '""...', "5"], -1, 2, 2)])
         self.assertEqual(calls("7 exit_group(0) = ?\n", "7 +++ killed by SIGKILL +++\n", "8 --- SIGCHLD {} ---\n"),
                          [(7, "exit_group", ["0"], None, 1, 1), (7, "exit", [], 0, 2, 2)])
+
+    def test_names_of_a_call(self):
+        """A call as a message shows it, with names below the directory."""
+        def in_hexadecimal(text):
+            return "".join(f"\\x{ord(it):02x}" for it in text)
+        folder, file, name = map(in_hexadecimal, ("/top", "/top/a/n", "./n"))
+        for line, named in ((f'7 write(3<{file}>, ""..., 5) = 5\n', 'write("a/n", 5)'),
+                            (f'7 rename("{name}", "{file}") = 0\n', 'rename("n", "a/n")'),
+                            (f'7 openat(AT_FDCWD<{folder}>, "{name}", O_RDWR) = 3\n', 'openat("n", O_RDWR)'),
+                            ("7 fsync(3) = 0\n", "fsync(3)")):
+            self.assertEqual([it.named("/top") for it in read([line])], [named])
 
     def test_a_call_that_another_one_interrupts(self):
         lines = ("7 fsync(3</a> <unfinished ...>\n", "8 close(4) = 0\n", "7 <... fsync resumed>) = 0\n")
@@ -98,8 +109,9 @@ class Sizes(unittest.TestCase):
 
     def words(self, *words, given=None):
         """The words that the program gets, and what it can read."""
-        command = '. "$0/launch/geometry.sh"; add_sizes "$@"; printf "%s\\n" "${words[@]}"; exec cat'
-        run = subprocess.run(["bash", "-c", f"set -eu; {command}", ROOT, *words], check=True, capture_output=True,
+        command = ('set -eu; top=$0; . "$0/launch/words.sh"; . "$0/launch/geometry.sh"; read_words "$@"; add_sizes; '
+                   'printf "%s\\n" "${words[@]}"; exec cat')
+        run = subprocess.run(["bash", "-c", command, ROOT, *words], check=True, capture_output=True,
                              timeout=600, **({"stdin": subprocess.DEVNULL} if given is None else {"input": given}))
         words, found = run.stdout[:-len(given) or None] if given else run.stdout, given and run.stdout[-len(given):]
         return words.decode().split("\n")[:-1], found
@@ -108,19 +120,19 @@ class Sizes(unittest.TestCase):
         with tempfile.TemporaryDirectory() as folder:
             script = pathlib.Path(folder, "a script")
             script.write_bytes(self.SCRIPT)
-            for words in ((script, "--module", "meta"), ("--decide", script)):
-                self.assertEqual(self.words(*words)[0], [*map(str, words), *self.ADDED])
-            for words in ((script, "--blocks", "20"), (script, "--journal=9"), ("--", script), (script, "--help")):
+            for words in ((script, "--module", "meta"), ("--decide", script), ("--", script)):
+                self.assertEqual(self.words(*words)[0], [*self.ADDED, *map(str, words)])
+            for words in ((script, "--blocks", "20"), (script, "--journal=9"), (script, "--help")):
                 self.assertEqual(self.words(*words)[0], [*map(str, words)])
             script.write_bytes(b"start\n" + self.SCRIPT)
             self.assertEqual(self.words(script)[0], [str(script)])
 
     def test_standard_input(self):
         self.assertEqual(self.words("--module", "soft", given=self.SCRIPT),
-                         (["--module", "soft", *self.ADDED], self.SCRIPT))
+                         ([*self.ADDED, "--module", "soft"], self.SCRIPT))
         for other in (b"start\n", bytes(range(256)) * 9, b"%s\\n\n", b"#", b"\0", b"a\0\0b", bytes(64), b"x" * 64,
                       b"x" * 63 + b"\0y", b"\n" * 100, self.SCRIPT.replace(b"62", b"6x")):
-            self.assertEqual(self.words("--summary", given=other), (["--summary"], other))
+            self.assertEqual(self.words("--decide", given=other), (["--decide"], other))
         self.assertEqual(self.words("--blocks", "20", given=self.SCRIPT), (["--blocks", "20"], self.SCRIPT))
 
 

@@ -8,32 +8,18 @@ import subprocess
 import tempfile
 import unittest
 
-from saves.judge import MODULES, crash_of, needed, reference_report, report
 from tests.program import ROOT, program
-from tests.recording import PYTHON, Recording, can_trace, steps_of
+from tests.recording import PYTHON, Judged, Recording, can_trace, steps_of
 
 SAVE = "import os; g = open('g', 'w'); g.write('new'); g.flush(); {} g.close(); os.replace('g', 'f')"
 FORCE = "os.fsync(g.fileno());"
 EXAMPLES = [ROOT / "README.md", ROOT / "docs/RECORDING.md"]
 
 
-class Programs(Recording):
+class Programs(Judged):
     """The verdicts without an ordering, under soft updates, and under the journals of metadata and of everything."""
 
-    def assert_judged(self, script, *wanted):
-        """In these words the program says what a crash leaves of the file, or None where the promise is kept."""
-        for module, left in zip(MODULES, wanted, strict=True):
-            with self.subTest(module):
-                found = report(script, module)
-                self.assertEqual(found, reference_report(script, module))
-                self.assertIn("\nclosed ", found)
-                crash = crash_of(found)
-                self.assertEqual(crash and crash.left(), left)
-
-    def assert_needed(self, script, **wanted):
-        """The waits that a program needs under an ordering."""
-        lines = script.split("\n")
-        self.assertEqual({it: [lines[wait] for wait in needed(script, it)] for it in wanted}, wanted)
+    is_compared = True
 
     def test_shell(self):
         script = self.assert_steps(["--", "sh", "-c", "echo new > f"], "truncate /f", "write /f", "spare /f /f")
@@ -50,8 +36,6 @@ class Programs(Recording):
         script = self.assert_steps(["--", "sh", "-c", "echo new > g && mv g f"], "create /g", "write /g",
                                    "replace /g /f", "spare /f /f")
         self.assert_judged(script, "gone", "empty", None, None)
-        script = self.assert_steps(["--spare", "f", "g", "--", "mv", "f", "g"], "rename /f /g", "spare /f /g")
-        self.assert_judged(script, "gone", None, None, None)
 
     def test_python(self):
         script = self.assert_steps(["--", PYTHON, "-c", SAVE.format("")], "create /g", "write /g", "replace /g /f",
@@ -70,15 +54,6 @@ class Programs(Recording):
             script = self.script("--delay", "--", PYTHON, "-c", SAVE.format(force))
             self.assert_judged(script, "gone", left, left, left)
             (self.folder / "f").write_text("hello\n")
-
-    def assert_broken(self, script, *wanted):
-        """Which lines have a promise that a crash breaks, without an ordering, under soft updates and with journals."""
-        for module, lines in zip(MODULES, wanted, strict=True):
-            with self.subTest(module):
-                found = report(script, module)
-                self.assertEqual(found, reference_report(script, module))
-                broken = re.findall(r"^fault 10 broken promise: line (\d+)$", found, re.MULTILINE)
-                self.assertEqual([script.split("\n")[int(it) - 1] for it in broken], lines)
 
     def test_lasting(self):
         """The new file is there once the command has ended, if the directory is forced too."""
@@ -101,7 +76,8 @@ class Programs(Recording):
         subprocess.run(["sh", "-c", "git init -q -b main . && git config core.logAllRefUpdates false && git add f"],
                        cwd=self.folder, env=environment, check=True)
         answer = self.record("--keep", ".git/refs/heads/main", "--ignore", ".git/index*", "--ignore", ".git/COMMIT*",
-                             "--ignore", ".git/HEAD.lock", "--", "git", "-c", "user.name=a", "-c", "user.email=a@b",
+                             "--ignore", ".git/HEAD.lock", "--merge", "--", "git", "-c", "user.name=a",
+                             "-c", "user.email=a@b",
                              "-c", "maintenance.auto=false", "-c", "core.fsync=all", "commit", "-qm", "one",
                              env=environment)
         self.assertEqual((answer.returncode, answer.stderr), (0, ""))

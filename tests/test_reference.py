@@ -31,14 +31,14 @@ class TooMuch(unittest.TestCase):
         return status, out.getvalue(), err.getvalue()
 
     def test_more_than_200000_closed_sets_have_a_status_of_their_own(self):
-        for words in (["--limit", "1000000"], ["--decide"], ["--enough"]):
+        for words in (["--decide"], ["--enough"], ["--decide", "--json"], ["--enough", "--explain"]):
             self.assertEqual(self.answered(words), (
                 TOO_MUCH, b"", b"reference: too much to enumerate: more than 200000 closed sets\n"))
         self.assertNotIn(TOO_MUCH, (0, 1, 2))
 
-    def test_a_lower_limit_is_an_answer(self):
-        self.assertEqual(self.answered(["--limit", "200000"]), (
-            2, b"", b"crashmap: 30 too many closed sets\n"))
+    def test_more_than_the_limit_is_an_answer(self):
+        for words in ([], ["--limit", "1"], ["--limit", "32768"]):
+            self.assertEqual(self.answered(words), (2, b"", b"crashmap: 30 too many closed sets\n"))
 
 
 if __name__ == "__main__":

@@ -5,62 +5,59 @@ program, those of the command line, of clap and of JSON too. An unknown option i
 though one of its requests is refused.
 """
 
-import os
-import pathlib
-import subprocess
-import tempfile
 import unittest
 
-from tests.program import program
+from tests.memory import MemoryTest
 
-HELPER = pathlib.Path(__file__).resolve().parent / "helpers/refuse.c"
 OUT_OF_MEMORY = (2, b"", b"crashmap: 99 out of memory\n")
+SILENT = (2, b"", b"")
 MOST_REQUESTS = 100_000
 SCRIPT = b"start\ncreate /a\n"
+TO_AND_FRO = b"link /a /b\nunlink /b\n"
+
+ASYNC, SOFT = ("--module", "async"), ("--module", "soft")
+RUNS = {
+    "creates": (ASYNC, SCRIPT),
+    "uses a block again": (ASYNC, b"create /a\nwrite /a\ncreate /b\nstart\nunlink /a\nwrite /b\n"),
+    "makes as many patches as there can be": (SOFT, b"create /a\nstart\n" + 31 * TO_AND_FRO),
+    "makes half as many": (SOFT, b"create /a\nstart\n" + 15 * TO_AND_FRO + b"link /a /b\n"),
+    "is behind a journal": (("--module", "meta", "--blocks", "24", "--journal", "12"),
+                            b"mkdir /d\ncreate /d/x\ncreate /f\nstart\nunlink /d/x\nrmdir /d\nwrite /f\n"),
+    "is before a strict checker": ((*ASYNC, "--strict"), b"create /a\nstart\nrename /a /b\n"),
+    "has too many sets": ((*ASYNC, "--limit", "23"), b"start\ncreate /a\nwrite /a\n"),
+}
+"""Scripts and the words that they are run with, by what a script does."""
 
 
-def compiler():
-    """The kit's own compiler, or the system's."""
-    kit = pathlib.Path(subprocess.run(["rt", "doc"], capture_output=True, text=True, check=True).stdout.strip()).parent
-    clang = kit / "toolchain/bin/clang"
-    return str(clang) if clang.exists() else "cc"
-
-
-class RefusedMemory(unittest.TestCase):
+class RefusedMemory(MemoryTest):
     @classmethod
     def setUpClass(cls):
-        folder = tempfile.TemporaryDirectory()
-        cls.addClassCleanup(folder.cleanup)
-        cls.folder = pathlib.Path(folder.name)
-        cls.library, cls.mark, cls.script = (cls.folder / name for name in ("refuse.so", "mark", "create"))
+        super().setUpClass()
+        cls.script = cls.folder / "create"
         cls.script.write_bytes(SCRIPT)
-        subprocess.run([compiler(), "-O1", "-shared", "-fPIC", "-nostdlib", "-o", cls.library, HELPER], check=True)
 
-    def answer(self, words, text, **added):
-        run = subprocess.run([program(), *words], input=text, capture_output=True, env=os.environ | added, check=False)
-        return run.returncode, run.stdout, run.stderr
-
-    def refused_answer(self, words, text, number):
-        """The answer with one request refused, and whether there was such a request."""
-        self.mark.unlink(missing_ok=True)
-        got = self.answer(words, text, REFUSED_REQUEST=str(number), REFUSED_MARK=str(self.mark),
-                          LD_PRELOAD=str(self.library))
-        return got, self.mark.exists()
-
-    def assert_out_of_memory(self, *words, text=b"", may_report=False):
-        """Each request refused in turn makes the run out of memory; with `may_report` the answer may be the usual one,
-        as where a thread cannot start and another does its work."""
+    def assert_out_of_memory(self, *words, text=b"", may_report=False, for_good=False):
+        """Each request refused in turn makes the run out of memory. With `may_report` the answer may be the usual one,
+        as where a thread cannot start and another does its work. With `for_good` all later requests are refused too,
+        and then the line on standard error may be lacking."""
         usual = self.answer(words, text)
         for number in range(1, MOST_REQUESTS):
-            got, was_refused = self.refused_answer(words, text, number)
+            got, was_refused = self.refused_answer(words, text, number, MOST_REQUESTS if for_good else number)
             if not was_refused:
                 self.assertEqual(got, usual, "without a refused request")
                 self.assertGreater(number, 1, "no request was made")
                 return
             if may_report and got == usual:
                 continue
-            self.assertEqual(got, OUT_OF_MEMORY, f"request {number} refused")
+            if not (for_good and got == SILENT):
+                self.assertEqual(got, OUT_OF_MEMORY, f"request {number} refused")
         self.fail("it makes more requests than were tried")
+
+    def assert_all_out_of_memory(self, workers, *more):
+        """So many workers are out of memory where a request of a run is refused, whatever the script."""
+        for name, (words, text) in RUNS.items():
+            with self.subTest(name):
+                self.assert_out_of_memory(*words, *more, "--workers", str(workers), text=text, may_report=workers > 1)
 
     def test_text(self):
         self.assert_out_of_memory(str(self.script), "--module", "async")
@@ -71,6 +68,32 @@ class RefusedMemory(unittest.TestCase):
     def test_standard_input(self):
         self.assert_out_of_memory("--module", "async", "--limit", "4", text=SCRIPT)
 
+    def test_one_worker(self):
+        self.assert_all_out_of_memory(1)
+
+    def test_one_worker_in_json(self):
+        self.assert_all_out_of_memory(1, "--json")
+
+    def test_two_workers(self):
+        self.assert_all_out_of_memory(2)
+
+    def test_two_workers_in_json(self):
+        self.assert_all_out_of_memory(2, "--json")
+
+    def test_four_workers(self):
+        self.assert_all_out_of_memory(4)
+
+    def test_four_workers_in_json(self):
+        self.assert_all_out_of_memory(4, "--json")
+
+    def test_memory_that_is_lost_for_good(self):
+        for workers in (1, 2, 4):
+            for name in ("creates", "uses a block again"):
+                words, text = RUNS[name]
+                with self.subTest(name, workers=workers):
+                    self.assert_out_of_memory(*words, "--workers", str(workers), text=text, may_report=workers > 1,
+                                              for_good=True)
+
     def test_a_strict_checker(self):
         self.assert_out_of_memory(str(self.script), "--module", "async", "--strict")
 
@@ -79,9 +102,6 @@ class RefusedMemory(unittest.TestCase):
 
     def test_a_decision_on_whole_operations(self):
         self.assert_out_of_memory(str(self.script), "--module", "async", "--decide", "--atomic")
-
-    def test_two_workers(self):
-        self.assert_out_of_memory(str(self.script), "--module", "async", "--workers", "2", may_report=True)
 
     def test_a_decision(self):
         self.assert_out_of_memory(str(self.script), "--module", "async", "--decide", "--strict")
@@ -92,11 +112,11 @@ class RefusedMemory(unittest.TestCase):
     def test_a_decision_by_two_workers(self):
         self.assert_out_of_memory(str(self.script), "--module", "async", "--decide", "--workers", "2", may_report=True)
 
-    def test_a_safe_script_before_a_sweep(self):
-        self.assert_out_of_memory(str(self.script), "--limit", "100000", "--summary")
+    def test_a_safe_script_with_the_highest_limit(self):
+        self.assert_out_of_memory(str(self.script), "--limit", "32768", "--explain")
 
-    def test_a_failing_script_before_a_sweep(self):
-        self.assert_out_of_memory(str(self.script), "--module", "async", "--limit", "100000", "--needs")
+    def test_a_failing_script_with_the_highest_limit(self):
+        self.assert_out_of_memory(str(self.script), "--module", "async", "--limit", "32768", "--explain", "--json")
 
     def test_rules_that_are_enough(self):
         self.assert_out_of_memory(str(self.script), "--enough", "--strict")

@@ -6,10 +6,14 @@ import unittest
 from saves import page
 from saves.judge import Crash, crash_of, judge, needed, reference_report, report, waits_of
 from saves.programs import PROGRAMS
+from tests.program import needs_a_proved_program
 
 
-# The name and the ordering of each verdict of the page.
-ASKED = [(f"{it.name}{suffix}.script", module) for it in PROGRAMS for module, suffix in page.COLUMNS.values()]
+# The name and the ordering of each verdict of the page, and of those that say which waits are needed.
+ASKED = list(dict.fromkeys((f"{it.name}{suffix}.script", ordering) for it in PROGRAMS
+                           for ordering, suffixes in page.COLUMNS.values() for suffix in suffixes))
+NEEDS = [(f"{it.name}.script", ordering) for it in PROGRAMS for ordering, suffixes in page.COLUMNS.values()
+         if len(suffixes) == 1]
 
 
 def answers(name, module):
@@ -37,6 +41,7 @@ def needs_are_right(name, module):
 
 
 class Saves(unittest.TestCase):
+    @needs_a_proved_program()
     def test_page(self):
         self.assertGreaterEqual(len(PROGRAMS), 20)
         self.assertEqual(page.PAGE.read_text(), page.page(), "python3 -m saves.page --write")
@@ -48,15 +53,16 @@ class Saves(unittest.TestCase):
                 with self.subTest(one):
                     self.assertEqual(found, wanted)
 
+    @needs_a_proved_program()
     def test_needs(self):
         """The reference judges the scripts without waits as the program says."""
         with concurrent.futures.ProcessPoolExecutor() as pool:
-            for one, is_right in zip(ASKED, pool.map(needs_are_right, *zip(*ASKED))):
+            for one, is_right in zip(NEEDS, pool.map(needs_are_right, *zip(*NEEDS))):
                 with self.subTest(one):
                     self.assertTrue(is_right)
 
     def test_each_script_is_of_a_program(self):
-        names = {f"{it.name}{suffix}.script" for it in PROGRAMS for suffix in ("", ".delay")}
+        names = {f"{it.name}{suffix}.script" for it in PROGRAMS for suffix in page.SUFFIXES.values()}
         self.assertEqual({it.name for it in page.FOLDER.glob("*.script")}, names)
 
     def test_crash(self):

@@ -1,7 +1,7 @@
 """wrong_program.py MODE WORD..: answers as the reference does, or wrongly as the mode says.
 
 right: as the reference. silent: nothing, with status 0. status: another exit status. errors: more on standard error.
-sweep: one digit more in a report of the sweep. workers: one line less in a report by four workers. slow: no answer.
+digit: one digit more in a report. workers: one line less in a report by four workers. slow: no answer.
 It answers `--decide` by the reference's second way.
 """
 
@@ -21,7 +21,7 @@ def spoiled(mode, words, run):
         return run._replace(status=(run.status + 1) % 3)
     if mode == "errors":
         return run._replace(err=run.err + b"warning\n")
-    if mode == "sweep" and "sweep" in words and run.status < 2:
+    if mode == "digit" and run.status < 2:
         return run._replace(out=run.out.replace(b"closed ", b"closed 1").replace(b'"closed":', b'"closed":1'))
     if mode == "workers" and "4" in words and run.status < 2:
         return run._replace(out=run.out[run.out.index(b"\n") + 1:])
