@@ -43,7 +43,7 @@ class TheProgram(unittest.TestCase):
                      for one in results if one.differences]
         self.assertEqual(differing, [])
         self.assertEqual(len(results), CASES)
-        self.assertGreater(sum(one.runs for one in results), 1.8 * CASES)
+        self.assertGreater(sum(one.runs for one in results), 1.5 * CASES)
 
     @needs_a_proved_program()
     def test_decides_big_scripts_as_the_reference(self):
