@@ -15,6 +15,9 @@ GATE = ROOT / ".ci/gate.py"
 # A test that passes, as lines of a class.
 PASSES = "    def test_that_passes(self): pass\n"
 
+# The commands that the suite needs and that are installed where they are missing.
+COMMANDS = ("chromium", "node", "strace", "sqlite3", "xz")
+
 
 class Gate(unittest.TestCase):
     def setUp(self):
@@ -181,23 +184,23 @@ class Install(unittest.TestCase):
         return run.returncode, calls.read_text().splitlines() if calls.exists() else []
 
     def test_all_are_there(self):
-        for name in ("chromium", "node", "strace", "dpkg"):
+        for name in (*COMMANDS, "dpkg"):
             self.have(name)
         self.assertEqual(self.install(), (0, []))
 
     def test_one_is_missing(self):
-        for name in ("node", "strace", "dpkg"):
+        for name in (*COMMANDS[1:], "dpkg"):
             self.have(name)
         self.assertEqual(self.install(), (0, ["update", "install -y --no-install-recommends chromium"]))
 
     def test_a_package_is_missing(self):
-        for name in ("chromium", "node", "strace"):
+        for name in COMMANDS:
             self.have(name)
         self.have("dpkg", "exit 1")
         self.assertEqual(self.install(), (0, ["update", "install -y --no-install-recommends python3-jsonschema"]))
 
     def test_all_are_missing(self):
-        wanted = "chromium nodejs strace python3-jsonschema"
+        wanted = "chromium nodejs strace sqlite3 xz-utils python3-jsonschema"
         self.assertEqual(self.install(), (0, ["update", f"install -y --no-install-recommends {wanted}"]))
 
     def test_they_cannot_be_installed(self):
