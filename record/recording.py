@@ -2,7 +2,7 @@
 
     options = record.command.parse(["--spare", "f", "f~", "--", "vim", "f"])
     observed = observe(options)                           # runs the command
-    recording = observed.recording()                      # the script, and what stands behind its lines
+    recording = observed.recording()                      # the script, and the call that each line comes from
     delayed = observed.recording(delay=True, merge=True)  # another script of the same run
     asked = candidates.with_candidates(recording)         # the script with fsyncs that could be added
 
@@ -54,7 +54,7 @@ class Promise:
 
 @dataclasses.dataclass(frozen=True)
 class Recording:
-    """A script, and what stands behind its lines.
+    """A script, and the calls that its lines come from.
 
     `sizes` are the words of the disk's size for crashmap, `promises` are in the order of their lines, `lines` has those
     that change a file or wait by their numbers, and `merged` the numbers of those that stand for several writes.

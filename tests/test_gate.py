@@ -112,8 +112,8 @@ class Suite(unittest.TestCase):
     """The suite's own last line and status, tried on a copy of run.py with other tests."""
 
     def suite(self, text, *names, **added):
-        """Runs a suite whose only file has a class of these lines, and gives its status and last line. The program that
-        it is told of is a proved one, unless `added` has other variables of the environment."""
+        """Runs a suite whose only file has a class of these lines, and gives its status and last line. The suite
+        takes the program for a proved one, unless `added` sets CRASHMAP_UNPROVED in its environment."""
         folder = tempfile.TemporaryDirectory()
         self.addCleanup(folder.cleanup)
         tests = pathlib.Path(folder.name) / "tests"

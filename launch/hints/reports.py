@@ -1,4 +1,4 @@
-"""What helps a person who reads a report: what had no effect, and what the report leaves out."""
+"""Remarks on a report: rules and options that had no effect, and what the report leaves out."""
 
 import json
 import re
