@@ -7,11 +7,13 @@ import pathlib
 import subprocess
 import sys
 
+from record import Stop
+
 LAUNCHER = pathlib.Path(__file__).resolve().parent.parent / "crashmap"
 NO_ROOM = ("too many patches", "journal full", "no free block")  # Refusals of a script that does too much.
 
 
-class Refused(Exception):
+class Refused(Stop):
     """crashmap refuses a script. The text is what it says."""
 
     def is_no_room(self):

@@ -1,7 +1,6 @@
 """The disk that a crash leaves, and which lines of the script are on it."""
 
-INODE_BLOCK, INODE_BYTES, INODES_IN_BLOCK = 2, 16, 8
-SLOTS_START = 4
+INODE_BLOCK, INODES_IN_BLOCK, INODE_BYTES, SLOTS_START = 2, 8, 16, 4
 ENTRIES_START, ENTRY_BYTES, NAME_START = 8, 12, 2
 # Of an operation under a journal these parts decide whether it is on the disk; replay does the others.
 DATA_PARTS, COMMIT = ("FileData", "NewData"), "Commit"

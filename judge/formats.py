@@ -7,27 +7,22 @@ from xml.etree import ElementTree
 GAP = "  "
 
 
-def cell(outcome, system, paths):
-    """The words for one promise on one file system."""
-    verdict = outcome.verdict(system, paths)
-    return "" if verdict is None else verdict.words() + " (known)" * outcome.is_known(verdict)
-
-
-def heading(paths):
-    return " + ".join(paths)
+def columns_of(outcome):
+    """A column for each promise: its files, and the words for it on each file system."""
+    for paths in outcome.files():
+        found = [outcome.verdict(it, paths) for it in outcome.systems]
+        yield [" + ".join(paths), *(it.words() + " (known)" * outcome.is_known(it) if it else "" for it in found)]
 
 
 def as_text(outcome):
     """A table of file systems and files, in parts that fit on the terminal, and sentences under it."""
-    columns = [[heading(paths), *(cell(outcome, it, paths) for it in outcome.systems)] for paths in outcome.files()]
-    names, lines = ["", *(it.name for it in outcome.systems)], []
+    columns, names, lines = list(columns_of(outcome)), ["", *(it.name for it in outcome.systems)], []
     room = shutil.get_terminal_size().columns - max(map(len, names))
     at_once = max(1, room // max(len(GAP + it) for column in columns for it in column))
     for at in range(0, len(columns), at_once):
         part = [names, *columns[at:at + at_once]]
         widths = [max(map(len, it)) for it in part]
-        lines += [GAP.join(it.ljust(width) for it, width in zip(row, widths)).rstrip() for row in zip(*part)]
-        lines.append("")
+        lines += [GAP.join(it.ljust(width) for it, width in zip(row, widths)).rstrip() for row in zip(*part)] + [""]
     return "\n".join([*lines, *outcome.sentences()]).rstrip("\n") + "\n"
 
 
@@ -46,13 +41,12 @@ def as_json(outcome):
 
 def as_markdown(outcome):
     """A table with a row for each file system, and a list of the sentences."""
-    columns = outcome.files()
-    lines = [f"`{outcome.command}`", "", row(["file system", *(f"`{heading(it)}`" for it in columns)]),
-             "|---" * (len(columns) + 1) + "|"]
-    for system in outcome.systems:
-        cells = [cell(outcome, system, it) for it in columns]
-        lines.append(row([f"{system.name} ({system.title})", *(
-            f"**{it}**" if it.startswith("may ") else it for it in cells)]))
+    heads, *rows = zip(*columns_of(outcome))
+    lines = [f"`{outcome.command}`", "", row(["file system", *(f"`{it}`" for it in heads)]),
+             "|---" * (len(heads) + 1) + "|"]
+    for system, cells in zip(outcome.systems, rows):
+        cells = [f"**{it}**" if it.startswith("may ") else it for it in cells]
+        lines.append(row([f"{system.name} ({system.title})", *cells]))
     return "\n".join([*lines, "", *(f"- {it}" for it in outcome.sentences())]).rstrip("\n") + "\n"
 
 
@@ -66,7 +60,7 @@ def as_junit(outcome):
     for system in outcome.systems:
         suite = ElementTree.SubElement(root, "testsuite", name=system.name)
         for it in [it for it in outcome.verdicts if it.system == system.name]:
-            case = ElementTree.SubElement(suite, "testcase", classname=system.name, name=heading(it.paths))
+            case = ElementTree.SubElement(suite, "testcase", classname=system.name, name=" + ".join(it.paths))
             if it.told:
                 kind = "error" if it.state == "unknown" else "skipped" if outcome.is_known(it) else "failure"
                 ElementTree.SubElement(case, kind, message=f"{it.words()}: {it.told}")

@@ -3,7 +3,9 @@
 import dataclasses
 import json
 
-KEPT, BROKEN, ERROR, NOTHING = 0, 1, 2, 3  # The exit statuses; 3 where nothing is promised.
+from record.command import ERROR
+
+KEPT, BROKEN = 0, 1  # The exit statuses beside the recorder's ERROR and NOTHING.
 # What a crash can leave of a file, the worst first, in a table and in a sentence.
 STATES = {
     "gone": ("may be gone", "is gone"),
@@ -14,7 +16,6 @@ STATES = {
     "unknown": ("not judged", ""),
     "kept": ("old or new", ""),
 }
-NEW_FILE_KEPT = "absent or whole"
 
 
 @dataclasses.dataclass(frozen=True)
@@ -32,7 +33,7 @@ class Verdict:
 
     def words(self):
         """The words of the table."""
-        return NEW_FILE_KEPT if self.state == "kept" and not self.was_there else STATES[self.state][0]
+        return "absent or whole" if self.state == "kept" and not self.was_there else STATES[self.state][0]
 
 
 def worst(states):
@@ -88,8 +89,8 @@ class Outcome:
         for sentence, names in told.items():
             yield f"On {self.on(names)}: {sentence}."
         if self.cure.fsyncs:
-            added = [f"fsync {it.path} behind call {it.cause.number}, {it.cause.text}" for it in self.cure.fsyncs]
-            yield f"What helps on {self.on(self.cure.systems)}: {listed(added)}."
+            added = listed([f"fsync {it.path} behind {it.cause}" for it in self.cure.fsyncs])
+            yield f"What helps on {self.on(self.cure.systems)}: {added}."
         for why, names in self.cure.hopeless.items():
             yield f"No fsync helps on {self.on(list(names))}: {why}."
         yield from self.notes

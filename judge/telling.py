@@ -11,15 +11,11 @@ def state_of(part):
     return {"nothing": "gone", "file": "empty"}.get(part, "torn")
 
 
-def call_words(call):
-    return f"call {call.number}, {call.text}"
-
-
 class Telling:
     """A promise of a recording that a report's fault breaks. `written` has the path by which each call wrote."""
 
     def __init__(self, system, recording, report, promise, written):
-        self.system, self.recording, self.promise, self.written = system, recording, promise, written
+        self.system, self.lines, self.promise, self.written = system, recording.lines, promise, written
         fault = next(it for it in report["faults"] if it["fault_numbers"]["line"] == promise.line)
         self.crash, self.said = Crash(report, fault), report["promises"]
         self.own = next(it for it in self.said if it["line"] == promise.line)
@@ -51,13 +47,9 @@ class Telling:
     def subject(self, state):
         if len(self.parts) == 1:
             return f"{self.promise.paths[0]} {STATES[state][1]}"
-        return listed([f"{name} is {self.age_of(at)}" for at, name in enumerate(self.promise.paths)])
-
-    def age_of(self, at):
-        """What one of several files is."""
-        old, *later = [it[at] for it in self.allowed]
-        part = self.parts[at]
-        return "old" if part == old else "new" if part in later else state_of(part)
+        ages = ["old" if part == old else "new" if part in later else state_of(part)
+                for part, (old, *later) in zip(self.parts, zip(*self.allowed))]
+        return listed([f"{name} is {age}" for name, age in zip(self.promise.paths, ages)])
 
     # The moment.
 
@@ -67,20 +59,22 @@ class Telling:
         call = self.cause(behind)
         if call is None:
             return "before anything is on the disk"
+        if missing is None:
+            return f"behind {call}"
         if missing != behind:
-            before = "" if missing is None else f", before {self.missing_words(missing, call)} on the disk"
-            return f"behind {call_words(call)}{before}"
-        return (f"while only a part of {call_words(call)}, is on the disk" if behind in self.crash.begun_lines()
-                else f"behind {call_words(call)}, before it is on the disk")
+            return f"behind {call}, before {self.missing_words(missing, call)} on the disk"
+        if behind in self.crash.begun_lines():
+            return f"while only a part of {call}, is on the disk"
+        return f"behind {call}, before it is on the disk"
 
     def last_line(self):
         """The line behind which the power fails: the last of which something is on the disk, or before the promise."""
-        return max([0, *self.crash.begun_lines(), *(it for it in self.recording.lines if it < self.promise.line)])
+        return max([0, *self.crash.begun_lines(), *(it for it in self.lines if it < self.promise.line)])
 
     def cause(self, line):
         """The call behind a line, or behind the last line before it that has one."""
-        found = [it for it in self.recording.lines if it <= line]
-        return self.recording.lines[max(found)].causes[0] if found else None
+        found = [it for it in self.lines if it <= line]
+        return self.lines[max(found)].causes[0] if found else None
 
     def missing_line(self):
         """The first line that would mend a file, if it were on the disk."""
@@ -93,17 +87,14 @@ class Telling:
         inode, spares = self.crash.inode_of(path), [it.split(" ")[0] for it in self.own["spares"]]
         parts = ("InodeInit",) if part == "nothing" else ("Ptr", "Touch")
         tests = [lambda line: inode is not None and self.crash.changes(line, inode, *parts),
-                 lambda line: self.words(line)[0] in NAMING and self.words(line)[-1] == path,
-                 lambda line: self.words(line)[0] == "write" and self.words(line)[1] in spares,
-                 lambda line: self.words(line)[-1] in spares]
+                 lambda line: self.lines[line].words()[0] in NAMING and self.lines[line].words()[-1] == path,
+                 lambda line: self.lines[line].words()[0] == "write" and self.lines[line].words()[1] in spares,
+                 lambda line: self.lines[line].words()[-1] in spares]
         return next((line for fits in tests for line in self.crash.missing_lines() if fits(line)), None)
-
-    def words(self, line):
-        return self.recording.lines[line].text.split(" ")
 
     def missing_words(self, line, behind):
         """What is not there yet: the data of a file that a call wrote before, or a call."""
         call = self.cause(line)
-        if self.words(line)[0] in ("write", "overwrite") and call.number < behind.number:
-            return f"the data of {self.written.get(call.number, self.recording.lines[line].paths[0])} are"
-        return f"{call_words(call)}, is"
+        if self.lines[line].words()[0] in ("write", "overwrite") and call.number < behind.number:
+            return f"the data of {self.written.get(call.number, self.lines[line].paths[0])} are"
+        return f"{call}, is"

@@ -1,6 +1,7 @@
 """Places in a script the fsyncs that a program could add, so that `--enough --syncs` says which of them it needs."""
 
 import dataclasses
+import itertools
 
 MOST_WAITS = 64  # As many lines that wait as crashmap asks about.
 
@@ -14,39 +15,23 @@ class Candidate:
     behind: int
 
 
-@dataclasses.dataclass(frozen=True)
-class Asked:
-    """A script with candidates: `candidates` has a `Candidate` for each line that was added, by its number."""
-    script: str
-    candidates: dict
+def with_candidates(recording):
+    """The script of a recording with an fsync behind the calls that change a file, of that file or its directory, and
+    a `Candidate` for each line that was added, by its number.
 
-
-def with_candidates(recording, most=MOST_WAITS, after_each_call=False):
-    """The script of a recording with an fsync behind the calls that change a file, of that file or its directory.
-
-    Of calls that change one file right behind each other only the last one gets a candidate, but for
-    `after_each_call`. The script has at most so many lines that wait. Where there is no room for all candidates, the
-    last ones are left out.
+    Of calls that change one file right behind each other only the last one gets a candidate. Where there is no room
+    for all candidates, the last ones are left out.
     """
+    found, script, candidates = [], [], {}
+    for forced, run in itertools.groupby(recording.lines.items(), key=lambda it: it[1].forced):
+        *_, (number, line) = run
+        found += [Candidate(path, line.causes[-1], number) for path in forced]
+    room = max(0, MOST_WAITS - sum(not it.forced for it in recording.lines.values()))
     script_paths = {real: place for place, real in recording.names.items()}
-    waits = sum(not it.forced for it in recording.lines.values())
-    kept = places_of(recording, after_each_call)[:max(0, most - waits)]
-    script, candidates = [], {}
     for number, text in enumerate(recording.script.split("\n"), 1):
         script.append(text)
-        for it in kept:
+        for it in found[:room]:
             if it.behind == number:
                 script.append(f"fsync {script_paths[it.path]}")
                 candidates[len(script)] = it
-    return Asked("\n".join(script), candidates)
-
-
-def places_of(recording, after_each_call):
-    """The candidates, in the order of the script."""
-    found, items = [], list(recording.lines.items())
-    for (number, line), (_, following) in zip(items, [*items[1:], (None, None)]):
-        is_last = following is None or following.forced != line.forced
-        is_whole = following is None or following.causes[-1] != line.causes[-1]
-        if is_last or (after_each_call and is_whole):
-            found += [Candidate(path, line.causes[-1], number) for path in line.forced]
-    return found
+    return "\n".join(script), candidates

@@ -1,6 +1,7 @@
 """The command line: records a command, and writes the script."""
 
 import argparse
+import contextlib
 import os
 import sys
 
@@ -10,6 +11,7 @@ from record.script import AS_EXT4
 from record.trace import printable
 from record.world import PAGE
 
+PROGRAM = "crashmap-record"
 WRITTEN, ERROR, NOTHING = 0, 2, 3  # The exit statuses; 3 where no promise would be made.
 MOST_NEW = 8
 
@@ -59,46 +61,53 @@ def add_options(parser):
     add("command", nargs=argparse.REMAINDER, metavar="-- COMMAND ..")
 
 
-def check_options(parser, options):
-    """Takes the dashes off the command, and refuses options that do not go together."""
+def parser_of(program, does):
+    """The parser of a program that records a command, and does this with it."""
+    return argparse.ArgumentParser(prog=program, allow_abbrev=False,
+                                   description=f"Runs COMMAND in the current directory, and {does}")
+
+
+def options_of(parser, words):
+    """The options, with COMMAND as `command` without its dashes. Refuses those that do not go together."""
+    add_options(parser)
+    options = parser.parse_args(words)
     options.command = options.command[1:] if options.command[:1] == ["--"] else options.command
     if not options.command:
         parser.error("there is no COMMAND")
     if options.together and (options.each_close or options.each_fsync or options.in_order):
         parser.error("--together goes with none of --each-close, --each-fsync and --in-order")
-
-
-def parse(words):
-    """The options, with COMMAND as `command`."""
-    parser = argparse.ArgumentParser(prog="crashmap-record", allow_abbrev=False, description=(
-        "Runs COMMAND in the current directory, and writes a script for crashmap of what it does to the files there. "
-        "docs/RECORDING.md says more."))
-    add_options(parser)
-    options = parser.parse_args(words)
-    check_options(parser, options)
     return options
 
 
-def say(text):
+def parse(words):
+    """The options of the recorder."""
+    return options_of(parser_of(PROGRAM, "writes a script for crashmap of what it does to the files there. "
+                                         "docs/RECORDING.md says more."), words)
+
+
+def say(text, program=PROGRAM):
     for line in text.splitlines():
-        print(f"crashmap-record: {line}", file=sys.stderr)
+        print(f"{program}: {line}", file=sys.stderr)
+
+
+def run(program, options, work):
+    """Records the command, and writes the text that `work` makes of that, or says what is in the way. Gives the exit
+    status."""
+    try:
+        observed = observe(options)
+        say("\n".join(observed.warnings), program)
+        text, status = work(observed)
+        with contextlib.suppress(BrokenPipeError):  # The reader may stop.
+            with open(options.output or 1, "wb", closefd=options.output is not None) as output:
+                output.write(text.encode("utf-8", "backslashreplace"))
+        return status
+    except Stop as stop:
+        say(str(stop), program)
+        return NOTHING if isinstance(stop, NothingPromised) else ERROR
+    except OSError as error:
+        say(f"{printable(str(error.filename or options.output or 'standard output'))}: {error.strerror}", program)
+        return ERROR
 
 
 def main(words):
-    options = parse(words)
-    try:
-        observed = observe(options)
-        for warning in observed.warnings:
-            say(warning)
-        text = observed.recording().script
-        with open(options.output or 1, "wb", closefd=options.output is not None) as output:
-            output.write(text.encode("utf-8", "backslashreplace"))
-        return WRITTEN
-    except BrokenPipeError:
-        return WRITTEN  # The reader of the script has stopped.
-    except Stop as stop:
-        say(str(stop))
-        return NOTHING if isinstance(stop, NothingPromised) else ERROR
-    except OSError as error:
-        say(f"{printable(str(error.filename or options.output or 'standard output'))}: {error.strerror}")
-        return ERROR
+    return run(PROGRAM, parse(words), lambda observed: (observed.recording().script, WRITTEN))

@@ -11,10 +11,9 @@ TOGETHER = 4  # The most files of one line `keep`.
 
 @dataclasses.dataclass
 class Chosen:
-    """`held` are the files that a promise is made of, `pairs` a file and what stands in for it, `moved` the same where
-    a file has another name in the end. `left_out` says of which files no promise is made, and why."""
+    """`held` are the files that a promise is made of, and `moved` those with another name in the end, each with that
+    name. `left_out` says of which files no promise is made, and why."""
     held: list
-    pairs: list
     moved: list
     left_out: list
 
@@ -37,13 +36,13 @@ def choose(world, first, options):
     moved = [(path, to[0]) for path in gone if path not in stood_for
              for to in [[it for it in first[path].names if first.get(it) is not first[path]]] if to]
     if asked is not None:
-        return Chosen(asked, options.spare, moved, [])
+        return Chosen(asked, moved, [])
     deleted = [path for path in gone if path not in stood_for and path not in dict(moved)]
     left_out = [f"{printable(it)}, which is deleted (--spare names what stands in for it)" for it in deleted]
     if len(new) > options.most_new:
         left_out.append(f"the {len(new)} files that are new, since they are more than --most-new {options.most_new}")
         new = [it for it in new if it in stood_for]
-    return Chosen([it for it in changed if it not in deleted] + new, options.spare, moved, left_out)
+    return Chosen([it for it in changed if it not in deleted] + new, moved, left_out)
 
 
 class Promises:
@@ -51,15 +50,15 @@ class Promises:
 
     `pending` has what shall stand in for what as soon as it is written, `told` what stands in for each file since the
     last promise of it, and `since` what the file held there. `acknowledged` has the version of each file that a close
-    or an fsync told the command of, `counted` the pairs that came to count, and `why` what the others lack.
+    or an fsync told the command of, and `why` what the pairs lack that never came to count.
     """
 
     def __init__(self, script, chosen, options):
         self.script, self.chosen, self.options = script, chosen, options
         self.each = options.each_close or options.each_fsync
         self.pending, self.told, self.since = {}, collections.defaultdict(set), {}
-        self.acknowledged, self.sources = {node: 0 for node in script.first.values()}, []
-        self.why, self.counted = {pair: "the command does not change {0}" for pair in chosen.pairs}, set()
+        self.acknowledged = {node: 0 for node in script.first.values()}
+        self.why = dict.fromkeys(options.spare, "the command does not change {0}")
 
     def begin(self):
         """The lines in front of the operations."""
@@ -85,41 +84,43 @@ class Promises:
 
     def before(self, event):
         """A backup or a journal counts with what it holds when the file is about to be changed."""
-        kind, names = event.kind, self.script.names_of(event.node)
-        self.sources = names if kind in ("rename", "replace", "link") else ()
-        contents = names if kind in ("block", "truncate") else ()
-        changed = event.paths if kind in ("create", "unlink", "rename", "replace") else event.paths[kind == "link":]
-        for path, other in self.chosen.pairs if kind not in ("fsync", "sync") else ():
+        contents = self.script.names_of(event.node) if event.kind in ("block", "truncate") else ()
+        changed = event.paths[1:] if event.kind == "link" else event.paths
+        for path, other in self.options.spare if event.kind not in ("fsync", "sync") else ():
             if path in contents or path in changed:
-                self.why[path, other] = self.unfit(path, other, path in contents)
-                if not self.why[path, other]:
+                why = self.unfit(path, other, path in contents)
+                if not why:
                     self.stand_in(path, other)
+                elif (path, other) in self.why:
+                    self.why[path, other] = why
         self.write_down()
 
     def unfit(self, path, other, is_content):
         """Why a file cannot stand in for one that is about to be changed, or an empty text."""
-        state, first = self.script.state(other), self.script.first.get(other)
+        script = self.script
+        state, was = script.state(other), script.first.get(path)
         if state is None:
             return "there is no {1} when {0} is changed"
-        if is_content and state[0] is self.script.at.get(path):
+        node, _ = state
+        if is_content and node is script.at.get(path):
             return "{0} and {1} are one file"
-        if state == (first, 0) and first is not self.script.first.get(path):
+        if state == (script.first.get(other), 0) and node is not was:
             return "the command does not change {1} before {0}"
-        was = self.script.first.get(path)
-        if not self.script.has[state[0]] and not self.script.waiting[state[0]] and not (was and was.first_size == 0):
-            return "{1} is empty when {0} is changed"
-        return ""
+        is_empty = not script.blocks(node) and not script.waiting[node]
+        return "{1} is empty when {0} is changed" if is_empty and (was is None or was.first_size > 0) else ""
 
     def stand_in(self, path, other):
         """It counts, though with delayed blocks it may never be on the disk."""
-        self.counted.add((path, other))
+        self.why.pop((path, other), None)
         self.pending[path, other] = self.script.state(other)
 
     def behind(self, event):
         """A rename or a link gives a file another name, and a close or an fsync acknowledges what it holds."""
-        for path, other in self.chosen.pairs + self.chosen.moved:
-            if path in self.sources and other == event.paths[1]:
-                self.stand_in(path, other)
+        if event.kind in ("rename", "replace", "link"):
+            names_before = {event.paths[0], *self.script.names_of(event.node)} - {event.paths[1]}
+            for path, other in self.options.spare + self.chosen.moved:
+                if path in names_before and other == event.paths[1]:
+                    self.stand_in(path, other)
         if self.each:
             self.acknowledge(event)
         self.write_down()
@@ -141,8 +142,7 @@ class Promises:
 
     def is_acknowledged(self, path):
         """Whether a close or an fsync told the command of what the path holds."""
-        state = self.script.state(path)
-        return state is not None and self.acknowledged.get(state[0]) == state[1]
+        return self.script.state(path) in self.acknowledged.items()
 
     def hold_again(self, event):
         """After an fsync of a file, or of the directory that has its name, it holds nothing older."""
@@ -179,8 +179,8 @@ class Promises:
 
     def check(self):
         """Refuses what was to stand in, and never did."""
-        for path, other in self.chosen.pairs:
-            why = "" if (path, other) in self.counted else self.why[path, other]
+        for path, other in self.options.spare:
+            why = self.why.get((path, other))
             if path not in self.chosen.held:
                 why = "no promise is made of {0}" if self.options.keep or self.options.in_order else (
                     "the command does not change {0}")

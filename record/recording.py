@@ -4,7 +4,7 @@
     observed = observe(options)                           # runs the command
     recording = observed.recording()                      # the script, and the call that each line comes from
     delayed = observed.recording(delay=True, merge=True)  # another script of the same run
-    asked = candidates.with_candidates(recording)         # the script with fsyncs that could be added
+    script, added = candidates.with_candidates(recording) # the script with fsyncs that could be added, and these
 
 `observe` and `recording` raise `Stop` where there is no script, and `NothingPromised` where it would have no promise.
 All paths of files are relative to the directory, and all lines are counted from 1.
@@ -18,15 +18,14 @@ import shlex
 import shutil
 import tempfile
 
-from record import NothingPromised, Stop, calls, trace
+from record import NothingPromised, Stop, trace
+from record.calls import Calls
 from record.merging import merged
 from record.promises import Promises, choose
-from record.script import AS_EXT4, BLOCKS, JOURNAL, Script
+from record.script import AS_EXT4, SIZES, Script
 from record.trace import printable
 from record.tree import difference, snapshot
-from record.world import Event, World
-
-SIZES = ("--blocks", str(BLOCKS), "--journal", str(JOURNAL))
+from record.world import Event
 
 
 @dataclasses.dataclass(frozen=True)
@@ -56,19 +55,13 @@ class Promise:
 class Recording:
     """A script, and the calls that its lines come from.
 
-    `sizes` are the words of the disk's size for crashmap, `promises` are in the order of their lines, `lines` has those
-    that change a file or wait by their numbers, and `merged` the numbers of those that stand for several writes.
-    `names` has the real path for each path of the script. `comments` are the notes on what the script leaves out,
-    and `lossy` those on what comes nearest.
+    `promises` are in the order of their lines, and `lines` has those that change a file or wait by their numbers.
+    `names` has the real path for each path of the script.
     """
     script: str
-    sizes: tuple
     promises: tuple
     lines: dict
-    merged: tuple
     names: dict
-    comments: tuple
-    lossy: tuple
 
 
 def below(top, path):
@@ -96,9 +89,9 @@ def observe(options: argparse.Namespace) -> "Observed":
                                        for pairs in (options.spare, options.in_order))
     if shutil.which(options.command[0]) is None:
         raise Stop(f"there is no command {printable(options.command[0])}")
-    world = World(top, snapshot(top, options.block), options)
+    world = Calls(top, snapshot(top, options.block), options)
     with tempfile.NamedTemporaryFile("r", prefix="crashmap-record-", encoding="latin-1") as written:
-        status = trace.run(options.command, calls.HANDLERS, written.name, options.output is not None)
+        status = trace.run(options.command, Calls.HANDLERS, written.name, options.output is not None)
         lines = written.readlines()
     if not lines:
         raise Stop("strace could not trace the command")
@@ -118,8 +111,7 @@ class Observed:
     def __init__(self, world, options, status, lines):
         self.world, self.options, self.status = world, options, status
         self.first = dict(world.nodes)
-        calls.follow(world, list(trace.read(lines)), options.command)
-        calls.tell_of_overlaps(world)
+        world.follow(list(trace.read(lines)), options.command)
         self.warnings = (ended(status),) if status else ()
         self.warnings += tuple(f"{printable(it)} is outside the directory, and is changed or renamed: the script does "
                                "not have it" for it in world.outside.changed)
@@ -146,21 +138,20 @@ class Observed:
 
     def written(self, events, chosen, options, more):
         """The script, where a block is written over as often as `more` says."""
-        watched = {*chosen.held, *(it for pair in chosen.pairs + chosen.moved + options.in_order for it in pair)}
+        watched = {*chosen.held, *(it for pair in options.spare + chosen.moved + options.in_order for it in pair)}
         script = Script(self.world, self.first, options, watched, more)
         promises = Promises(script, chosen, options)
         script.base()
-        script.start()
         promises.begin()
-        last = {call.first: key for key, it in enumerate(events) if it.call for call in (it.call, *it.merged)}
-        for key, event in enumerate(events):
+        last = {call.first: event for event in events for call in event.calls()}
+        for event in events:
             promises.before(event)
-            script.take(event, key)
+            script.take(event)
             promises.behind(event)
-            for path in [path for number, path in options.fsyncs if last.get(number) == key]:
-                at = "" if path == "." else path
-                script.take(Event("fsync", event.call, script.at[at], (at,)), key)
-                promises.write_down()
+            for path in ["" if it == "." else it for number, it in options.fsyncs if last.get(number) is event]:
+                if path in script.at:  # A call of several lines can take the name away.
+                    script.take(Event("fsync", event.call, script.at[path], (path,)))
+                    promises.write_down()
         script.flush(list(script.waiting))
         if not any(it.causes for it in script.lines):
             raise NothingPromised("the command changed nothing in this directory")
@@ -173,15 +164,13 @@ class Observed:
 
     def recorded(self, script, chosen, options):
         """The recording of a script."""
-        head, comments = tuple(self.head(script, options)), tuple(self.comments(script, chosen))
+        head = list(self.head(script, options))
         lines = dict(enumerate(script.lines, len(head) + 1))
         return Recording(
-            script="\n".join([*head, *(it.text for it in script.lines), *comments]) + "\n", sizes=SIZES,
+            script="\n".join([*head, *(it.text for it in script.lines), *self.comments(script, chosen)]) + "\n",
             promises=tuple(self.promise(number, it, lines) for number, it in lines.items() if it.promise),
             lines={number: it for number, it in lines.items() if it.causes},
-            merged=tuple(number for number, it in lines.items() if it.writes > 1),
-            names={"/": ".", **{script.names.path(real): real for real in script.names.parts}}, comments=comments,
-            lossy=tuple(it.text for it in script.lines if it.text.startswith("# lossy: ")))
+            names={"/": ".", **{script.names.path(real): real for real in script.names.parts}})
 
     def promise(self, number, line, lines):
         """The promise of a line, with the spares behind it that are about its one file."""

@@ -15,6 +15,7 @@ LINE = re.compile(r"(\d+)\s+(.*)", re.DOTALL)
 RESUMED = re.compile(r"<\.\.\. \w+ resumed>(.*)", re.DOTALL)
 RESULT = re.compile(r"\s*=\s*(0x[0-9a-f]+|-?\d+)(?:<([^>]*)>)?")
 DESCRIPTOR = re.compile(r"(-?\d+|AT_FDCWD)(?:<([^>]*)>(\(deleted\))?)?")
+TOKEN = re.compile(r'"[^"]*"|<[\\/][^>]*>|/\*.*?\*/|.', re.DOTALL)  # A text, a path, a comment, or one letter.
 UNFINISHED = " <unfinished ...>"
 SHOWN = 160  # The most characters of a call that a message shows.
 
@@ -87,22 +88,14 @@ def descriptor_of(argument):
 
 def arguments_of(text):
     """The arguments in the text behind the opening parenthesis, and what follows the closing one."""
-    found, depth, begin, at = [], 0, 0, 0
-    while at < len(text):
-        letter = text[at]
-        if letter == '"':
-            at = text.index('"', at + 1)
-        elif letter == "<" and text[at + 1:at + 2] in ("\\", "/"):
-            at = text.index(">", at + 1)
-        elif text.startswith("/*", at):
-            at = text.index("*/", at) + 1
-        depth += (letter in "([{") - (letter in ")]}")
-        if depth < 0 or (letter == "," and depth == 0):
-            found.append(text[begin:at].strip())
-            begin = at + 1
+    found, depth, begin = [], 0, 0
+    for token in TOKEN.finditer(text):
+        depth += (token[0] in "([{") - (token[0] in ")]}")
+        if depth < 0 or (token[0] == "," and depth == 0):
+            found.append(text[begin:token.start()].strip())
+            begin = token.end()
         if depth < 0:
             return [it for it in found if it], text[begin:]
-        at += 1
     raise ValueError(text)
 
 

@@ -1,13 +1,15 @@
 """What the calls do to the files: the tree as it goes on, and the events that become lines of the script."""
 
+import collections
 import dataclasses
 import fnmatch
+import itertools
 import os
 import re
 
 from record import Stop
 from record.names import above
-from record.trace import Call, descriptor_of, printable
+from record.trace import Call, descriptor_of, printable, string_of
 from record.tree import Node
 
 PAGE = 4096  # The bytes of which a crash leaves all or none.
@@ -34,7 +36,6 @@ class Process:
     program: str
     place: list
     slots: dict
-    has_ended: bool = False
 
 
 @dataclasses.dataclass(eq=False)
@@ -55,6 +56,10 @@ class Event:
     pages: int = 1
     writes: int = 1
     merged: tuple = ()
+
+    def calls(self):
+        """The calls that it comes from, each once."""
+        return [it for it in dict.fromkeys((self.call, *self.merged)) if it is not None]
 
 
 class Outside:
@@ -78,20 +83,15 @@ class Outside:
         if flags & {"O_TRUNC", "O_EXCL"}:
             self.note(path)
 
-    def write(self, path):
-        """A call changes the contents of the file by a descriptor. Those that the command did not open are not its
-        own."""
-        if path in self.made:
-            self.note(path)
-
 
 class World:
-    """The files below `top` and the processes, as the calls so far leave them."""
+    """The files below `top` and the processes, as the calls so far leave them. `call` is the one that is followed, and
+    `process` the one that made it."""
 
     def __init__(self, top, nodes, options):
         self.top, self.nodes, self.options = top, nodes, options
-        self.events, self.faults, self.ignored = [], [], {}
-        self.processes, self.process, self.mappings = {}, None, []
+        self.events, self.faults, self.ignored = [], [], collections.Counter()
+        self.processes, self.mappings, self.call, self.process = {}, [], None, None
         self.outside = Outside()
 
     # Telling.
@@ -101,35 +101,39 @@ class World:
         process = self.processes.get(call.process)
         return f"call {call.first}, by {printable(process.program) if process else 'a process'}: {call.shown()}"
 
-    def cannot(self, call, what, nearest, node=None):
+    def cannot(self, what, nearest, node=None):
         """Reports what the model cannot say, once for each node. With --lossy it becomes a comment."""
-        if node is not None and (what in node.told or (node.names and all(map(self.pattern_of, node.names)))):
-            return
         if node is not None:
+            if what in node.told or (node.names and all(map(self.pattern_of, node.names))):
+                return
             node.told.add(what)
+        told = f"{self.where(self.call)}: {what}"
         if self.options.lossy:
-            self.events.append(Event("comment", text=f"lossy: {self.where(call)}: {what}; in its place: {nearest}"))
+            self.events.append(Event("comment", text=f"lossy: {told}; in its place: {nearest}"))
         else:
-            self.faults.append(f"{self.where(call)}: {what} (--lossy: {nearest})")
+            self.faults.append(f"{told} (--lossy: {nearest})")
 
-    def lost(self, call, what):
-        raise Stop(f"lost track at {self.where(call)}: {what}")
+    def lost(self, what):
+        raise Stop(f"lost track at {self.where(self.call)}: {what}")
 
     def pattern_of(self, path):
         """The pattern of --ignore that names a file or a directory above it, or None."""
         return next((pattern for pattern in self.options.ignore
                      if any(fnmatch.fnmatchcase(it, pattern) for it in above(path))), None)
 
-    def emit(self, kind, call, node=None, paths=(), **more):
-        """Adds an event, but for files that --ignore names."""
+    def emit(self, kind, node=None, *paths, **more):
+        """Adds an event, but for files that --ignore names, and those without a name, whose path is None: no crash can
+        show them."""
+        if None in paths:
+            return
         patterns = [self.pattern_of(path) for path in paths]
         found = next(filter(None, patterns), None)
         if found and not all(patterns):
-            self.cannot(call, "--ignore names one of the two paths", "nothing")
+            self.cannot("--ignore names one of the two paths", "nothing")
         if found:
-            self.ignored[found] = self.ignored.get(found, 0) + 1
+            self.ignored[found] += 1
         else:
-            self.events.append(Event(kind, call, node, tuple(paths), **more))
+            self.events.append(Event(kind, self.call, node, paths, **more))
 
     # Paths.
 
@@ -152,9 +156,9 @@ class World:
     def real(self, argument, path, follows):
         """The absolute path that a call means, with no link on its way. A link at its end counts where it is followed.
 
-        `argument` is the call's descriptor of a directory, or None.
+        `argument` is the call's descriptor of a directory, and `path` its path, in quotes.
         """
-        number, known = descriptor_of(argument) if argument else (None, None)
+        path, (number, known) = string_of(path), descriptor_of(argument)
         if number is None and known is not None:
             self.process.place[0] = known
         place, todo, links = "/" if path.startswith("/") else known or self.process.place[0], path.split("/"), 0
@@ -178,39 +182,41 @@ class World:
             self.outside.note(place)
         return self.inside(place)
 
-    def must(self, call, path):
+    def must(self, path):
         """The node at a path, which must be there."""
-        return self.nodes.get(path) or self.lost(call, "no call that was followed made this file")
+        return self.nodes.get(path) or self.lost("no call that was followed made this file")
 
     def name_of(self, opened):
         """The path that an open file was opened by where that still stands, or another of its paths, or None."""
-        if self.nodes.get(opened.path) is opened.node:
-            return opened.path
-        return opened.node.names[0] if opened.node.names else None
+        names = opened.node.names
+        return opened.path if opened.path in names else next(iter(names), None)
 
     # Descriptors.
 
-    def opened(self, call, argument):
-        """The open file below the directory that a descriptor names, compared with what the kernel has; else None."""
+    def opened(self, argument, changes=False):
+        """The open file below the directory that a descriptor names, compared with what the kernel has; else None.
+        Outside, a call that `changes` it is noted."""
         number, path = descriptor_of(argument)
         within = None if path is None else self.inside(path)
-        if number not in self.process.slots:
-            if within in self.nodes and self.nodes[within].kind == "file":
-                self.lost(call, "this descriptor was open before the recording, or another process handed it over")
-            return None
-        opened = self.process.slots[number][0]
-        if path is not None and opened.node.names and within not in opened.node.names and "(deleted)" not in argument:
-            self.lost(call, f"the descriptor is taken for {printable(' '.join(opened.node.names))}")
+        opened, _ = self.process.slots.get(number, (None, None))
+        names = opened.node.names if opened else []
+        if names and path is not None and within not in names and "(deleted)" not in argument:
+            self.lost(f"the descriptor is taken for {printable(' '.join(names))}")
+        if opened is None and within in self.nodes and self.nodes[within].kind == "file":
+            self.lost("this descriptor was open before the recording, or another process handed it over")
+        if opened is None and changes and path in self.outside.made:  # What the command did not open is not its own.
+            self.outside.note(path)
         return opened
 
-    def close(self, number, call):
-        """Closes a descriptor. Where no process has the open file any more, nobody can write by it."""
-        opened, _ = self.process.slots.pop(number, (None, None))
-        if opened and opened.may_write() and not any(
-                slot[0] is opened for it in self.processes.values() if not it.has_ended for slot in it.slots.values()):
-            self.events.append(Event("closed", call, opened.node))
-            if opened.node.made_up in opened.node.names:
-                self.remove(call, opened.node.made_up)
+    def drop(self, numbers):
+        """Closes descriptors. Where no process has an open file any more, nobody can write by it."""
+        for number in list(numbers):
+            opened, _ = self.process.slots.pop(number, (None, None))
+            if opened and opened.may_write() and not any(
+                    other is opened for it in self.processes.values() for other, _ in it.slots.values()):
+                self.emit("closed", opened.node)
+                if opened.node.made_up in opened.node.names:
+                    self.remove(opened.node.made_up)
 
     # Names.
 
@@ -223,115 +229,115 @@ class World:
         node.names.remove(path)
         return node
 
-    def make(self, call, kind, path, word="create"):
+    def make(self, kind, path):
         """A new node of this kind at the path."""
         if path in self.nodes:
-            self.lost(call, "a call that was followed made it before")
+            self.lost("a call that was followed made it before")
         node = Node(kind)
         self.enter(path, node)
         if kind in ("link", "other"):
             what = "a symbolic link" if kind == "link" else "a pipe, a socket or a device"
-            self.cannot(call, f"the model has no such file: {what}", "an empty file", node)
-        self.emit(word, call, node, [path])
+            self.cannot(f"the model has no such file: {what}", "an empty file", node)
+        self.emit("mkdir" if kind == "directory" else "create", node, path)
         return node
 
-    def remove(self, call, path):
-        node = self.must(call, path)
-        self.leave(path)
-        self.emit("rmdir" if node.kind == "directory" else "unlink", call, node, [path])
+    def make_up(self, directory, label):
+        """A new file with a name of the recorder's own in that directory, which no promise is about."""
+        names = (os.path.join(directory, f".{label}-{number}") for number in itertools.count(1))
+        path = next(it for it in names if it not in self.nodes)
+        node = self.make("file", path)
+        node.made_up = path
+        return node
 
-    def rename(self, call, source, target, flags):
-        node, there = self.must(call, source), self.nodes.get(target)
-        if "RENAME_EXCHANGE" in flags:
-            self.cannot(call, "the model cannot exchange two names in one step", "three renames, one after the other")
+    def remove(self, path):
+        node = self.must(path)
+        self.leave(path)
+        self.emit("rmdir" if node.kind == "directory" else "unlink", node, path)
+
+    def move(self, source, target, is_exchange=False):
+        """A path gets another name, which another file may have."""
+        node, there = self.must(source), self.nodes.get(target)
+        if is_exchange:
+            self.cannot("the model cannot exchange two names in one step", "three renames, one after the other")
             for one, other in ((source, source + "-aside"), (target, source), (source + "-aside", target)):
-                self.rename(call, one, other, "")
+                self.move(one, other)
         elif node.kind == "directory":
             if there:
-                self.remove(call, target)
-            self.rename_directory(call, source, target)
+                self.remove(target)
+            self.move_directory(source, target)
         elif node is not there:
             if there:
                 self.leave(target)
             self.enter(target, self.leave(source))
-            self.emit("replace" if there else "rename", call, node, [source, target], other=there)
+            self.emit("replace" if there else "rename", node, source, target, other=there)
 
-    def rename_directory(self, call, source, target):
+    def move_directory(self, source, target):
         """What comes nearest to the rename of a directory: a new one, and each of its names moved there."""
         node = self.leave(source)
-        self.cannot(call, "the model cannot rename a directory", "a new directory, and a rename of each of its names")
+        self.cannot("the model cannot rename a directory", "a new directory, and a rename of each of its names")
         self.enter(target, node)
-        self.emit("mkdir", call, node, [target])
+        self.emit("mkdir", node, target)
         for path in sorted(it for it in self.nodes if it and os.path.dirname(it) == source):
-            self.rename(call, path, os.path.join(target, os.path.basename(path)), "")
-        self.emit("rmdir", call, node, [source])
+            self.move(path, os.path.join(target, os.path.basename(path)))
+        self.emit("rmdir", node, source)
 
-    def make_up(self, call, directory, label):
-        """A new file with a name of the recorder's own in that directory, which no promise is about."""
-        node, number = Node("file"), 1
-        while os.path.join(directory, f".{label}-{number}") in self.nodes:
-            number += 1
-        node.made_up = os.path.join(directory, f".{label}-{number}")
-        self.enter(node.made_up, node)
-        self.emit("create", call, node, [node.made_up])
-        return node
-
-    def come(self, call, source, target):
+    def come(self, source, target):
         """A file comes from a place outside the directory."""
         self.outside.note(source, is_renamed=True)
-        self.cannot(call, "a file comes from outside the directory", "a new file that is written, and then renamed")
-        node = self.make_up(call, os.path.dirname(target), "outside")
+        self.cannot("a file comes from outside the directory", "a new file that is written, and then renamed")
+        node, here = self.make_up(os.path.dirname(target), "outside"), os.path.join(self.top, target)
         node.told.add("size")
-        here = os.path.join(self.top, target)
         size = os.path.getsize(here) if os.path.isfile(here) else 0
-        self.wrote(call, Opened(node, node.made_up, set()), 0, size or 1)
-        self.rename(call, node.made_up, target, "")
+        self.wrote(Opened(node, node.made_up, set()), 0, size or 1)
+        self.move(node.made_up, target)
 
     # Contents.
 
-    def wrote(self, call, opened, offset, count):
+    def blocks(self, size):
+        """How many blocks so many bytes take."""
+        return -(-size // self.options.block)
+
+    def wrote(self, opened, offset, count):
         """A call wrote so many bytes behind the offset."""
         node, size = opened.node, self.options.block
         if count <= 0 or node.kind != "file":
             return
-        first, last, had = offset // size, (offset + count - 1) // size, -(-node.size // size)
+        first, last, had = offset // size, (offset + count - 1) // size, self.blocks(node.size)
         if first > had:
-            self.cannot(call, "a file with a hole", "the blocks of the hole are written, too", node)
+            self.cannot("a file with a hole", "the blocks of the hole are written, too", node)
         node.written.update(range(min(first, node.size // size), last + 1))
         node.size = max(node.size, offset + count)
-        self.touch(call, opened, range(min(first, had), last + 1), (offset, offset + count))
+        self.touch(opened, range(min(first, had), last + 1), (offset, offset + count))
         if opened.flags & {"O_SYNC", "O_DSYNC"}:
-            self.fsync(call, opened)
+            self.fsync(opened)
 
-    def touch(self, call, opened, blocks, between=(0, 0)):
+    def touch(self, opened, blocks, between=(0, 0)):
         """An event for each of these blocks, of which the bytes in between are written: a crash can come between two
-        pages. A file without a name has none, since no crash can show it."""
+        pages."""
         path, size = self.name_of(opened), self.options.block
         if path is not None and blocks and blocks[-1] >= SLOTS:
-            self.cannot(call, f"a file of more than {SLOTS} blocks of {size} bytes (--block takes larger ones)",
+            self.cannot(f"a file of more than {SLOTS} blocks of {size} bytes (--block takes larger ones)",
                         "the blocks behind the fourth are left out", opened.node)
-        for block in blocks[:max(0, SLOTS - blocks.start)] if path is not None else ():
+        for block in blocks[:max(0, SLOTS - blocks.start)]:
             first, last = max(between[0], block * size) // PAGE, (min(between[1], (block + 1) * size) - 1) // PAGE
-            self.emit("block", call, opened.node, [path], slot=block, pages=max(1, last + 1 - first))
+            self.emit("block", opened.node, path, slot=block, pages=max(1, last + 1 - first))
 
-    def resize(self, call, opened, length):
+    def resize(self, opened, length):
         """A call sets the length of a file. New blocks read as zeros."""
-        node, size, before, path = opened.node, self.options.block, opened.node.size, self.name_of(opened)
-        had, has = -(-before // size), -(-length // size)
+        node, before, path = opened.node, opened.node.size, self.name_of(opened)
+        had, has = self.blocks(before), self.blocks(length)
         if node.kind != "file" or length == before:
             return
         node.size = length
         node.written.update(range(min(had, has) - 1, max(had, has)))
-        if length == 0 and path is not None:
-            self.emit("truncate", call, node, [path])
-        elif path is not None:
-            if has < had:
-                self.cannot(call, f"a file of {before} bytes is cut to {length}, and loses blocks: the model cuts files"
-                            " to nothing alone", "the last block that it keeps is written over", node)
-            # Where no block is new the last one has another end.
-            self.touch(call, opened, range(had, has) if has > had else range(has - 1, has))
+        if length == 0:
+            self.emit("truncate", node, path)
+            return
+        if has < had and path is not None:
+            self.cannot(f"a file of {before} bytes is cut to {length}, and loses blocks: the model cuts files to "
+                        "nothing alone", "the last block that it keeps is written over", node)
+        # Where no block is new the last one has another end.
+        self.touch(opened, range(min(had, has - 1), has))
 
-    def fsync(self, call, opened):
-        path = self.name_of(opened)
-        if path is not None:
-            self.emit("fsync", call, opened.node, [path])
+    def fsync(self, opened):
+        self.emit("fsync", opened.node, self.name_of(opened))

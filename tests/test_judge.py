@@ -11,9 +11,10 @@ from xml.etree import ElementTree
 from judge.asking import Asker, Refused
 from judge.cures import smallest_meeting
 from judge.formats import FORMATS
-from judge.outcome import BROKEN, ERROR, KEPT, NOTHING, Cure, Outcome, Verdict, baseline
+from judge.outcome import BROKEN, KEPT, Cure, Outcome, Verdict, baseline
 from judge.systems import systems
 from judge.telling import Telling
+from record.command import ERROR, NOTHING
 from record.recording import Promise
 from record.script import Cause, Line
 from tests.program import ROOT, program
@@ -64,7 +65,7 @@ class Systems(unittest.TestCase):
 def outcome(known=frozenset()):
     """An outcome with a broken promise on one file system, and one that was not judged."""
     chosen = tuple(systems()[it] for it in ("ffs", "ext3", "journal"))
-    fsync = types.SimpleNamespace(path="g", cause=types.SimpleNamespace(number=2, text='write("g", 3)'))
+    fsync = types.SimpleNamespace(path="g", cause=Cause(2, 'write("g", 3)'))
     verdicts = (Verdict("ffs", ("f",), "empty", told="f is empty"), Verdict("ffs", ("n|m",), "kept", False),
                 Verdict("ext3", ("f",), "kept"), Verdict("ext3", ("n|m",), "kept", False),
                 Verdict("journal", ("f",), "unknown", told="no room"), Verdict("journal", ("n|m",), "kept", False))
@@ -235,6 +236,13 @@ class Judged(Recording):
         self.assertEqual(found["words"], {"e f": ["may be torn"]})
         self.assertRegex(found["sentences"][0], r"e is new and f is old if the power fails behind call \d+, .*, before "
                          r'call \d+, write\("f", 4\), is on the disk')
+
+    def test_a_directory_that_is_renamed(self):
+        """It becomes several lines of one call, and behind that there is nothing of the old name to force."""
+        (self.folder / "d").mkdir()
+        (self.folder / "d/g").write_text("old\n")
+        found = self.found("--on", "ffs", "--lossy", "--", "mv", "d", "e")
+        self.assertEqual(found["words"], {"d/g": ["may be gone"], "e/g": ["absent or whole"]})
 
     def test_in_order(self):
         """Where data may be written in any order, an fsync of the first file helps."""

@@ -149,16 +149,17 @@ from record.command import parse
 from record.recording import observe
 observed = observe(parse(sys.argv[1:]))
 recording = observed.recording()
-asked = with_candidates(recording)
+asked, candidates = with_candidates(recording)
 delayed = observed.recording(delay=True, fsyncs=[(line.causes[-1].number, "g") for line in recording.lines.values()
                                                   if line.text == "write /g"])
 print(json.dumps({
-    "script": recording.script, "merged": observed.recording(merge=True).merged, "delayed": delayed.script,
-    "asked": asked.script, "names": recording.names,
+    "script": recording.script, "delayed": delayed.script,
+    "merged": [it.text for it in observed.recording(merge=True).lines.values() if it.writes > 1],
+    "asked": asked, "names": recording.names,
     "promises": [(it.kind, it.line, it.paths, it.was_there, [(spare.line, spare.other) for spare in it.spares])
                  for it in recording.promises],
     "lines": [(number, it.text, it.causes[-1].text, it.forced) for number, it in recording.lines.items()],
-    "candidates": [(number, it.path, it.behind) for number, it in asked.candidates.items()]}))
+    "candidates": [(number, it.path, it.behind) for number, it in candidates.items()]}))
 """
 
     def ask(self, *words):
@@ -176,7 +177,7 @@ print(json.dumps({
         self.assertEqual([[text, cause.split(",")[0], forced] for _, text, cause, forced in found["lines"]], [
             ["create /g", 'openat("g"', ["g"]], ["write /g", 'write("g"', ["g"]],
             ["overwrite /g 0", 'write("g"', ["g"]], ["replace /g /f", 'rename("g"', ["f"]]])
-        self.assertEqual(len(found["merged"]), 1)
+        self.assertEqual(found["merged"], ["write /g"])
         asked = [it for it in found["asked"].split("\n") if it[:1] not in ("#", "")]
         self.assertEqual(asked[asked.index("create /g"):], [
             "create /g", "write /g", "overwrite /g 0", "fsync /g", "replace /g /f", "fsync /f", "spare /f /f"])

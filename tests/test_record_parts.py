@@ -14,7 +14,8 @@ from record.trace import arguments_of, descriptor_of, printable, read
 from record.tree import difference, snapshot
 from tests.program import ROOT
 
-MOST_LINES = 1299
+MOST_LINES = 1269  # Of code, in the recorder.
+MOST_JUDGE_LINES = 699  # Of all kinds, in the judge.
 
 
 def calls(*lines):
@@ -140,6 +141,11 @@ class Size(unittest.TestCase):
     def test_lines_of_code(self):
         files = [ROOT / "crashmap-record", *(ROOT / "record").glob("*.py")]
         self.assertLessEqual(sum(map(code_lines, files)), MOST_LINES)
+
+    def test_lines_of_the_judge(self):
+        files = list((ROOT / "judge").glob("*.py"))
+        self.assertTrue(files)
+        self.assertLessEqual(sum(len(it.read_text().splitlines()) for it in files), MOST_JUDGE_LINES)
 
 
 if __name__ == "__main__":

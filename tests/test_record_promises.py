@@ -51,6 +51,11 @@ class OldOrNew(Judged):
                 script = self.script("--each-close", "--", "sh", "-c", command)
                 self.assertEqual(steps_of(script)[0].count("spare /f /f"), 2)
                 self.assert_kept(script)
+        self.make_directory()
+        # A process ends with two descriptors of one file.
+        twice = "sh -c 'exec >> f 2>&1; echo a'; echo b >> f; echo c >> f"
+        script = self.script("--each-close", "--", "sh", "-c", twice)
+        self.assertEqual(steps_of(script)[0].count("spare /f /f"), 3)
         script = self.script("--each-close", "--", "sh", "-c", "(echo a; echo b) >> f")
         self.assert_judged(script, *["torn"] * 4)
 
