@@ -48,12 +48,12 @@ class Help(unittest.TestCase):
         loses = "a crash loses a file or directory that is there before `start` and that the script never removes"
         self.assertIn(loses, " ".join(answer("--help")[1].decode().split()))
 
-    def test_the_faults_that_can_count_go_to_the_same_number_as_in_the_error(self):
-        words = " ".join(answer("--help")[1].decode().split())
-        refused = " ".join(answer("--faults", "0")[2].decode().split())
-        most = refused.partition("numbers from 1 to ")[2].partition(",")[0]
-        self.assertTrue(most.isdigit(), refused)
-        self.assertIn(f"Count only faults of these numbers, 1 to {most}, in ascending order", words)
+    def test_the_faults_that_can_count_are_those_that_help_and_the_error_name(self):
+        named = re.search(r"Count only faults of these numbers, 1 to (\d+),", answer("--help")[1].decode())
+        most = int(named[1])
+        for number, status in ((0, 2), (1, 0), (most, 0), (most + 1, 2)):
+            answered, _, err = answer(f"--faults={number}", script=b"start\n")
+            self.assertEqual((answered, f"numbers from 1 to {most}, each" in err.decode()), (status, status == 2))
 
 
 class Options(unittest.TestCase):
@@ -126,16 +126,13 @@ class Rules(unittest.TestCase):
     def test_a_list_without_rules(self):
         self.assertTrue(answer("--rules", "--module", "async")[1].startswith(b"async has no rules.\n\nA rule LATER"))
 
-    def test_a_bad_part_is_named(self):
-        self.assert_refused(["--without", "Ptr:InitFle"], "'InitFle'", "--rules lists them")
-        self.assert_refused(["--with", "Sideways:Ptr"], "'Sideways'", "--rules lists them")
-        self.assert_refused(["--with", "Ptr:Foo"], "'Foo'", "--rules lists them")
-        self.assert_refused(["--with", "Ptr:"], "''", "--rules lists them")
-        self.assert_refused(["--with", "Ptr"], "it is no rule, which is written LATER:EARLIER")
+    def test_a_word_that_is_no_rule(self):
+        for word in ("Ptr:InitFle", "Ptr:", "Ptr", "Sideways:Ptr"):
+            self.assert_refused(["--with", word], f"'{word}'", "it is no rule; --rules lists what a rule can name")
 
     def test_a_rule_of_another_module(self):
-        self.assert_refused(["--without", "Commit:Copy"], "soft has no such rule", "EntrySet:InodeInit EntrySet:LinkUp")
-        self.assert_refused(["--module", "async", "--without", "Commit:Copy"], "async has no rules\n")
+        self.assert_refused(["--without", "Commit:Copy"], "'Commit:Copy'",
+                            "the module has no such rule; --rules lists its rules")
 
 
 class Scripts(unittest.TestCase):

@@ -197,6 +197,12 @@ class Words(unittest.TestCase):
                 ("--with", "Done:previous-Comit", "Commit")):
             self.assert_hints([option, rule], f"did you mean `{likely}`?")
 
+    def test_a_rule_that_the_module_does_not_have(self):
+        meta = ("FileData:previous-Commit Commit:Copy Commit:FileData Commit:previous-Commit InPlace:Commit "
+                "Done:InPlace Done:previous-Done")
+        self.assert_hints(["--module", "meta", "--without", "Ptr:MapSet"], f"the rules of meta are {meta}")
+        self.assert_hints(["--module", "async", "--without", "Ptr:MapSet"], "async has no rules")
+
     def test_a_word_of_the_launcher(self):
         ending = "--prove and --proved come first, and --hints is followed by auto, always or never"
         for word, likely in (("--hint", "--hints"), ("--prove", "--prove"), ("--provd", "--proved")):
@@ -205,7 +211,7 @@ class Words(unittest.TestCase):
     def test_words_with_which_no_hint_helps(self):
         for words in (["--foo"], ["a", "b"], ["--limit", "0"], ["--with", "Ptr:MapSet", "--with", "Ptr:MapSet"],
                       ["--with", "Sideways:Ptr"], ["--with", "Ptr:Foo"], ["--with", "Ptr:"], ["--with", "Ptr"],
-                      ["--without", "Commit:Copy"]):
+                      ["--without", "Ptr:MapSet", "--with", "Ptr:MapSet"]):
             self.assert_hints(words)
 
 

@@ -107,6 +107,8 @@ SETS_BEYOND_LIMITS = _TOO_MANY_SETS + "that is more than --limit can ask for; " 
 
 # The command line.
 LAUNCHER_WORD = MEANT + " --prove and --proved come first, and --hints is followed by auto, always or never"
+RULES_OF = "the rules of {module} are {rules}"
+NO_RULES = "{module} has no rules"
 
 # What has no effect, or another one than is likely to be meant.
 NO_OPERATION = "no operation follows `start`, so there is nothing to explore"

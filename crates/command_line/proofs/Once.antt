@@ -1,17 +1,16 @@
 -- One more rule of an option.
-use Rattle.std.proofs.Common.{◌≡◌, ℕ, zero, suc, ◌<◌, List, [], ◌∷◌, ◌++◌, Bool, true, false, length, get_or, arith}
+use Rattle.std.proofs.Common.{◌≡◌, ◌∙◌, ap₂, map, sym, take, ◌+◌, ℕ, zero, suc, ◌<◌, List, [], ◌∷◌, ◌++◌, Bool, true, false, length, get_or, arith}
 use Rattle.std.proofs.Common.{refl}
-use Rattle.std.proofs.Common.{length-append}
 use mathlib.Core.Bool.{true≢false}
 use Rattle.std.specs.Prelude.{◌||◌}
 use Rattle.std.specs.Borrow.{Bor}
-use Rattle.std.proofs.lemmas.List.Elements.{All-push}
+use Rattle.std.proofs.lemmas.List.{map-append, map_more}
 use Rattle.std.proofs.lemmas.List.Quantifiers.{all_pairs_push}
+use Rattle.clap.specs.Walk.{Text, texts}
 use Rattle.crash_model.specs.RuleTexts.{rule_text}
 use Rattle.crash_model.specs.ChosenRules.{has_rule, is_same_rule}
 use Rattle.crash_model.specs.declared.rules.Rule.{Rule}
-use Rattle.command_line.specs.Given.{AreGiven}
-use Rattle.command_line.specs.GivenBy.{IsGivenBy}
+use Rattle.command_line.specs.Given.{AreOnce}
 
 neither : (one other : Bool) → (one || other) ≡ false → (one ≡ false) × (other ≡ false)
 neither true other none = absurd (true≢false none)
@@ -26,12 +25,15 @@ none_same (other ∷ rules) rule none zero d below =
 none_same (other ∷ rules) rule none (suc k) d below =
     none_same rules rule (neither (is_same_rule rule other) (has_rule rules rule) none).1 k d (omega arith)
 
-pub given_more : (option : List ℕ) (words : List (Bor (List ℕ))) (rules : List Rule) (rule : Rule)
-    → AreGiven option words rules → IsGivenBy option words (rule_text rule) → has_rule rules rule ≡ false
-    → length rules < 16 → AreGiven option words (rules ++ rule ∷ [])
-given_more option words rules rule are given new room = record {
-  given = All-push (λ (r : Rule). IsGivenBy option words (rule_text r)) rules rule are.given given;
-  once = all_pairs_push (λ (one other : Rule). is_same_rule other one ≡ false) rules rule are.once
-      (none_same rules rule new);
-  few = omega (arith, room, length-append rules (rule ∷ []));
-}
+pub once_more : (rules : List Rule) (rule : Rule) → AreOnce rules → has_rule rules rule ≡ false
+    → AreOnce (rules ++ rule ∷ [])
+once_more rules rule once new = all_pairs_push (λ (one other : Rule). is_same_rule other one ≡ false) rules rule once
+    (none_same rules rule new)
+
+-- the rules that are read of some words, and that of the next word
+pub one_more_word : (rules : List Rule) (rule : Rule) (words : List (Bor Text)) (i : ℕ) (d : Bor Text) → i < length words
+    → map rule_text rules ≡ texts (take i words) → (get_or words i d).now ≡ rule_text rule
+    → map rule_text (rules ++ rule ∷ []) ≡ texts (take (i + 1) words)
+one_more_word rules rule words i d below so_far is =
+    map-append rule_text rules (rule ∷ [])
+    ∙ (ap₂ (λ (xs : List Text) (t : Text). xs ++ t ∷ []) so_far (sym is) ∙ sym (map_more (λ (w : Bor Text). w.now) words i d below))

@@ -1,45 +1,46 @@
 //! The values of the options that take one, and what the flags ask for.
 
-ghost use Rattle.std.specs.Prelude.{◌≤◌};
+ghost use Rattle.std.specs.Prelude.{◌≡◌, ◌^◌, ℕ, IfOk, IfSome, Some, codes};
+ghost use Rattle.clap.specs.Words.{found_of, rows_of};
+ghost use Rattle.command_line.specs.Said.{AreFaultsSaid, IsModuleSaid, IsNumberWithin, IsParsed, IsQuestionSaid};
+ghost use Rattle.command_line.specs.Said.{faults_in, number_in, number_said};
 
 use crate::faults::{Value, WordFault};
-use crate::numbers::{LIMIT, Numbers};
-use crate::rule_words::Why;
 use clap::ArgMatches;
 use crash_model::fault_kind::KINDS;
 use crash_model::modules::Module;
 use question_model::{Question, SetLimit, WorkloadLength};
 
-/// The number given, which the parser has kept among those that the option takes.
-pub(crate) fn number_of(matches: &ArgMatches<'_>, name: &str, numbers: Numbers) -> usize
-    requires { (numbers.least ≤ numbers.usual) × (numbers.usual ≤ numbers.most) }
-    ensures low { numbers.least ≤ result }
-    ensures high { result ≤ numbers.most }
+/// The number of an option that has a default.
+pub(crate) fn number_of(matches: &ArgMatches<'_>, name: &str) -> usize
+    requires { (least : ℕ) × (most : ℕ) × IsNumberWithin least most name.now (rows_of (found_of matches.now)) }
+    ensures { number_said name.now (rows_of (found_of matches.now)) ≡ Some result }
 {
-    let (least, most) = (numbers.least as usize, numbers.most as usize);
     match matches.get_one::<usize>(name) {
-        Some(n) if least <= n && n <= most => n,
-        _ => numbers.usual as usize,
+        Some(number) => number,
+        None => unreachable!(),
     }
 }
 
 /// The numbers of the faults that count, as a set, if they are given.
-pub(crate) fn counted_of<'a>(matches: &ArgMatches<'a>) -> Result<Option<u16>, WordFault<'a>> {
+pub(crate) fn counted_of<'a>(matches: &ArgMatches<'a>) -> Result<Option<u16>, WordFault<'a>>
+    ensures { IfOk result (AreFaultsSaid (rows_of (found_of matches.now))) }
+{
     let Some(word) = matches.get_str("faults") else {
         return Ok(None);
     };
-    match fault_numbers(word) {
-        Some(counted) => Ok(Some(counted)),
-        None => Err(WordFault {
-            option: "faults",
-            value: Value::Numbers(word),
-            why: Why::NoFaultNumbers,
-        }),
+    if let Some(counted) = fault_numbers(word) {
+        return Ok(Some(counted));
     }
+    let (option, value) = ("faults", Value::Word(word));
+    let why = "numbers from 1 to 10, each above the one before, with a comma between two";
+    Err(WordFault { option, value, why })
 }
 
 /// The set of the numbers in a word: from 1 to `KINDS`, each above the one before, with a comma between two.
-fn fault_numbers(word: &str) -> Option<u16> {
+fn fault_numbers(word: &str) -> Option<u16>
+    ensures { IfSome result (λ counted. counted ≡ faults_in word.now) }
+{
     let mut counted: u16 = 0;
     for piece in word.split(',') {
         let bit = fault_bit(piece)?;
@@ -52,18 +53,21 @@ fn fault_numbers(word: &str) -> Option<u16> {
 }
 
 /// The set that has only the number of a kind of fault, which is written in digits, the first of them no zero.
-fn fault_bit(word: &str) -> Option<u16> {
-    if word.starts_with('+') || word.starts_with('0') {
-        return None;
-    }
+fn fault_bit(word: &str) -> Option<u16>
+    ensures { IfSome result (λ bit. bit ≡ 2 ^ number_in word.now) }
+{
+    let is_plain = !word.starts_with('+') && !word.starts_with('0');
     match word.parse::<usize>() {
-        Ok(number) if number <= KINDS => Some(1 << number),
+        Ok(number) if is_plain && number <= KINDS => Some(1 << number),
         _ => None,
     }
 }
 
 /// The module given, else soft updates.
-pub(crate) fn module_of(matches: &ArgMatches<'_>) -> Module {
+pub(crate) fn module_of(matches: &ArgMatches<'_>) -> Module
+    requires { IsParsed (rows_of (found_of matches.now)) }
+    ensures { IsModuleSaid (rows_of (found_of matches.now)) result }
+{
     match matches.get_str("module") {
         Some("async") => Module::Async,
         Some("meta") => Module::Meta,
@@ -72,18 +76,12 @@ pub(crate) fn module_of(matches: &ArgMatches<'_>) -> Module {
     }
 }
 
-/// The most sets to explore, which the parser has kept in its range.
-fn limit_of(matches: &ArgMatches<'_>) -> SetLimit {
-    match SetLimit::new(number_of(matches, "limit", LIMIT)) {
-        Some(limit) => limit,
-        None => unreachable!(),
-    }
-}
-
-/// What to find out: each failing set, each fault with `--decide`, which rules are enough with `--enough`, or which
-/// lines that wait with `--syncs` beside it, which workloads fail with `--search`, or which rules are enough for all of
-/// them with `--enough` beside it.
-pub(crate) fn question_of(matches: &ArgMatches<'_>) -> Question {
+/// The question: which sets fail, unless `--decide`, `--enough`, `--enough --syncs`, `--search` or `--search --enough`
+/// asks another.
+pub(crate) fn question_of(matches: &ArgMatches<'_>) -> Question
+    requires { IsParsed (rows_of (found_of matches.now)) }
+    ensures { IsQuestionSaid (rows_of (found_of matches.now)) result }
+{
     if matches.get_flag("decide") {
         return Question::Decide;
     }
@@ -97,6 +95,20 @@ pub(crate) fn question_of(matches: &ArgMatches<'_>) -> Question {
 }
 
 /// How many operations the longest workloads have, if workloads are to be searched.
-fn longest_workload(matches: &ArgMatches<'_>) -> Option<WorkloadLength> {
+fn longest_workload(matches: &ArgMatches<'_>) -> Option<WorkloadLength>
+    requires { IsParsed (rows_of (found_of matches.now)) }
+    ensures { result ≡ number_said (codes "search") (rows_of (found_of matches.now)) }
+{
     WorkloadLength::new(matches.get_one::<usize>("search")?)
+}
+
+/// The most closed sets to explore.
+fn limit_of(matches: &ArgMatches<'_>) -> SetLimit
+    requires { IsParsed (rows_of (found_of matches.now)) }
+    ensures { number_said (codes "limit") (rows_of (found_of matches.now)) ≡ Some result }
+{
+    match SetLimit::new(number_of(matches, "limit")) {
+        Some(limit) => limit,
+        None => unreachable!(),
+    }
 }
