@@ -14,18 +14,17 @@ PAGE = ROOT / "docs/DEFINITIONS.md"
 # The files that define a plain run, in the order in which they are read, each whole.
 PLAIN = {
     "sets and crashes": ["patch_sets/Sets", "patch_sets/Closed", "patch_sets/Machine", "patch_sets/Writes",
-                         "state_space/Counts"],
+                         "patch_sets/Iter", "state_space/Counts"],
     "the disk": ["crash_model/" + name for name in ("Lists", "Disk", "Generations", "Layout", "Slots", "Plan")],
     "patches and their order": ["crash_model/" + name for name in
                                 ("Patches", "Rules", "RuleTexts", "ChosenRules", "Refusals", "Emitted", "WholeBlocks",
                                  "Tracing", "Trace")],
     "what fails": ["crash_model/" + name for name in ("Replay", "Faults", "PromiseLines", "BrokenLines", "Checker")],
     "scripts and reports": ["crash_model/Names", "crash_model/PathTexts", "crash_model/Script",
-                            "crash_model/ScriptRefusals", "crash_model/Texts", "report_model/Parts",
-                            "report_model/FaultLines", "report_model/Report", "report_model/OptionTexts",
-                            "report_model/Whole", "report_model/WholeText"],
-    "the answer": ["report_model/ScriptGraph", "report_model/Untraced", "report_model/Answer",
-                   "question_model/Answers"],
+                            "crash_model/ScriptRefusals", "crash_model/Texts"]
+    + ["report/" + name for name in ("Texts", "Parts", "Faults", "Crashes", "Head", "Reports", "Made")],
+    "the answer": ["question_model/ScriptGraph", "question_model/Refusals", "question_model/Reported",
+                   "report/OnGraphs", "report/Answers"],
 }
 
 # What a plain run's files have for an option, or for a script that is refused: it is read and counted there.
@@ -33,7 +32,7 @@ INSIDE = {
     "`--generations`": ["crash_model/Generations"],
     "`--whole-blocks`": ["crash_model/WholeBlocks"],
     "`--without` and `--with`": ["crash_model/RuleTexts", "crash_model/ChosenRules"],
-    "why a script is refused": ["crash_model/Refusals", "crash_model/ScriptRefusals", "report_model/Untraced"],
+    "why a script is refused": ["crash_model/Refusals", "crash_model/ScriptRefusals", "question_model/Refusals"],
 }
 
 WAITS = "lines that wait and promise, with `--durable` and `--faults`"
@@ -43,30 +42,28 @@ DEVICES = "what `serve` and `answer_call` say of devices and of the exit status"
 ROWS = {
     WAITS: ["crash_model/" + name for name in
             ("Paths", "Waiting", "WaitSteps", "Targets", "Promises", "FaultKinds", "ShownTexts", "PatchTexts")]
-    + ["report_model/Shows"],
-    "`--json`": ["report_model/" + name for name in
-                 ("JsonParts", "FaultKeys", "SectionJson", "OptionKeys", "WholeJson")],
-    "`--json` with `--numbers`": ["report_model/FaultNumbers"],
+    + ["report/Explaining", "report/Explained"],
+    "`--json`, with `--numbers` or without": ["report/" + name for name in
+                                              ("Fields", "FaultsJson", "CrashesJson", "HeadJson", "ReportsJson")],
     "`--strict`": ["crash_model/StepDisks", "crash_model/Strict"],
     "`--atomic`": ["crash_model/StepDisks", "crash_model/Atomic"],
-    "`--explain`": ["crash_model/PatchTexts", "crash_model/Reasons", "report_model/Replayed", "report_model/Explain"],
-    "`--decide`": ["crash_model/FaultOrder", "crash_model/FirstSets", "question_model/Decided",
-                   "question_model/ListedFault", "question_model/Decision"],
+    "`--explain`": ["crash_model/PatchTexts", "crash_model/Reasons", "report/Explaining", "report/Explained"],
+    "`--decide`": ["crash_model/FaultOrder", "crash_model/FirstSets", "question_model/Decided", "report/Found",
+                   "report/FirstCrashes", "report/Structs", "report/Decisions"],
     "`--enough`": ["crash_model/FaultOrder", "crash_model/FirstSets", "crash_model/OtherRules",
-                   "question_model/ListedFault", "question_model/Enough",
-                   "question_model/EnoughReport"],
+                   "question_model/Decided", "question_model/Enough", "report/Found", "report/FirstCrashes",
+                   "report/Structs", "report/Choices", "report/OnChoices"],
     "`--enough` with `--syncs`": ["patch_sets/Ends", "crash_model/ChosenWaits", "question_model/EnoughLines",
-                                  "question_model/LinesReport"],
+                                  "question_model/LinesRefusal"],
     "`--search`": ["crash_model/FirstSets", "crash_model/FaultKinds", "crash_model/Refused"]
-    + ["question_model/" + name for name in
-       ("Sequences", "Workloads", "SearchCounts", "SearchReport", "PoolAnswer")],
-    "`--search` with `--enough`": ["question_model/" + name for name in
-                                   ("MinimalRules", "EnoughFor", "SearchRulesReport")],
+    + ["question_model/" + name for name in ("Sequences", "Workloads", "SearchCounts", "SearchRefusal")]
+    + ["report/Found", "report/Searches", "report/OnPools"],
+    "`--search` with `--enough`": ["question_model/MinimalRules", "question_model/EnoughFor"],
     DEVICES: ["byte_io/Counted", "command_line/Ranges", "crash_text/Served", "crash_text/Status"],
 }
 
 # Rows that add to other rows.
-ADDS = {"`--json` with `--numbers`": ["`--json`"], "`--enough` with `--syncs`": ["`--enough`", WAITS],
+ADDS = {"`--enough` with `--syncs`": ["`--enough`", WAITS],
         "`--search` with `--enough`": ["`--search`", "`--enough`"]}
 
 # What the files of a plain run cite outside them: in the case of a match or the field of a record that an option adds,
@@ -78,13 +75,12 @@ ASKED_FOR = {
     "crash_model/Checker": "strict_faults IsKept disks_of atomic_faults fault_number Promise promises_of",
     "crash_model/Script": "target_text IsTarget",
     "crash_model/ScriptRefusals": "IsTargetWord",
-    "report_model/FaultLines": "shows_text",
-    "report_model/Report": "broken_shown ReplayedBlock changed_blocks replayed_text",
-    "report_model/OptionTexts": "Promise Explanation wait_text promise_text counted_numbers explained_text",
-    "report_model/Whole": "Explanation Promise",
-    "report_model/WholeText": "json_report",
-    "report_model/Answer": "explanation",
-    "question_model/Answers": "IsDecision IsEnoughReport IsLinesReport IsLinesRefusal IsSearchReport IsSearchRefusal "
+    "report/Faults": "shows_if",
+    "report/Crashes": "replayed_text",
+    "report/Reports": "Promise ExplainedPatch Wait patch_text wait_text promise_text",
+    "report/Made": "replay_of shows_of",
+    "report/OnGraphs": "blocks_of explained_patches sets_json",
+    "report/Answers": "IsDecision IsEnoughReport IsLinesReport IsLinesRefusal IsSearchReport IsSearchRefusal "
                               "IsSearchRulesReport IsReportedOfPool",
 }
 

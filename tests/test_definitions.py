@@ -11,7 +11,7 @@ from definitions import definition_rows, files, imports_of, lines_of, page_made,
 
 MOST_OF_A_PLAIN_RUN = 1_170
 
-MODELS = ("state_space", "patch_sets", "crash_model", "report_model", "question_model")
+MODELS = ("state_space", "patch_sets", "crash_model", "question_model", "report")
 GHOST = re.compile(r"\s*ghost use Rattle\.(\w+)\.specs\.(\w+)\.\{")
 
 
@@ -33,9 +33,9 @@ class Definitions(unittest.TestCase):
     def test_a_file_that_is_gone(self):
         """A file that is not there is taken out, and a row with no other file."""
         gone = "| nothing | says nothing | `question_model/specs/NotThere.antt` |"
-        both = "| lists | two files | `report_model/specs/NotThere.antt`, `Parts.antt` |"
+        both = "| lists | two files | `report/specs/NotThere.antt`, `Parts.antt` |"
         made = definition_rows("\n".join([LAST_TABLE, gone, both]))
-        self.assertEqual(made[0], "| lists | two files | `report_model/specs/Parts.antt` |")
+        self.assertEqual(made[0], "| lists | two files | `report/specs/Parts.antt` |")
 
     def test_a_file_that_no_row_names(self):
         """Its row has its own words."""

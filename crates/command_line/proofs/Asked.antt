@@ -1,10 +1,12 @@
 -- Which question the flags ask.
 use Rattle.std.proofs.Common.{◌≡◌, ℕ, Bool, true, false, List, Some, None, refl, codes, sym, ◌∙◌}
 use Rattle.clap.specs.Walk.{Row}
-use Rattle.question_model.specs.declared.question.Question.TheVariants.{Decide, Enough, EnoughLines, FailingSets, Search, SearchRules}
+use Rattle.question_model.specs.declared.question.Question.TheVariants.{Decide, Enough, EnoughLines, FailingSets}
+use Rattle.question_model.specs.declared.question.Question.TheVariants.{Search, SearchRules}
 use Rattle.command_line.specs.Said.{IsFlag, IsQuestionSaid, number_said}
 
-pub decided : (rows : List Row) (decide : Bool) → IsFlag (codes "decide") rows decide → decide ≡ true → IsQuestionSaid rows Decide
+pub decided : (rows : List Row) (decide : Bool) → IsFlag (codes "decide") rows decide → decide ≡ true
+    → IsQuestionSaid rows Decide
 decided rows decide d is = record {
   decide = λ on. refl;
   search = λ off e n said. let apart : decide ≡ false = d.1 off in cc;
@@ -16,7 +18,8 @@ decided rows decide d is = record {
 
 module _ (rows : List Row) (decide enough : Bool) (d : IsFlag (codes "decide") rows decide)
     (e : IsFlag (codes "enough") rows enough) (not_decided : decide ≡ false) where
-  pub searched_rules : (n : ℕ) → enough ≡ true → number_said (codes "search") rows ≡ Some n → IsQuestionSaid rows (SearchRules n)
+  pub searched_rules : (n : ℕ) → enough ≡ true → number_said (codes "search") rows ≡ Some n
+      → IsQuestionSaid rows (SearchRules n)
   searched_rules n on_too is = record {
     decide = λ on. let apart : decide ≡ true = d.0 on in cc;
     search = λ off without k said. let apart : enough ≡ false = e.1 without in cc;

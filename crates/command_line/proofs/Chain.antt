@@ -1,5 +1,6 @@
 -- What each step of a chain of `clap`'s builders makes of an option.
-use Rattle.std.proofs.Common.{◌≡◌, ◌∙◌, ◌++◌, ℕ, List, [], ◌∷◌, Bool, true, false, Option, Some, length-append, ap, ap₂, refl, arith}
+use Rattle.std.proofs.Common.{◌≡◌, ◌∙◌, ◌++◌, ℕ, List, [], ◌∷◌, Bool, true, false, Option, Some, length-append, ap, ap₂}
+use Rattle.std.proofs.Common.{refl, arith}
 use Rattle.std.specs.Prelude.{not, ◌&&◌}
 use Rattle.std.specs.Borrow.{Bor}
 use Rattle.clap.specs.Words.{AddsArg, AddsConflicts, AddsRequirements, App, Rule, app_of, rule_of, with_rule}

@@ -1,5 +1,6 @@
 -- What `clap` promises of the values of an option.
-use Rattle.std.proofs.Common.{◌≡◌, ◌∙◌, ◌<◌, ◌≤◌, ℕ, Bool, true, false, zero, suc, List, [], ◌∷◌, length, Option, Some, None, refl, sym, ap, subst, inl, inr, arith}
+use Rattle.std.proofs.Common.{◌≡◌, ◌∙◌, ◌<◌, ◌≤◌, ℕ, Bool, true, false, zero, suc, List, [], ◌∷◌, length, Option, Some}
+use Rattle.std.proofs.Common.{None, refl, sym, ap, subst, inl, inr, arith}
 use Rattle.std.specs.Prelude.{find, is_some, option_map, slice_get}
 use Rattle.std.specs.Borrow.{Bor}
 use Rattle.std.specs.List.{All, slice_index_or}
@@ -7,7 +8,8 @@ use Rattle.std.specs.Str.{bytes_eq}
 use Rattle.std.proofs.lemmas.List.Elements.{All-get_or}
 use Rattle.std.proofs.lemmas.Slice.Eq.{bytes_eq-Decides}
 use Rattle.clap.specs.Built.{IsParsedFrom}
-use Rattle.clap.specs.Facts.{Entry, EntryPasses, HasIn, PassesArg, WantsDefault, args_of, groups_of, least_values, parser_of, parser_of_value}
+use Rattle.clap.specs.Facts.{Entry, EntryPasses, HasIn, PassesArg, WantsDefault, args_of, groups_of, least_values}
+use Rattle.clap.specs.Facts.{parser_of, parser_of_value}
 use Rattle.clap.specs.Matches.{found_of, matched_of, one_text}
 use Rattle.clap.specs.Simple.{IsSimple}
 use Rattle.clap.specs.Values.{Accepts, read_as, reading_of}
@@ -44,7 +46,8 @@ is_among [] id has = absurd (omega (arith, has.1))
 is_among (x ∷ xs) id has = go (bytes_eq x.0.now id) refl (λ rest. is_among xs id rest) has.0 has.1 has.2
   where
     go : (b : Bool) → bytes_eq x.0.now id ≡ b
-        → (HasIn xs id → is_some (option_map (λ (e : Entry). e.1) (find (λ (e : Entry). bytes_eq e.0.now id) xs)) ≡ true)
+        → (HasIn xs id
+        → is_some (option_map (λ (e : Entry). e.1) (find (λ (e : Entry). bytes_eq e.0.now id) xs)) ≡ true)
         → (i : ℕ) → i < length (x ∷ xs)
         → ((d : Entry) → bytes_eq (slice_index_or (x ∷ xs) i d).0.now id ≡ true)
         → is_some (option_map (λ (e : Entry). e.1) (find (λ (e : Entry). bytes_eq e.0.now id) (x ∷ xs))) ≡ true
@@ -84,7 +87,8 @@ module _ (old : Command) (m : ArgMatches) (p : IsParsedFrom old m) (globals : (o
 
   accepts : (w v : Text) → w ≡ id → PassesArg p.built w v → Accepts false parser v
   accepts w v key pass =
-      let same : bytes_eq pass.1.id.now id ≡ true = subst (λ (u : Text). bytes_eq pass.1.id.now u ≡ true) key pass.4.0 in
+      let same : bytes_eq pass.1.id.now id ≡ true =
+      subst (λ (u : Text). bytes_eq pass.1.id.now u ≡ true) key pass.4.0 in
       let s = same_rules_by_id old m p place d is.within is.only is.own pass.0 pass.1 pass.2 pass.3 same in
       let by : parser_of pass.1 ≡ parser = ap parser_of_value (s.parser parser is.reads) in
       subst (λ (b : Bool). Accepts b parser v) (s.ignore_case ∙ is.case)
@@ -132,7 +136,8 @@ module _ (old : Command) (m : ArgMatches) (p : IsParsedFrom old m) (globals : (o
         | inr (inl v) ↦ subst (λ (y : MatchedArg). 0 < length y.vals.items) got.1 v
         | inr (inr (inl h)) ↦
             let any = h.1 in
-            let same : bytes_eq any.1.id.now id ≡ true = subst (λ (u : Text). bytes_eq any.1.id.now u ≡ true) key any.4.0 in
+            let same : bytes_eq any.1.id.now id ≡ true =
+            subst (λ (u : Text). bytes_eq any.1.id.now u ≡ true) key any.4.0 in
             let s = same_rules_by_id old m p place d is.within is.only is.own any.0 any.1 any.2 any.3 same in
             let set : any.1.action ≡ Some Set = s.action Set usual.action in
             let bad : Set ≡ Count = rw set at any.4.1 in
@@ -151,7 +156,8 @@ module _ (old : Command) (m : ArgMatches) (p : IsParsedFrom old m) (globals : (o
       ]
 
   -- a text that is found of the option passes its parser
-  pub text_passes : reading_of parser ≡ AsWritten → (t : Text) → one_text (found_of m) id ≡ Some t → Accepts false parser t
+  pub text_passes : reading_of parser ≡ AsWritten → (t : Text) → one_text (found_of m) id ≡ Some t
+      → Accepts false parser t
   text_passes plain t read = go (matched_of (found_of m) id) refl
     where
       go : (o : Option MatchedArg) → matched_of (found_of m) id ≡ o → Accepts false parser t
@@ -164,7 +170,8 @@ module _ (old : Command) (m : ArgMatches) (p : IsParsedFrom old m) (globals : (o
   pub has_text : reading_of parser ≡ AsWritten → HasDefault old place d
       → (t : Text) × (one_text (found_of m) id ≡ Some t) × Accepts false parser t
   has_text plain usual =
-      let has = is_among (found_of m).entries.items id (default_present old m p globals place d is.within usual.wants) in
+      let has =
+      is_among (found_of m).entries.items id (default_present old m p globals place d is.within usual.wants) in
       go (matched_of (found_of m) id) refl has
     where
       go : (o : Option MatchedArg) → matched_of (found_of m) id ≡ o → is_some (matched_of (found_of m) id) ≡ true

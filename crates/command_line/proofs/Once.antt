@@ -1,5 +1,6 @@
 -- One more rule of an option.
-use Rattle.std.proofs.Common.{◌≡◌, ◌∙◌, ap₂, map, sym, take, ◌+◌, ℕ, zero, suc, ◌<◌, List, [], ◌∷◌, ◌++◌, Bool, true, false, length, get_or, arith}
+use Rattle.std.proofs.Common.{◌≡◌, ◌∙◌, ap₂, map, sym, take, ◌+◌, ℕ, zero, suc, ◌<◌, List, [], ◌∷◌, ◌++◌, Bool, true}
+use Rattle.std.proofs.Common.{false, length, get_or, arith}
 use Rattle.std.proofs.Common.{refl}
 use mathlib.Core.Bool.{true≢false}
 use Rattle.std.specs.Prelude.{◌||◌}
@@ -31,9 +32,10 @@ once_more rules rule once new = all_pairs_push (λ (one other : Rule). is_same_r
     (none_same rules rule new)
 
 -- the rules that are read of some words, and that of the next word
-pub one_more_word : (rules : List Rule) (rule : Rule) (words : List (Bor Text)) (i : ℕ) (d : Bor Text) → i < length words
-    → map rule_text rules ≡ texts (take i words) → (get_or words i d).now ≡ rule_text rule
+pub one_more_word : (rules : List Rule) (rule : Rule) (words : List (Bor Text)) (i : ℕ) (d : Bor Text)
+    → i < length words → map rule_text rules ≡ texts (take i words) → (get_or words i d).now ≡ rule_text rule
     → map rule_text (rules ++ rule ∷ []) ≡ texts (take (i + 1) words)
 one_more_word rules rule words i d below so_far is =
     map-append rule_text rules (rule ∷ [])
-    ∙ (ap₂ (λ (xs : List Text) (t : Text). xs ++ t ∷ []) so_far (sym is) ∙ sym (map_more (λ (w : Bor Text). w.now) words i d below))
+    ∙ (ap₂ (λ (xs : List Text) (t : Text). xs ++ t ∷ []) so_far (sym is)
+    ∙ sym (map_more (λ (w : Bor Text). w.now) words i d below))

@@ -1,5 +1,6 @@
 -- What `clap` promises of the values of the program's options.
-use Rattle.std.proofs.Common.{◌≡◌, ◌∙◌, ℕ, false, List, [], ◌∷◌, map, Option, Some, None, refl, sym, ap, subst, arith, codes}
+use Rattle.std.proofs.Common.{◌≡◌, ◌∙◌, ℕ, false, List, [], ◌∷◌, map, Option, Some, None, refl, sym, ap, subst, arith}
+use Rattle.std.proofs.Common.{codes}
 use Rattle.std.specs.List.{list_all, list_any, slice_index_or}
 use Rattle.std.specs.Str.{bytes_eq}
 use Rattle.clap.specs.Built.{BuildsTo, IsParsedFrom}
@@ -44,7 +45,8 @@ module _ (old : Command) (m : ArgMatches) (p : IsParsedFrom old m) (globals : (o
 
   -- a text that is read of an option passes its parser
   text_taken : (place : ℕ) (rule : Rule) (parser : ValueParser) → IsPlaced old place d rule parser
-      → reading_of parser ≡ AsWritten → (t : Text) → one_of rule.id (rows_of (found_of m)) ≡ Some t → Accepts false parser t
+      → reading_of parser ≡ AsWritten → (t : Text) → one_of rule.id (rows_of (found_of m)) ≡ Some t
+      → Accepts false parser t
   text_taken place rule parser is plain t read =
       let id : (slice_index_or (args_of old) place d).id.now ≡ rule.id = ap (λ (r : Rule). r.id) is.same in
       text_passes old m p globals no_groups place d rule parser is plain t
@@ -73,7 +75,8 @@ pub parsed_by : (old new : Command) (m : ArgMatches) → IsProgram old → Build
 parsed_by old new m (modules, takes, app) from parsed =
     let p : IsParsedFrom old m = record { built = new; from = from; parsed = parsed } in
     let rules : map rule_of (args_of old) ≡ (program modules).top.rules = ap (λ (a : App). a.top.rules) app in
-    let simple : IsSimple old = ready_simple old (ap (λ (a : App). is_ready a.top) app) (ap (λ (a : App). list_all is_ready_leaf a.subs) app) in
+    let simple : IsSimple old =
+    ready_simple old (ap (λ (a : App). is_ready a.top) app) (ap (λ (a : App). list_all is_ready_leaf a.subs) app) in
     let no_groups : groups_of new ≡ [] =
     (from.same_groups (simple_groups old (ap (λ (a : App). all_simple a.top.rules) app))).1 ∙ simple.groups in
     let d = some_argument (args_of old) _ _ rules in
@@ -87,8 +90,8 @@ parsed_by old new m (modules, takes, app) from parsed =
           (placed old _ 13 d _ _ rules (omega arith) refl refl refl refl refl refl refl);
       workers = number_within old m p simple.globals no_groups simple d 14 (codes "workers") (codes "1") 1 16
           (placed old _ 14 d _ _ rules (omega arith) refl refl refl refl refl refl refl);
-      search = text_taken old m p simple.globals no_groups simple d 18 (bound (number (codes "search") 1 8)) (Unsigned 1 8)
-          (placed old _ 18 d _ _ rules (omega arith) refl refl refl refl refl refl refl) refl;
+      search = text_taken old m p simple.globals no_groups simple d 18 (bound (number (codes "search") 1 8))
+          (Unsigned 1 8) (placed old _ 18 d _ _ rules (omega arith) refl refl refl refl refl refl refl) refl;
       kind = λ t read.
           let by : Accepts false modules t = first_taken old m p simple.globals no_groups simple d 4 among modules
           (placed old _ 4 d among modules rules (omega arith) refl refl refl refl refl refl refl) t read in

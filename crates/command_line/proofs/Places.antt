@@ -1,5 +1,6 @@
 -- Where an option is among the arguments of the program.
-use Rattle.std.proofs.Common.{◌≡◌, ◌∙◌, ◌<◌, ◌&&◌, ℕ, Bool, true, false, not, zero, suc, List, [], ◌∷◌, map, length, Some, refl, sym, ap, inl, inr, arith, codes}
+use Rattle.std.proofs.Common.{◌≡◌, ◌∙◌, ◌<◌, ◌&&◌, ℕ, Bool, true, false, not, zero, suc, List, [], ◌∷◌, map, length}
+use Rattle.std.proofs.Common.{Some, refl, sym, ap, inl, inr, arith, codes}
 use Rattle.std.proofs.lemmas.List.{length-map}
 use Rattle.std.proofs.Math.ListN.{get_or-map}
 use Rattle.std.specs.List.{list_any, slice_index_or}
@@ -39,7 +40,8 @@ only_at id zero (r ∷ rs) only (suc j) d lt same = absurd (none_in id rs only j
 only_at id (suc k) (r ∷ rs) only j d lt same = go (bytes_eq r.id id) refl (λ only. only_at id k rs only) j lt same
   where
     go : (b : Bool) → bytes_eq r.id id ≡ b
-        → (is_only_at id k rs ≡ true → (j : ℕ) (d : Rule) → j < length rs → bytes_eq (slice_index_or rs j d).id id ≡ true → j ≡ k)
+        → (is_only_at id k rs ≡ true → (j : ℕ) (d : Rule) → j < length rs
+        → bytes_eq (slice_index_or rs j d).id id ≡ true → j ≡ k)
         → (j : ℕ) → j < length (r ∷ rs) → bytes_eq (slice_index_or (r ∷ rs) j d).id id ≡ true → j ≡ suc k
     go true is rest j lt same = let bad : false ≡ true = rw is at only in cc
     go false is rest zero lt same = cc
@@ -50,7 +52,8 @@ pub record IsPlaced (old : Command) (place : ℕ) (d : Arg) (rule : Rule) (parse
   pub within : place < length (args_of old)
   pub same : rule_of (slice_index_or (args_of old) place d) ≡ rule
   pub only : (j : ℕ) (e : Arg) → j < length (args_of old)
-      → bytes_eq (slice_index_or (args_of old) j e).id.now (slice_index_or (args_of old) place d).id.now ≡ true → j ≡ place
+      → bytes_eq (slice_index_or (args_of old) j e).id.now (slice_index_or (args_of old) place d).id.now ≡ true
+      → j ≡ place
   pub named : (slice_index_or (args_of old) place d).id.now ≡ [] → ⊥
   pub own : IsAuto (slice_index_or (args_of old) place d) → ⊥
   pub reads : (slice_index_or (args_of old) place d).value_parser ≡ Some parser
@@ -67,7 +70,8 @@ pub placed : (old : Command) (rules : List Rule) (place : ℕ) (d : Arg) (rule :
     → IsPlaced old place d rule parser
 placed old rules place d rule parser all lt there only some no_help no_version parsed case =
     let same : rule_of (slice_index_or (args_of old) place d) ≡ rule =
-    sym (get_or-map rule_of (args_of old) place d) ∙ (ap (λ (rs : List Rule). slice_index_or rs place (rule_of d)) all ∙ there) in
+    sym (get_or-map rule_of (args_of old) place d)
+    ∙ (ap (λ (rs : List Rule). slice_index_or rs place (rule_of d)) all ∙ there) in
     let long : length rules ≡ length (args_of old) = ap length (sym all) ∙ length-map (args_of old) rule_of in
     let id : (slice_index_or (args_of old) place d).id.now ≡ rule.id = ap (λ (r : Rule). r.id) same in
     record {
@@ -75,7 +79,8 @@ placed old rules place d rule parser all lt there only some no_help no_version p
       same = same;
       only = λ j e under here.
           let other : (slice_index_or (args_of old) j e).id.now ≡ (slice_index_or rules j (rule_of e)).id =
-          ap (λ (r : Rule). r.id) (sym (get_or-map rule_of (args_of old) j e) ∙ ap (λ (rs : List Rule). slice_index_or rs j (rule_of e)) all) in
+          ap (λ (r : Rule). r.id) (sym (get_or-map rule_of (args_of old) j e)
+          ∙ ap (λ (rs : List Rule). slice_index_or rs j (rule_of e)) all) in
           only_at rule.id place rules only j (rule_of e) (omega arith) (rw (← other, ← id) here);
       named = λ e. differ rule.id [] some (sym id ∙ e);
       own = λ auto. elim auto [

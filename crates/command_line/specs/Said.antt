@@ -1,5 +1,6 @@
 -- What the words of a command line say, by what `clap` finds in them.
-use Rattle.std.specs.Prelude.{◌≡◌, ◌==◌, ◌^◌, ℕ, List, Option, Some, None, Bool, true, false, bit_or, codes, fold, map, option_map}
+use Rattle.std.specs.Prelude.{◌≡◌, ◌==◌, ◌^◌, ℕ, List, Option, Some, None, Bool, true, false, bit_or, codes, fold, map}
+use Rattle.std.specs.Prelude.{option_map}
 use Rattle.std.specs.List.{list_any, slice_split}
 use Rattle.std.specs.Str.{bytes_eq}
 use Rattle.std.specs.Str.Parse.{digits_value, without_leading_plus}

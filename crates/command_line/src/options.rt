@@ -16,7 +16,8 @@ const ABOUT: &str =
 const AFTER: &str = "\
 With a rule LATER:EARLIER a patch waits for an earlier one of its operation, with LATER:previous-EARLIER for one of the
 operation right before, LATER:before-EARLIER for those of all operations before. Each part is InodeInit, EntrySet,
-EntryClear, MapSet, MapClear, InitFile, InitDir, Ptr, LinkUp, LinkDown, InodeFree, PtrClear, NewData, Touch, any of these
+EntryClear, MapSet, MapClear, InitFile, InitDir, Ptr, LinkUp, LinkDown, InodeFree, PtrClear, NewData, Touch, any of \
+these
 in place (InPlace), or FileData, Copy, Commit, Done.
 
 Examples:

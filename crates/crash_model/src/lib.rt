@@ -2,7 +2,7 @@
 //!
 //! The definitions that contracts use are in `specs/`: the disk and its layout, what operations change, the
 //! patches of a script and their dependencies, replay, the checker's faults, the sets that fail, and the script. None
-//! of them is code; the crates above are proved to meet them. Reports and answers are in `report_model`.
+//! of them is code; the crates above are proved to meet them. Answers are in `report`.
 #![tactic(auto)]
 
 pub mod disk_bytes;

@@ -1,9 +1,12 @@
 -- What the parts of a run find makes its answer.
 use Rattle.std.proofs.Common.{◌≡◌, ℕ, ◌≤◌, List, length, Ok, Err, Some, ap, subst, sym, inl, inr, ◌∙◌}
 use Rattle.std.specs.Prelude.{slice_get}
-use Rattle.report_model.specs.Answer.{Refused, Reported, IsReport, IsReported, untraced, too_many}
-use Rattle.report_model.specs.ScriptGraph.{HasBase, HasGraph, asked_by}
-use Rattle.report_model.specs.Untraced.{IsUntraced, bad_script, bad_geometry, bad_base, bad_trace}
+use Rattle.report.specs.Answers.{Refused, Reported, IsAnswerTo}
+use Rattle.report.specs.OnGraphs.{IsReport}
+use Rattle.question_model.specs.Reported.{IsReported}
+use Rattle.question_model.specs.Refusals.{untraced, too_many}
+use Rattle.question_model.specs.ScriptGraph.{HasBase, HasGraph, asked_by}
+use Rattle.question_model.specs.Refusals.{IsUntraced, bad_script, bad_geometry, bad_base, bad_trace}
 use Rattle.crash_model.specs.Checker.{Demands}
 use Rattle.crash_model.specs.Disk.{Disk, IsGeometry}
 use Rattle.crash_model.specs.Generations.{new_disk}
@@ -22,15 +25,14 @@ use Rattle.crash_model.specs.declared.refusals.ScriptFault.{ScriptFault}
 use Rattle.crash_model.specs.declared.refusals.TraceFault.{TraceFault}
 use Rattle.crash_model.specs.declared.settings.Settings.{Settings}
 use Rattle.crash_model.specs.declared.steps.Step.{Step}
-use Rattle.question_model.specs.Answers.{IsAnswerTo}
 use Rattle.question_model.specs.declared.question.Question.{Question}
 use Rattle.question_model.specs.declared.question.Question.TheVariants.{FailingSets, Decide, Enough}
 use Rattle.question_model.specs.declared.question.Question.TheVariants.{EnoughLines, Search, SearchRules}
 use Rattle.question_model.specs.declared.question.TheConstants.{MAX_SYNCS}
-use Rattle.question_model.specs.LinesReport as lines
-use Rattle.question_model.specs.LinesReport.{IsLinesRefusal}
+use Rattle.question_model.specs.LinesRefusal as lines
+use Rattle.question_model.specs.LinesRefusal.{IsLinesRefusal}
 use Rattle.question_model.specs.declared.length.WorkloadLength.{WorkloadLength}
-use Rattle.question_model.specs.SearchReport.{IsSearchRefusal, before_the_pool, no_operation}
+use Rattle.question_model.specs.SearchRefusal.{IsSearchRefusal, before_the_pool, no_operation}
 use Rattle.uniqueness_laws.proofs.FewWaits.{whole_if_cut_traced}
 use Rattle.uniqueness_laws.proofs.Scripts.{read_or_refused, script_one}
 use Rattle.crash_text.specs.BaseRefusal.{IsBaseRefusal}

@@ -1,11 +1,11 @@
 pub mod Answering
+pub mod FoundSets
+pub mod Limit
 pub mod LineReports
-pub mod Pools
+pub mod Listed
+pub mod Numbers
 pub mod PoolReports
-pub mod RuleReports
+pub mod Pools
+pub mod Safe
 pub mod Serving
 pub mod Sparing
-pub mod FoundSets
-pub mod Decisions
-pub mod Safe
-pub mod Limit

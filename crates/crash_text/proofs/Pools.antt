@@ -8,9 +8,9 @@ use Rattle.crash_model.specs.Sound.{IsSound, HasZeroJournal}
 use Rattle.crash_model.specs.declared.modules.Module.TheVariants.{Full}
 use Rattle.crash_model.specs.declared.settings.Settings.{Settings}
 use Rattle.crash_model.specs.declared.steps.Step.{Step}
-use Rattle.report_model.specs.ScriptGraph.{ordering_rules}
+use Rattle.question_model.specs.ScriptGraph.{ordering_rules}
 use Rattle.question_model.specs.SearchCounts.{AreSearchCounts}
-use Rattle.question_model.specs.SearchReport.{search_of}
+use Rattle.report.specs.OnPools.{search_of}
 use Rattle.question_model.specs.Workloads.{Search, is_place}
 use Rattle.question_model.specs.declared.found.SearchCounts.{SearchCounts}
 use Rattle.pool_judging.specs.Judging.{IsFullJournal}

@@ -3,8 +3,9 @@ use Rattle.std.proofs.Common.{◌≡◌, ℕ, ◌<◌, ◌≤◌, List, ◌++◌
 use Rattle.std.proofs.Common.{sym, subst, ap, ◌∙◌, append-nil, arith}
 use Rattle.std.specs.Prelude.{◌≢◌, Result, Ok, Err, IfErr}
 use Rattle.std.specs.Io.KnownBytes.{Consumes, IsAtEnd}
-use Rattle.report_model.specs.Answer.{Refused, IsSetsRefusal, untraced, too_many}
-use Rattle.report_model.specs.Untraced.{IsUntraced, bad_script, bad_geometry, bad_base, bad_trace}
+use Rattle.report.specs.Answers.{Refused, IsAnswerTo}
+use Rattle.question_model.specs.Refusals.{IsSetsRefusal, untraced, too_many}
+use Rattle.question_model.specs.Refusals.{IsUntraced, bad_script, bad_geometry, bad_base, bad_trace}
 use Rattle.crash_model.specs.Refusals.{run_of_script, run_of_trace}
 use Rattle.crash_model.specs.declared.refusals.RunFault.{RunFault}
 use Rattle.crash_model.specs.declared.refusals.RunFault.TheVariants.{CannotRead, CannotWrite, ScriptTooLong}
@@ -15,14 +16,13 @@ use Rattle.crash_model.specs.declared.refusals.TraceFault.{TraceFault}
 use Rattle.crash_model.specs.declared.refusals.TraceFault.TheVariants as trace
 use Rattle.crash_model.specs.declared.settings.Settings.{Settings}
 use Rattle.byte_io.specs.Counted.{IsReadFault}
-use Rattle.question_model.specs.Answers.{IsAnswerTo}
 use Rattle.question_model.specs.declared.question.Question.{Question}
 use Rattle.question_model.specs.declared.question.Question.TheVariants.{FailingSets, Decide, Enough}
 use Rattle.question_model.specs.declared.question.Question.TheVariants.{EnoughLines, Search, SearchRules}
 use Rattle.question_model.specs.declared.question.Request.{Request}
-use Rattle.question_model.specs.SearchReport.{IsSearchRefusal, before_the_pool, no_operation}
-use Rattle.question_model.specs.LinesReport as lines
-use Rattle.question_model.specs.LinesReport.{IsLinesRefusal}
+use Rattle.question_model.specs.SearchRefusal.{IsSearchRefusal, before_the_pool, no_operation}
+use Rattle.question_model.specs.LinesRefusal as lines
+use Rattle.question_model.specs.LinesRefusal.{IsLinesRefusal}
 use Rattle.crash_text.specs.Served.{IsWhole, IsRefusedBy}
 
 -- a source that was read to its end had these bytes

@@ -1,12 +1,11 @@
 -- What a sink has taken after a script was served.
 use Rattle.std.specs.Prelude.{◌≡◌, ◌≢◌, ℕ, ◌++◌, List, Option, Some, None}
 use Rattle.std.specs.Io.KnownBytes.{Appends}
-use Rattle.report_model.specs.Answer.{Reported, Refused}
 use Rattle.crash_model.specs.declared.refusals.RunFault.{RunFault}
 use Rattle.crash_model.specs.declared.refusals.RunFault.TheVariants.{CannotRead, CannotWrite, ScriptTooLong}
 use Rattle.crash_model.specs.declared.refusals.RunFault.TheVariants.{OutOfMemory}
-use Rattle.question_model.specs.Answers.{IsAnswerTo}
 use Rattle.question_model.specs.declared.question.Request.{Request}
+use Rattle.report.specs.Answers.{IsAnswerTo, Refused, Reported}
 
 -- all bytes that were still to come, where those are known
 abbrev pub IsWhole : Option (List ℕ) → List ℕ → Type 0

@@ -1,10 +1,11 @@
 -- Traced scripts, and the reports on them.
 use Rattle.std.specs.Prelude.{◌≡◌, ℕ, List, Ok, Err}
-use Rattle.report_model.specs.ScriptGraph.{HasBase, asked_by, ordering_rules}
+use Rattle.question_model.specs.ScriptGraph.{HasBase, asked_by, ordering_rules}
 use Rattle.patch_sets.specs.Closed.{IsClosed}
 use Rattle.crash_model.specs.Checker.{Demands, AreDemands, IsFailingUnder, all_faults}
 use Rattle.crash_model.specs.Disk.{Disk}
 use Rattle.crash_model.specs.Patches.{deps_of, image_of}
+use Rattle.crash_model.specs.Reasons.{ExplainedPatch, explained_patches}
 use Rattle.crash_model.specs.Refusals.{run_of_trace}
 use Rattle.crash_model.specs.Replay.{image_after_replay}
 use Rattle.crash_model.specs.Trace.{trace_from, IsGraphOf}
@@ -97,3 +98,7 @@ abbrev pub IsReportOn : {A : Type 0} → (Demands → Disk → Tracing → List 
 IsReportOn IsOn settings s text number =
     (last : Tracing) → IsTraceOf settings s.base.now s.traced last
     → IsOn s.demands s.base.now last s.traced.patches text number
+
+-- what each of the patches is
+abbrev pub trace_of : TracedPatches → List ExplainedPatch
+trace_of t = explained_patches t.rules t.whole t.links t.emitted t.patches

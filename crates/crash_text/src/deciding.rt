@@ -1,16 +1,17 @@
 //! A traced script, answered by a decision on each fault that a crash can leave.
 
 ghost use Rattle.std.specs.Prelude.{◌≡◌, ◌≤◌, IfOk, string_bytes};
-ghost use Rattle.question_model.specs.Decision.{IsDecision};
-ghost use Rattle.report_sections.specs.Bodies.{AreOnBase};
+ghost use Rattle.report.specs.Makers.{AreOnBase};
+ghost use Rattle.report.specs.Decisions.{IsDecision};
 ghost use Rattle.crash_text.specs.Traced.{IsReportOn, NoneFails};
 
 use crate::host::Host;
+use crate::reporting::{explained_trace, graph_head, maker_of};
 use crate::run::Outcome;
 use crate::traced_script::TracedScript;
 use fault_deciding::{Decider, closed_number};
 use question_model::Request;
-use question_reports::{Decision, decision_report};
+use report::{Decision, first_crashes, written};
 use std::alloc::{AllocError, Allocator};
 use std::thread::Threads;
 
@@ -19,7 +20,7 @@ pub(crate) fn decided<R, A>(
     host: &Host<'_, R, A>,
     request: &Request,
     script: &TracedScript<'_, A>,
-) -> Result<Outcome<A>, AllocError>
+) -> Result<Outcome, AllocError>
 where
     R: Threads + Sync,
     A: Allocator + Copy + Send + Sync,
@@ -30,24 +31,24 @@ where
         outcome.number) }
     ensures safe { NoneFails script.now → IfOk result (λ outcome. outcome.number ≡ 0) }
 {
-    let demands = &script.demands;
     let decider = Decider {
         alloc: host.alloc,
         base: script.base,
         graph: script.traced.graph(),
-        demands,
+        demands: &script.demands,
     };
-    let faults = decider.faults(host.rt, request.workers)?;
-    let decision = Decision {
-        base: script.base,
-        traced: &script.traced,
-        settings: &request.settings,
-        demands,
-        closed: closed_number(script.traced.graph()),
+    let decided = decider.faults(host.rt, request.workers)?;
+    let settings = &request.settings;
+    let mut maker = maker_of(host, settings, script)?;
+    let faults = first_crashes(host.heap, &mut maker, &decided)?;
+    let closed = closed_number(script.traced.graph());
+    let trace = explained_trace(host.heap, settings, script)?;
+    let report = Decision {
+        head: graph_head(settings, script, closed, &trace),
         faults: &faults,
     };
     Ok(Outcome {
-        text: decision_report(host.heap, host.alloc, &decision)?,
-        number: faults.len(),
+        text: written(host.heap, &report, settings.json, settings.numbers)?,
+        number: decided.len(),
     })
 }

@@ -1,37 +1,33 @@
 //! A traced script, answered by which of its rules are enough, and what is reported of choices.
 
-ghost use Rattle.std.specs.Prelude.{◌≡◌, map, string_bytes, IfOk};
-ghost use Rattle.question_model.specs.EnoughReport.{IsEnoughReport, ShowsChoices};
-ghost use Rattle.question_reports.specs.Chosen.{choices_of, AreFewChoices};
-ghost use Rattle.question_reports.specs.EnoughFindings.{listed_group};
-ghost use Rattle.report_sections.specs.Bodies.{AreOnBase};
+ghost use Rattle.std.specs.Prelude.{◌≡◌, string_bytes, IfOk};
+ghost use Rattle.report.specs.Makers.{AreOnBase};
+ghost use Rattle.report.specs.OnChoices.{IsEnoughReport, ShowsChoices};
 ghost use Rattle.crash_text.specs.Traced.{IsReportOn, NoneFails};
 
 use crate::host::Host;
+use crate::reporting::{explained_trace, graph_head};
 use crate::run::Outcome;
 use crate::traced_script::TracedScript;
 use crash_model::settings::Settings;
 use enough_deciding::RuleOracle;
 use fault_deciding::closed_number;
-use first_crashes::{first_fault, needed_groups};
-use question_reports::{Choices, EnoughFindings, NeededGroup, enough_report};
+use report::{Choices, Detail, Enough, Need, first_crash, needs_of_rules, sets_of_rules, written};
 use std::alloc::{AllocError, Allocator};
 
-/// The choices of a report, with the minimal sets that are enough, and the minimal groups of which one is needed.
+/// What is found of choices: the minimal sets that are enough, and the minimal groups of which one is needed.
 #[derive(Drop)]
-pub(crate) struct Chosen<'a, A: Allocator> {
-    pub choices: Choices<'a>,
-    pub enough: &'a [u128],
-    pub needs: &'a [NeededGroup<A>],
-    ghost few: { AreFewChoices choices },
+pub(crate) struct Chosen {
+    pub enough: Vec<Choices>,
+    pub needs: Vec<Need>,
 }
 
 /// Finds which rules of its ordering a traced script needs, and reports. It fails only when out of memory.
-pub(crate) fn enough<R, A: Allocator + Copy>(
+pub(crate) fn enough<'a, R, A: Allocator + Copy>(
     host: &Host<'_, R, A>,
-    settings: &Settings,
-    script: &TracedScript<'_, A>,
-) -> Result<Outcome<A>, AllocError>
+    settings: &'a Settings,
+    script: &'a TracedScript<'_, A>,
+) -> Result<Outcome, AllocError>
     requires on_base { AreOnBase script.now.base.now script.now.traced.patches }
     ensures reported { IfOk result (λ outcome.
         IsReportOn (IsEnoughReport settings.now) settings.now script.now (string_bytes outcome.text)
@@ -45,52 +41,41 @@ pub(crate) fn enough<R, A: Allocator + Copy>(
         demands: &script.demands,
     };
     let found = oracle.enough_sets()?;
-    let needs = needed_groups(&oracle, settings.explain, &found.needed)?;
-    let ordering = settings.ordering();
-    let chosen = Chosen {
-        choices: Choices::Rules(&ordering),
-        enough: &found.enough,
-        needs: &needs,
-    };
-    let outcome = report_chosen(host, settings, script, &chosen)?;
+    let needs = needs_of_rules(host.heap, &oracle, settings.explain, &found.needed)?;
+    let enough = sets_of_rules(host.heap, script.traced.ordering(), &found.enough)?;
+    let outcome = report_chosen(host, settings, script, Chosen { enough, needs })?;
     Ok(outcome)
 }
 
-/// Reports what is found of choices, with the first fault that a crash can leave under all of them. It fails only when
-/// out of memory.
-pub(crate) fn report_chosen<R, A: Allocator + Copy>(
+/// Reports what is found of choices, with the first crash that all of them together leave. It fails only when out of
+/// memory.
+pub(crate) fn report_chosen<'a, R, A: Allocator + Copy>(
     host: &Host<'_, R, A>,
-    settings: &Settings,
-    script: &TracedScript<'_, A>,
-    chosen: &Chosen<'_, A>,
-) -> Result<Outcome<A>, AllocError>
+    settings: &'a Settings,
+    script: &'a TracedScript<'_, A>,
+    chosen: Chosen,
+) -> Result<Outcome, AllocError>
     requires on_base { AreOnBase script.now.base.now script.now.traced.patches }
     ensures reported { IfOk result (λ outcome.
-        IsReportOn (ShowsChoices (choices_of chosen.now.choices) chosen.now.enough.now
-        (map listed_group chosen.now.needs.now) settings.now) settings.now script.now (string_bytes outcome.text)
-        outcome.number) }
+        IsReportOn (ShowsChoices chosen.enough.items chosen.needs.items settings.now) settings.now script.now
+        (string_bytes outcome.text) outcome.number) }
     ensures safe { NoneFails script.now → IfOk result (λ outcome. outcome.number ≡ 0) }
 {
-    let first = first_fault(
-        host.alloc,
-        script.base,
-        script.traced.graph(),
-        settings.explain,
-        &script.demands,
-    )?;
-    let findings = EnoughFindings {
+    let graph = script.traced.graph();
+    let detail = Detail {
+        explain: settings.explain,
         demands: &script.demands,
-        base: script.base,
-        traced: &script.traced,
-        settings,
-        choices: chosen.choices,
-        closed: closed_number(script.traced.graph()),
-        enough: chosen.enough,
-        needs: chosen.needs,
-        first: &first,
+    };
+    let first = first_crash(host.heap, host.alloc, script.base, graph, detail)?;
+    let trace = explained_trace(host.heap, settings, script)?;
+    let report = Enough {
+        head: graph_head(settings, script, closed_number(graph), &trace),
+        enough: &chosen.enough,
+        needs: &chosen.needs,
+        first: first.as_ref(),
     };
     Ok(Outcome {
-        text: enough_report(host.heap, host.alloc, &findings)?,
+        text: written(host.heap, &report, settings.json, settings.numbers)?,
         number: usize::from(first.is_some()),
     })
 }

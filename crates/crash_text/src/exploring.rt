@@ -1,18 +1,17 @@
 //! A traced script, answered by exploring each set that a crash can leave.
 
-ghost use Rattle.std.specs.Prelude.{◌≡◌, ◌≤◌, List, IfOk, IfErr, string_bytes};
+ghost use Rattle.std.specs.Prelude.{◌≡◌, ◌≤◌, IfOk, IfErr, string_bytes};
 ghost use Rattle.patch_sets.specs.Sets.{AreAllInOrder};
 ghost use Rattle.crash_model.specs.Checker.{IsFailingUnder};
 ghost use Rattle.crash_model.specs.Patches.{CountsClosed};
 ghost use Rattle.state_space.specs.declared.limits.TheConstants.{MAX_BOARD};
-ghost use Rattle.report_model.specs.Answer.{IsReport};
-ghost use Rattle.report_model.specs.Report.{Section};
-ghost use Rattle.report_model.specs.WholeText.{report as report_bytes};
-ghost use Rattle.report_sections.specs.Bodies.{AreOnBase, CanReport, HasSections, whole_of};
+ghost use Rattle.report.specs.Makers.{AreOnBase};
+ghost use Rattle.report.specs.OnGraphs.{IsReport};
 ghost use Rattle.crash_text.specs.Exploring.{SaysTooMany};
 ghost use Rattle.crash_text.specs.Traced.{IsReportOn, NoneFails};
 
 use crate::host::Host;
+use crate::reporting::{explained_trace, graph_head, maker_of};
 use crate::run::Outcome;
 use crate::traced_script::TracedScript;
 use crash_image::{PatchSpace, exploring_finds_the_failing_sets};
@@ -20,10 +19,8 @@ use crash_model::refusals::RunFault;
 use explorers::{Explored, Gate, explore, prime_at_least};
 use fault_deciding::closed_number;
 use question_model::{Request, SetLimit};
-use report_json::report_json;
-use report_sections::Report;
-use report_text::report_text;
-use std::alloc::{AllocError, Allocator};
+use report::{FailingSets, sections, written};
+use std::alloc::Allocator;
 use std::sync::Wait;
 use std::thread::Threads;
 use thread_jobs::Workers;
@@ -35,7 +32,7 @@ pub(crate) fn explored<R, A, G>(
     limit: SetLimit,
     gate: &G,
     script: &TracedScript<'_, A>,
-) -> Result<Outcome<A>, RunFault>
+) -> Result<Outcome, RunFault>
 where
     R: Threads + Wait + Sync,
     A: Allocator + Copy + Send + Sync,
@@ -55,16 +52,16 @@ where
         gate,
     };
     let found = failing_sets(&workers, limit.sets(), script)?;
-    let report = Report {
-        base: script.base,
-        traced: &script.traced,
-        settings: &request.settings,
-        demands: &script.demands,
-        closed: found.total,
-        sets: &found.broken,
+    let settings = &request.settings;
+    let mut maker = maker_of(host, settings, script)?;
+    let sections = sections(host.heap, &mut maker, &found.broken)?;
+    let trace = explained_trace(host.heap, settings, script)?;
+    let report = FailingSets {
+        head: graph_head(settings, script, found.total as u128, &trace),
+        sections: &sections,
     };
     Ok(Outcome {
-        text: write_report(host, &report, request.workers)?,
+        text: written(host.heap, &report, settings.json, settings.numbers)?,
         number: found.broken.len(),
     })
 }
@@ -115,24 +112,4 @@ where
     let found = exploring.found?;
     workers.gate.visited(found.total, found.broken.len());
     Ok(found)
-}
-
-/// The report, in the form that the settings ask for. It fails only when out of memory.
-fn write_report<R, A>(
-    host: &Host<'_, R, A>,
-    report: &Report<'_, '_, '_, '_, A>,
-    workers: usize,
-) -> Result<String<A>, AllocError>
-where
-    R: Threads + Sync,
-    A: Allocator + Copy + Send + Sync,
-    requires reportable { CanReport report.now }
-    ensures { IfOk result (λ text. (sections : List Section) × HasSections report.now sections
-        × (string_bytes text ≡ report_bytes report.now.settings.now (whole_of report.now sections))) }
-{
-    if report.settings.json {
-        report_json(host.rt, host.heap, host.alloc, report, workers)
-    } else {
-        report_text(host.rt, host.alloc, report, workers)
-    }
 }

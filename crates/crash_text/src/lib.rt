@@ -8,6 +8,7 @@ mod exploring;
 pub mod host;
 mod lines;
 pub mod progress;
+mod reporting;
 pub mod run;
 mod searching;
 mod searching_rules;

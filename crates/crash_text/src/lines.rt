@@ -2,9 +2,9 @@
 
 ghost use Rattle.std.specs.Prelude.{◌≡◌, ◌≤◌, length, string_bytes, IfOk, IfErr};
 ghost use Rattle.crash_model.specs.ChosenWaits.{up_to_wait, waits};
-ghost use Rattle.question_model.specs.LinesReport.{IsLinesReport};
 ghost use Rattle.question_model.specs.declared.question.TheConstants.{MAX_SYNCS};
-ghost use Rattle.report_sections.specs.Bodies.{AreOnBase};
+ghost use Rattle.report.specs.Makers.{AreOnBase};
+ghost use Rattle.report.specs.OnChoices.{IsLinesReport};
 ghost use Rattle.crash_text.specs.Lines.{HasTooManyWaits};
 ghost use Rattle.crash_text.specs.Traced.{IsReportOn, NoneFails};
 
@@ -16,17 +16,16 @@ use crash_model::refusals::RunFault;
 use crash_model::settings::Settings;
 use crash_model::steps::{Act, Step};
 use enough_deciding::LineOracle;
-use first_crashes::needed_lines;
 use question_model::MAX_SYNCS;
-use question_reports::Choices;
+use report::{needs_of_lines, sets_of_lines};
 use std::alloc::{AllocError, Allocator};
 
 /// Finds which lines of a traced script have to wait, and reports. It fails only when out of memory.
-pub(crate) fn enough_lines<R, A: Allocator + Copy>(
+pub(crate) fn enough_lines<'a, R, A: Allocator + Copy>(
     host: &Host<'_, R, A>,
-    settings: &Settings,
-    script: &TracedScript<'_, A>,
-) -> Result<Outcome<A>, AllocError>
+    settings: &'a Settings,
+    script: &'a TracedScript<'_, A>,
+) -> Result<Outcome, AllocError>
     requires on_base { AreOnBase script.now.base.now script.now.traced.patches }
     requires few { length script.now.traced.waits ≤ MAX_SYNCS }
     ensures reported { IfOk result (λ outcome.
@@ -41,13 +40,9 @@ pub(crate) fn enough_lines<R, A: Allocator + Copy>(
         demands: &script.demands,
     };
     let found = oracle.enough_sets()?;
-    let needs = needed_lines(&oracle, settings.explain, &found.needed)?;
-    let chosen = Chosen {
-        choices: Choices::Lines(script.traced.waits()),
-        enough: &found.enough,
-        needs: &needs,
-    };
-    let outcome = report_chosen(host, settings, script, &chosen)?;
+    let needs = needs_of_lines(host.heap, &oracle, settings.explain, &found.needed)?;
+    let enough = sets_of_lines(host.heap, script.traced.waits(), &found.enough)?;
+    let outcome = report_chosen(host, settings, script, Chosen { enough, needs })?;
     Ok(outcome)
 }
 

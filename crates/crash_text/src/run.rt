@@ -6,8 +6,7 @@ ghost use Rattle.crash_model.specs.Generations.{new_disk};
 ghost use Rattle.crash_model.specs.Sound.{IsSound, HasZeroJournal};
 ghost use Rattle.crash_model.specs.Trace.{base_from};
 ghost use Rattle.crash_model.specs.declared.modules.Module.TheVariants.{Full};
-ghost use Rattle.report_model.specs.Answer.{Reported, Refused};
-ghost use Rattle.question_model.specs.Answers.{IsAnswerTo};
+ghost use Rattle.report.specs.Answers.{IsAnswerTo, Refused, Reported};
 ghost use Rattle.crash_text.specs.BaseRefusal.{IsBaseRefusal};
 ghost use Rattle.crash_text.specs.Traced.{RisksNothing, FindsRisksAlone};
 
@@ -36,8 +35,8 @@ use std::thread::Threads;
 /// If the question is which rules or lines are enough, the number is 0 if all of them together are, and otherwise 1.
 /// For a search, also for one that asks for rules, it is 1 if a workload fails, and otherwise 0.
 #[derive(Drop)]
-pub struct Outcome<A: Allocator> {
-    pub text: String<A>,
+pub struct Outcome {
+    pub text: String,
     pub number: usize,
 }
 
@@ -58,7 +57,7 @@ pub fn run<R, A, G>(
     script: &[u8],
     request: &Request,
     gate: &G,
-) -> Result<Outcome<A>, RunFault>
+) -> Result<Outcome, RunFault>
 where
     R: Threads + Wait + Sync,
     A: Allocator + Copy + Send + Sync,

@@ -5,12 +5,12 @@ ghost use Rattle.std.specs.Prelude.{◌==◌, if◌then◌else◌};
 ghost use Rattle.crash_model.specs.Script.{IsAct};
 ghost use Rattle.crash_model.specs.Sound.{IsSound, HasZeroJournal};
 ghost use Rattle.crash_model.specs.declared.modules.Module.TheVariants.{Full};
-ghost use Rattle.question_model.specs.SearchCounts.{AreSearchCounts, IsShown};
+ghost use Rattle.question_model.specs.SearchCounts.{AreSearchCounts};
 ghost use Rattle.workload_search.specs.Passing.{AreAllPassing};
 ghost use Rattle.workload_search.specs.Tries.{items_of};
 ghost use Rattle.pool_judging.specs.Judging.{search_by};
 ghost use Rattle.pool_judging.specs.Pools.{IsPoolOf};
-ghost use Rattle.crash_text.specs.Searching.{IsPoolRefusal, IsSearchOf, IsReportBy, AreListedKinds};
+ghost use Rattle.crash_text.specs.Searching.{IsPoolRefusal, IsSearchOf, IsReportBy};
 
 use crate::host::Host;
 use crate::run::Outcome;
@@ -19,10 +19,9 @@ use crash_model::refusals::RunFault;
 use crash_model::settings::Settings;
 use crash_model::steps::Step;
 use disk_image::Image;
-use first_crashes::kind_section;
 use pool_judging::{PoolJudge, PoolSteps, pool_of};
-use question_model::{Request, SearchCounts, ShownKind, WorkloadLength};
-use question_reports::{KindCrash, SearchFindings, search_report};
+use question_model::{Request, SearchCounts, WorkloadLength};
+use report::{FoundKinds, SearchHead, first_of_kinds, written};
 use std::alloc::{AllocError, Allocator};
 use std::sync::Wait;
 use std::thread::Threads;
@@ -43,7 +42,7 @@ pub(crate) fn searched<R, A, G>(
     request: &Request,
     gate: &G,
     pool: &Pool<'_, A>,
-) -> Result<Outcome<A>, RunFault>
+) -> Result<Outcome, RunFault>
 where
     R: Threads + Wait + Sync,
     A: Allocator + Copy + Send + Sync,
@@ -117,44 +116,25 @@ fn report_on<R, A: Allocator + Copy>(
     settings: &Settings,
     judge: &PoolJudge<'_, A>,
     found: &SearchCounts,
-) -> Result<Outcome<A>, AllocError>
+) -> Result<Outcome, AllocError>
     requires found { AreSearchCounts (search_by judge.now) found.now }
     ensures report { IfOk result (λ outcome. IsReportBy settings.now judge.now found.now (string_bytes outcome.text)) }
     ensures number { IfOk result (λ outcome. outcome.number ≡ (if found.now.failing == 0 then 0 else 1)) }
 {
-    let kinds = kind_crashes(judge, settings.explain, found.kinds.as_slice())?;
-    let findings = SearchFindings {
-        settings,
-        most: judge.longest.operations(),
-        pool: judge.pool,
-        found,
+    let kinds = first_of_kinds(host.heap, judge, settings.explain, found.kinds.as_slice())?;
+    let report = FoundKinds {
+        head: SearchHead {
+            settings,
+            most: judge.longest.operations(),
+            pool: judge.pool.len(),
+            found,
+        },
         kinds: &kinds,
     };
     Ok(Outcome {
-        text: search_report(host.heap, host.alloc, &findings)?,
+        text: written(host.heap, &report, settings.json, settings.numbers)?,
         number: usize::from(found.failing != 0),
     })
-}
-
-/// The crash that shows each kind of fault first. It fails only when out of memory.
-fn kind_crashes<'found, A: Allocator + Copy>(
-    judge: &PoolJudge<'_, A>,
-    explain: bool,
-    kinds: &'found [ShownKind],
-) -> Result<Vec<KindCrash<'found, A>, A>, AllocError>
-    requires { All (IsShown (search_by judge.now)) kinds.now }
-    ensures { IfOk result (λ crashes. AreListedKinds (search_by judge.now) explain kinds.now crashes.items) }
-{
-    let mut crashes = Vec::new(judge.alloc);
-    for shown in kinds {
-        let listed = kind_section(judge, explain, shown)?;
-        crashes.push(KindCrash {
-            shown,
-            patches: listed.patches,
-            section: listed.section,
-        })?;
-    }
-    Ok(crashes)
 }
 
 /// The steps as a pool. The first step that no pool has is refused.

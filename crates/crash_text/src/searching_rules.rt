@@ -21,10 +21,9 @@ use crate::searching::{Pool, search_pool, steps_of};
 use crate::traced_script::asked_of;
 use crash_model::refusals::RunFault;
 use enough_rules::EnoughSets;
-use first_crashes::needed_workloads;
 use pool_judging::{PoolJudge, PoolRules};
 use question_model::{Places, Request};
-use question_reports::{SearchRulesFindings, search_rules_report};
+use report::{FoundRules, SearchHead, needs_of_workloads, sets_of_rules, written};
 use std::alloc::{AllocError, Allocator};
 use std::sync::Wait;
 use std::thread::Threads;
@@ -38,7 +37,7 @@ pub(crate) fn searched_for_rules<R, A, G>(
     request: &Request,
     gate: &G,
     pool: &Pool<'_, A>,
-) -> Result<Outcome<A>, RunFault>
+) -> Result<Outcome, RunFault>
 where
     R: Threads + Wait + Sync,
     A: Allocator + Copy + Send + Sync,
@@ -78,7 +77,7 @@ fn report_on_rules<R, A>(
     request: &Request,
     judge: &PoolJudge<'_, A>,
     searched: &FoundWorkloads<A>,
-) -> Result<Outcome<A>, AllocError>
+) -> Result<Outcome, AllocError>
 where
     R: Threads + Sync,
     A: Allocator + Copy + Send + Sync,
@@ -94,17 +93,20 @@ where
     let rules = PoolRules { judge };
     let passing = searched.passing.as_slice();
     let sets = enough_in_pool(host.rt, request.workers, &rules, passing)?;
-    let needs = needed_workloads(&rules, settings.explain, passing, &sets.needed)?;
-    let findings = SearchRulesFindings {
-        settings,
-        most: judge.longest.operations(),
-        pool: judge.pool,
-        found: &searched.found,
-        enough: &sets.enough,
+    let needs = needs_of_workloads(host.heap, &rules, settings.explain, passing, &sets.needed)?;
+    let enough = sets_of_rules(host.heap, judge.ordering, &sets.enough)?;
+    let report = FoundRules {
+        head: SearchHead {
+            settings,
+            most: judge.longest.operations(),
+            pool: judge.pool.len(),
+            found: &searched.found,
+        },
+        enough: &enough,
         needs: &needs,
     };
     Ok(Outcome {
-        text: search_rules_report(host.heap, host.alloc, &findings)?,
+        text: written(host.heap, &report, settings.json, settings.numbers)?,
         number: usize::from(searched.found.failing != 0),
     })
 }

@@ -4,8 +4,8 @@ ghost use Rattle.std.specs.Prelude.{◌≡◌, ◌≢◌, [], IfOk, IfErr};
 ghost use Rattle.crash_model.specs.Sound.{IsSound, HasZeroJournal};
 ghost use Rattle.crash_model.specs.declared.modules.Module.TheVariants.{Full};
 ghost use Rattle.promise_laws.specs.Waited.{RiskNoPromise};
-ghost use Rattle.report_model.specs.ScriptGraph.{asked_by};
-ghost use Rattle.report_sections.specs.Bodies.{AreOnBase};
+ghost use Rattle.question_model.specs.ScriptGraph.{asked_by};
+ghost use Rattle.report.specs.Makers.{AreOnBase};
 ghost use Rattle.crash_text.specs.Traced.{asks_of, IsOrderingOf, IsTraced, IsTraceRefusal, NoneFails};
 ghost use Rattle.crash_text.specs.Traced.{BreakAtRiskAlone};
 

@@ -5,7 +5,6 @@ ghost use Rattle.std.specs.List.{All, Contains};
 use state_space::MAX_BOARD;
 use std::alloc::{AllocError, Allocator};
 use std::marker::Model;
-use word_places::place_of_word;
 
 /// Words that a worker has met on the board, each at the one place of a table where it is looked for. A word that
 /// comes there takes the place of the one before.
@@ -53,11 +52,17 @@ impl<A: Allocator> RecentlySeen<A> {
         self.words[place] = word;
     }
 
-    /// The place of a word.
+    /// The place of a word: a multiplicative hash of each half, of which the highest bits depend on all others (Knuth,
+    /// "The Art of Computer Programming", volume 3, section 6.4), as a part of the table.
     fn place(&self, word: u128) -> usize
         ensures { result < length self.now }
     {
-        place_of_word(word, self.words.len())
+        let low = (word % (1 << 64)) as u64;
+        let high = (word >> 64) as u64;
+        let mixed = low
+            .wrapping_mul(0x9E37_79B9_7F4A_7C15)
+            .wrapping_add(high.wrapping_mul(0xC2B2_AE3D_27D4_EB4F));
+        ((u128::from(mixed) * self.words.len() as u128) >> 64) as usize
     }
 }
 

@@ -1,12 +1,12 @@
 -- Faults that sets have, and the first sets that have them.
-use Rattle.std.specs.Prelude.{◌≡◌, ◌≢◌, ℕ, List, true, Option, MatchOption}
+use Rattle.std.specs.Prelude.{◌≡◌, ℕ, List, true, Option, MatchOption}
 use Rattle.std.specs.List.{Contains}
 use Rattle.crash_model.specs.Checker.{Demands}
 use Rattle.crash_model.specs.Patches.{image_of}
 use Rattle.crash_model.specs.Replay.{image_after_replay}
-use Rattle.crash_model.specs.FaultOrder.{IsFaultBefore}
 use Rattle.crash_model.specs.FirstSets.{HasFault, IsFirst}
 use Rattle.crash_model.specs.declared.fault.Fault.{Fault}
+use Rattle.question_model.specs.Decided.{IsFirstDecided}
 use Rattle.question_model.specs.declared.decided_fault.DecidedFault.{DecidedFault}
 use Rattle.known_bytes.specs.Chains.{Change}
 use Rattle.known_bytes.specs.Family.{Family}
@@ -38,11 +38,6 @@ AreAllOf has faults = (fault : Fault) (set : ℕ) → has fault set → Contains
 abbrev pub IsFirstWith : (Fault → ℕ → Type 0) → Fault → Option ℕ → Type 0
 IsFirstWith has fault first = MatchOption first ((set : ℕ) → ¬ (has fault set)) (IsFirst (has fault))
 
--- the first of the faults that sets have, with the first set that has it
-pub record IsFirstDecided (has : Fault → ℕ → Type 0) (decided : DecidedFault) : Type 0 where
-  pub first : IsFirst (has decided.fault) decided.first
-  pub before : (other : Fault) (set : ℕ) → has other set → other ≢ decided.fault → IsFaultBefore decided.fault other
-
--- the same, or none where no set has a fault
+-- the first of the faults that sets have, with the first set that has it, or none where no set has a fault
 abbrev pub IsFirstFault : (Fault → ℕ → Type 0) → Option DecidedFault → Type 0
 IsFirstFault has found = MatchOption found ((fault : Fault) (set : ℕ) → ¬ (has fault set)) (IsFirstDecided has)

@@ -31,6 +31,16 @@ module _ (pool : List Step) where
       ∙ ap (λ (xs : List Step). steps_at pool front ++ xs) (append-nil (step_of place)
       ∙ (one_step place d below ∙ ap (λ (x : Step). x ∷ []) (sym is)))
 
+  -- the steps at one place more
+  pub one_more : (places : List ℕ) (i : ℕ) (before after : List Step) (x d : Step) → i < length places
+      → get_or places i 0 < length pool → x ≡ get_or pool (get_or places i 0) d
+      → before ≡ steps_at pool (take i places) → after ≡ before ++ x ∷ []
+      → after ≡ steps_at pool (take (i + 1) places)
+  one_more places i before after x d within below is so_far more =
+      more ∙ (ap (λ (steps : List Step). steps ++ x ∷ []) so_far
+      ∙ (sym (steps_more (take i places) (get_or places i 0) x d below is)
+      ∙ ap (steps_at pool) (sym (take_more places i 0 within))))
+
 -- what holds of each step of a pool holds of each at some places
 step_at : (P : Step → Type 0) (pool : List Step) (place : ℕ) → All P pool
     → All P (option_to_list (slice_get pool place))

@@ -1,12 +1,14 @@
 //! A pool's steps, copied from those of a script.
 
-ghost use Rattle.std.specs.Prelude.{◌≡◌, IfOk, IfErr};
-ghost use Rattle.question_model.specs.Workloads.{IsOfPool, is_place, is_keep};
-ghost use Rattle.pool_judging.specs.Pools.{IsPoolOf, IsNoPool};
+ghost use Rattle.std.specs.Prelude.{◌≡◌, ◌<◌, length, IfOk, IfErr};
+ghost use Rattle.std.specs.List.{All};
+ghost use Rattle.question_model.specs.Workloads.{IsOfPool, is_place, is_keep, steps_at};
+ghost use Rattle.pool_judging.specs.Pools.{IsPoolOf, IsNoPool, IsPlace};
 
 use crash_model::operations::Op;
 use crash_model::promises::paths_copy;
 use crash_model::steps::{Act, Step, Target};
+use question_model::Places;
 use std::alloc::{AllocError, Allocator};
 
 /// The steps of a pool: those of which workloads are made, and the promises that each workload begins with.
@@ -62,6 +64,23 @@ fn is_keep(act: &Act) -> bool
         Act::Do(_) | Act::Sync | Act::Fsync(_) | Act::Hold(_) | Act::Spare(_, _) => false,
         Act::Group(_) | Act::End | Act::Depend(_, _) => false,
     }
+}
+
+/// Copies of the steps at these places of a pool. It fails only when out of memory.
+pub fn steps_at<A: Allocator>(
+    alloc: A,
+    pool: &[Step],
+    places: &Places,
+) -> Result<Vec<Step, A>, AllocError>
+    requires pool { All IsPlace pool.now }
+    requires among { All (λ place. place < length pool.now) places.now.items }
+    ensures { IfOk result (λ steps. steps.items ≡ steps_at pool.now places.now.items) }
+{
+    let mut steps = Vec::with_capacity(alloc, places.len())?;
+    for place in places.as_slice() {
+        steps.push(step_copy(&pool[*place]))?;
+    }
+    Ok(steps)
 }
 
 /// A copy of a step of a pool.

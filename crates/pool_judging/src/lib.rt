@@ -15,7 +15,7 @@ mod prefix;
 mod rules;
 mod traces;
 
-pub use copying::{PoolSteps, pool_of};
+pub use copying::{PoolSteps, pool_of, steps_at};
 pub use judge::PoolJudge;
 pub use prefix::TracedPrefix;
 pub use rules::PoolRules;

@@ -1,12 +1,12 @@
 -- Each question has at most one answer.
 use Rattle.std.proofs.Common.{◌≡◌, ℕ, List}
-use Rattle.report_model.specs.Answer.{Answer}
+use Rattle.report.specs.Answers.{Answer}
 use Rattle.crash_model.specs.declared.settings.Settings.{Settings}
-use Rattle.question_model.specs.Answers.{IsAnswerTo}
-use Rattle.question_model.specs.Decision.{IsDecision}
-use Rattle.question_model.specs.EnoughReport.{IsEnoughReport}
-use Rattle.question_model.specs.SearchReport.{IsSearchReport}
-use Rattle.question_model.specs.SearchRulesReport.{IsSearchRulesReport}
+use Rattle.report.specs.Answers.{IsAnswerTo}
+use Rattle.report.specs.Decisions.{IsDecision}
+use Rattle.report.specs.OnChoices.{IsEnoughReport}
+use Rattle.report.specs.OnPools.{IsSearchReport}
+use Rattle.report.specs.OnPools.{IsSearchRulesReport}
 use Rattle.question_model.specs.declared.question.Question.{Question}
 use Rattle.question_model.specs.declared.question.Question.TheVariants.{FailingSets, Decide, Enough, EnoughLines}
 use Rattle.question_model.specs.declared.question.Question.TheVariants.{Search, SearchRules}

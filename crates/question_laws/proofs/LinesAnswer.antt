@@ -2,8 +2,9 @@
 use Rattle.std.proofs.Common.{◌≡◌, ℕ, ◌<◌, ◌≤◌, List, length, arith, refl, sym, subst, ap, ◌∙◌}
 use Rattle.std.specs.Prelude.{Result, Ok, Err, Some, slice_get}
 use Rattle.std.proofs.lemmas.Option.{slice_get_within}
-use Rattle.report_model.specs.Answer.{Answer, Refused, Reported, IsReported}
-use Rattle.report_model.specs.ScriptGraph.{HasBase}
+use Rattle.report.specs.Answers.{Answer, Refused, Reported}
+use Rattle.question_model.specs.Reported.{IsReported}
+use Rattle.question_model.specs.ScriptGraph.{HasBase}
 use Rattle.crash_model.specs.ChosenWaits.{up_to_wait}
 use Rattle.crash_model.specs.Disk.{Disk}
 use Rattle.crash_model.specs.Refusals.{run_of_trace}
@@ -15,8 +16,9 @@ use Rattle.crash_model.specs.declared.refusals.RunFault.TheVariants.{TooManySync
 use Rattle.crash_model.specs.declared.refusals.TraceFault.{TraceFault}
 use Rattle.crash_model.specs.declared.settings.Settings.{Settings}
 use Rattle.crash_model.specs.declared.steps.Step.{Step}
-use Rattle.question_model.specs.Answers.{IsAnswerTo}
-use Rattle.question_model.specs.LinesReport.{IsLinesReport, IsLinesRefusal, before_the_trace, bad_trace, too_many}
+use Rattle.report.specs.Answers.{IsAnswerTo}
+use Rattle.question_model.specs.LinesRefusal.{IsLinesRefusal, before_the_trace, bad_trace, too_many}
+use Rattle.report.specs.OnChoices.{IsLinesReport}
 use Rattle.question_model.specs.declared.question.Question.TheVariants.{EnoughLines}
 use Rattle.question_model.specs.declared.question.TheConstants.{MAX_SYNCS}
 use Rattle.uniqueness_laws.proofs.FewWaits.{whole_if_traced}

@@ -1,22 +1,20 @@
 -- There is at most one answer.
 use Rattle.std.proofs.Common.{◌≡◌, ℕ, List, length, sym, subst, ap, ◌∙◌, inl, inr}
-use Rattle.std.specs.Prelude.{Result, Ok, Err, None, if◌then◌else◌}
+use Rattle.std.specs.Prelude.{Result, Ok, Err}
 use Rattle.state_space.proofs.Counting.{one_number, not_more}
 use Rattle.patch_sets.specs.Closed.{IsClosed}
 use Rattle.patch_sets.proofs.Canonical.{one_list}
-use Rattle.report_model.specs.Answer.{Answer, Refused, Reported, IsReport, detail_of}
-use Rattle.report_model.specs.ScriptGraph.{ordering_rules, asked_by}
+use Rattle.report.specs.Answers.{Answer, Refused, Reported}
+use Rattle.report.specs.OnGraphs.{IsReport, detail_of, head_on, sets_bytes}
+use Rattle.question_model.specs.ScriptGraph.{ordering_rules, asked_by}
 use Rattle.crash_model.specs.Disk.{Disk}
 use Rattle.crash_model.specs.Generations.{new_disk}
-use Rattle.crash_model.specs.Reasons.{explanation}
-use Rattle.crash_model.specs.Lists.{when}
 use Rattle.crash_model.specs.Patches.{deps_of}
 use Rattle.crash_model.specs.Refusals.{run_of_script}
 use Rattle.crash_model.specs.Checker.{Demands, IsFailingUnder}
 use Rattle.crash_model.specs.Trace.{trace_from, base_from}
 use Rattle.crash_model.specs.Tracing.{Tracing, trace_start}
-use Rattle.report_model.specs.Report.{AreSections}
-use Rattle.report_model.specs.WholeText.{report}
+use Rattle.report.specs.Made.{AreSections}
 use Rattle.crash_model.specs.declared.patches.Patch.{Patch}
 use Rattle.crash_model.specs.declared.refusals.TraceFault.{TraceFault}
 use Rattle.crash_model.specs.declared.settings.Settings.{Settings}
@@ -42,12 +40,8 @@ module _ (settings : Settings) (limit : ℕ) (base : Disk) (last : Tracing) wher
       sections_one (detail_of settings demands) base patches also.sets is.sections also.sections
       (subst (λ some. AreSections (detail_of settings demands) base patches some is.sections) same is.listed)
       also.listed in
-      let texts : text ≡ other = is.whole ∙ ((λ i. report settings (record {
-        patches = length patches;
-        closed = total i;
-        failing = numbers i;
-        explanation = when settings.explain (explanation (ordering_rules settings) base last patches);
-        promises = if settings.explain then demands.promises else None;
+      let texts : text ≡ other = is.whole ∙ ((λ i. sets_bytes settings (record {
+        head = head_on settings demands base last patches (total i);
         sections = sections i;
       })) ∙ sym also.whole) in
       cc (texts, numbers)

@@ -1,15 +1,15 @@
 -- There is at most one answer to a search: a refusal, or one report.
 use Rattle.std.proofs.Common.{◌≡◌, ℕ, List, [], ◌∷◌, ◌++◌, All, sym, subst, ap}
 use Rattle.std.proofs.lemmas.List.Elements.{All-head, All-tail}
-use Rattle.report_model.specs.Answer.{Answer, Refused, Reported}
-use Rattle.report_model.specs.ScriptGraph.{HasBase}
+use Rattle.report.specs.Answers.{Answer, Refused, Reported}
+use Rattle.question_model.specs.ScriptGraph.{HasBase}
 use Rattle.crash_model.specs.Disk.{Disk}
 use Rattle.crash_model.specs.declared.refusals.RunFault.{RunFault}
 use Rattle.crash_model.specs.declared.refusals.RunFault.TheVariants.{GroupFault}
 use Rattle.crash_model.specs.declared.settings.Settings.{Settings}
 use Rattle.crash_model.specs.declared.steps.Step.{Step}
-use Rattle.question_model.specs.PoolAnswer.{IsReportedOfPool}
-use Rattle.question_model.specs.SearchReport.{IsSearchRefusal, before_the_pool, no_operation}
+use Rattle.report.specs.OnPools.{IsReportedOfPool}
+use Rattle.question_model.specs.SearchRefusal.{IsSearchRefusal, before_the_pool, no_operation}
 use Rattle.question_model.specs.Workloads.{IsOfPool}
 use Rattle.uniqueness_laws.proofs.OneGraph.{heads, tails}
 use Rattle.question_laws.proofs.OneStart.{base_one, untraced_one}

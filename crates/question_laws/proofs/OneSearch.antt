@@ -1,85 +1,67 @@
 -- There is at most one report of a search, and of the rules that its workloads need.
-use Rattle.std.proofs.Common.{◌≡◌, ℕ, List, [], ◌∷◌, length, map, Bool, sym, subst, ap, ◌∙◌}
+use Rattle.std.proofs.Common.{◌≡◌, ℕ, List, map, Bool, sym, subst, ap, ◌∙◌}
 use Rattle.std.specs.Prelude.{if◌then◌else◌, ◌==◌}
 use Rattle.patch_sets.proofs.Canonical.{one_list}
-use Rattle.report_model.specs.Report.{AreSections}
 use Rattle.crash_model.specs.Checker.{Demands}
 use Rattle.crash_model.specs.Disk.{Disk}
 use Rattle.crash_model.specs.declared.patches.Patch.{Patch}
 use Rattle.crash_model.specs.declared.settings.Settings.{Settings}
 use Rattle.crash_model.specs.declared.steps.Step.{Step}
-use Rattle.question_model.specs.EnoughFor.{FailsBy, IsMinimalInSearch, IsNeededInSearch}
-use Rattle.question_model.specs.EnoughReport.{IsListedFirst}
 use Rattle.question_model.specs.Enough.{rules_but}
-use Rattle.question_model.specs.SearchReport.{ListedKind, IsListedKind, search_of, search_bytes, IsSearchReport}
-use Rattle.question_model.specs.SearchRulesReport.{ListedNeed, IsListedNeed, search_but, search_rules_bytes}
-use Rattle.question_model.specs.SearchRulesReport.{IsSearchRulesReport}
+use Rattle.question_model.specs.EnoughFor.{FailsBy, IsMinimalInSearch, IsNeededInSearch}
+use Rattle.report.specs.OnPools.{search_of}
 use Rattle.question_model.specs.Sequences.{IsFirstSequence}
-use Rattle.question_model.specs.Workloads.{Search, steps_at, places_of, HasPatches}
+use Rattle.question_model.specs.Workloads.{Search, steps_at, HasPatches}
 use Rattle.question_model.specs.declared.found.SearchCounts.{SearchCounts}
 use Rattle.question_model.specs.declared.found.ShownKind.{ShownKind}
-use Rattle.uniqueness_laws.proofs.OneGraph.{heads}
-use Rattle.question_laws.proofs.OneSections.{sections_one}
-use Rattle.question_laws.proofs.OneFirst.{listed_first_one}
+use Rattle.report.specs.Made.{Detail, IsSection}
+use Rattle.report.specs.FirstCrashes.{IsFirstOfAll}
+use Rattle.report.specs.OnChoices.{rules_at}
+use Rattle.report.specs.OnPools.{IsFirstOfKind, IsNeedOfSearch, IsSearchReport, IsSearchRulesReport, head_of_search}
+use Rattle.report.specs.OnPools.{kinds_bytes, rules_bytes, search_but}
+use Rattle.report.specs.Found.{Kind, Need}
+use Rattle.question_laws.proofs.OneSections.{section_one}
+use Rattle.question_laws.proofs.OneFirst.{first_crash_one, same_need}
 use Rattle.question_laws.proofs.OneFound.{patches_one, found_one}
 use Rattle.question_laws.proofs.Orders.{same_keyed}
 use Rattle.question_laws.proofs.Sequences.{first_sequence_one}
 
 module _ (s : Search) (explain : Bool) where
-  listed_kind_one : (listed other : ListedKind) → IsListedKind s explain listed → IsListedKind s explain other
-      → listed.shown ≡ other.shown → listed ≡ other
-  listed_kind_one listed other is also same =
-      let steps : listed.steps ≡ other.steps = is.steps
-      ∙ (ap (λ (k : ShownKind). steps_at s.pool k.places.items) same ∙ sym also.steps) in
-      let both = patches_one s other.shown.places.items is.demands also.demands is.patches also.patches
-      (subst (λ (k : ShownKind). HasPatches s k.places.items is.demands is.patches) same is.traced) also.traced in
-      let demands : is.demands ≡ also.demands = both.0 in
-      let patches : is.patches ≡ also.patches = both.1 in
-      let number : listed.patches ≡ other.patches = is.number
-      ∙ (ap (λ (ps : List Patch). length ps) patches ∙ sym also.number) in
-      let section : AreSections (record { explain = explain; demands = also.demands }) s.base also.patches
-      (other.shown.first ∷ []) (listed.first ∷ []) =
-      subst (λ (d : Demands). AreSections (record { explain = explain; demands = d }) s.base also.patches
-      (other.shown.first ∷ []) (listed.first ∷ [])) demands
-      (subst (λ ps. AreSections (record { explain = explain; demands = is.demands }) s.base ps
-      (other.shown.first ∷ []) (listed.first ∷ [])) patches
-      (subst (λ (k : ShownKind). AreSections (record { explain = explain; demands = is.demands }) s.base is.patches
-      (k.first ∷ []) (listed.first ∷ [])) same is.section)) in
-      let first : listed.first ≡ other.first =
-      heads (sections_one (record { explain = explain; demands = also.demands })
-      s.base also.patches (other.shown.first ∷ []) (listed.first ∷ []) (other.first ∷ []) section also.section) in
-      λ i. record { shown = same i; steps = steps i; patches = number i; first = first i }
+  abbrev detail : Demands → Detail
+  detail demands = record { explain = explain; demands = demands }
 
-  listed_need_one : (listed other : ListedNeed) → IsListedNeed s explain listed → IsListedNeed s explain other
-      → listed.group ≡ other.group → listed ≡ other
-  listed_need_one listed other is also same =
-      let places : listed.places ≡ other.places = first_sequence_one
-      (FailsBy s (rules_but s.rules other.group)) listed.places
-      other.places
-      (subst (λ (group : ℕ). IsFirstSequence (FailsBy s (rules_but s.rules group)) listed.places) same is.earliest)
+  kind_one : (k l : Kind) → IsFirstOfKind s explain k → IsFirstOfKind s explain l → k.shown ≡ l.shown → k ≡ l
+  kind_one k l is also same =
+      let steps : k.steps ≡ l.steps = is.steps
+      ∙ (ap (λ (shown : ShownKind). steps_at s.pool shown.places.items) same ∙ sym also.steps) in
+      let both = patches_one s l.shown.places.items is.demands also.demands is.patches also.patches
+      (subst (λ (shown : ShownKind). HasPatches s shown.places.items is.demands is.patches) same is.traced)
+      also.traced in
+      let made : IsSection (detail also.demands) s.base also.patches k.section =
+      subst (λ (d : Demands). IsSection (detail d) s.base also.patches k.section) both.0
+      (subst (λ ps. IsSection (detail is.demands) s.base ps k.section) both.1 is.made) in
+      let section : k.section ≡ l.section =
+      section_one (detail also.demands) s.base also.patches k.section l.section made also.made
+      (is.set ∙ (ap (λ (shown : ShownKind). shown.first) same ∙ sym also.set)) in
+      λ i. record { shown = same i; steps = steps i; section = section i }
+
+  need_one : (n o : Need) → IsNeedOfSearch s explain n → IsNeedOfSearch s explain o → n.group ≡ o.group → n ≡ o
+  need_one n o is also same =
+      let places : is.places ≡ also.places = first_sequence_one
+      (FailsBy s (rules_but s.rules o.group)) is.places also.places
+      (subst (λ (group : ℕ). IsFirstSequence (FailsBy s (rules_but s.rules group)) is.places) same is.earliest)
       also.earliest in
-      let steps : listed.steps ≡ other.steps = is.steps ∙ (ap (λ (ps : List ℕ). steps_at s.pool ps) places
-      ∙ sym also.steps)
-      in
-      let traced : HasPatches (search_but s other.group) other.places is.demands is.patches =
-      subst (λ (ps : List ℕ). HasPatches (search_but s other.group) ps is.demands is.patches) places
-      (subst (λ (group : ℕ). HasPatches (search_but s group) listed.places is.demands is.patches) same is.traced) in
-      let both = patches_one (search_but s other.group) other.places is.demands also.demands is.patches also.patches
-      traced also.traced in
-      let demands : is.demands ≡ also.demands = both.0 in
-      let patches : is.patches ≡ also.patches = both.1 in
-      let number : listed.patches ≡ other.patches = is.number
-      ∙ (ap (λ (ps : List Patch). length ps) patches ∙ sym also.number) in
-      let fault : listed.fault ≡ other.fault = listed_first_one (record { explain = explain; demands = also.demands })
-      s.base
-      also.patches listed.fault other.fault
-      (subst
-      (λ (d : Demands). IsListedFirst (record { explain = explain; demands = d }) s.base also.patches listed.fault)
-      demands
-      (subst (λ ps. IsListedFirst (record { explain = explain; demands = is.demands }) s.base ps listed.fault) patches
-      is.first))
-      also.first in
-      λ i. record { group = same i; places = places i; steps = steps i; patches = number i; fault = fault i }
+      let traced : HasPatches (search_but s o.group) also.places is.demands is.patches =
+      subst (λ (ps : List ℕ). HasPatches (search_but s o.group) ps is.demands is.patches) places
+      (subst (λ (group : ℕ). HasPatches (search_but s group) is.places is.demands is.patches) same is.traced) in
+      let both = patches_one (search_but s o.group) also.places is.demands also.demands is.patches also.patches traced
+      also.traced in
+      let first : IsFirstOfAll (detail also.demands) s.base also.patches n.first =
+      subst (λ (d : Demands). IsFirstOfAll (detail d) s.base also.patches n.first) both.0
+      (subst (λ ps. IsFirstOfAll (detail is.demands) s.base ps n.first) both.1 is.first) in
+      same_need n o same (is.choices ∙ (ap (rules_at s.rules) same ∙ sym also.choices))
+      (is.steps ∙ (ap (λ (ps : List ℕ). steps_at s.pool ps) places ∙ sym also.steps))
+      (first_crash_one (detail also.demands) s.base also.patches n.first o.first first also.first)
 
 exit_of : SearchCounts → ℕ
 exit_of found = if found.failing == 0 then 0 else 1
@@ -93,11 +75,14 @@ module _ (settings : Settings) (most : ℕ) (base : Disk) (pool : List Step) (te
   search_one is also =
       let s = search_of settings most base pool in
       let found : is.found ≡ also.found = found_one s is.found also.found is.exactly also.exactly in
-      let shown : map (λ t. t.shown) is.listed ≡ map (λ t. t.shown) also.listed = is.kinds
-      ∙ (ap (λ (f : SearchCounts). f.kinds.items) found ∙ sym also.kinds) in
-      let listed : is.listed ≡ also.listed = same_keyed (λ t. t.shown) (IsListedKind s settings.explain)
-      (listed_kind_one s settings.explain) is.listed also.listed shown is.each also.each in (
-        is.whole ∙ ((λ i. search_bytes settings most (length (places_of pool)) (found i) (listed i)) ∙ sym also.whole),
+      let shown : map (λ k. k.shown) is.kinds ≡ map (λ k. k.shown) also.kinds = is.shown
+      ∙ (ap (λ (f : SearchCounts). f.kinds.items) found ∙ sym also.shown) in
+      let kinds : is.kinds ≡ also.kinds = same_keyed (λ k. k.shown) (IsFirstOfKind s settings.explain)
+      (kind_one s settings.explain) is.kinds also.kinds shown is.listed also.listed in (
+        is.whole ∙ ((λ i. kinds_bytes settings (record {
+          head = head_of_search settings most pool (found i);
+          kinds = kinds i;
+        })) ∙ sym also.whole),
         is.number_of ∙ (ap exit_of found ∙ sym also.number_of),
       )
 
@@ -109,11 +94,14 @@ module _ (settings : Settings) (most : ℕ) (base : Disk) (pool : List Step) (te
       let found : is.found ≡ also.found = found_one s is.found also.found is.exactly also.exactly in
       let enough : is.enough ≡ also.enough = one_list (IsMinimalInSearch s) is.enough also.enough is.minimal
       also.minimal in
-      let groups : map (λ t. t.group) is.needs ≡ map (λ t. t.group) also.needs = one_list (IsNeededInSearch s)
-      (map (λ t. t.group) is.needs) (map (λ t. t.group) also.needs) is.needed also.needed in
-      let needs : is.needs ≡ also.needs = same_keyed (λ t. t.group) (IsListedNeed s settings.explain)
-      (listed_need_one s settings.explain) is.needs also.needs groups is.listed also.listed in (
-        is.whole ∙ ((λ i. search_rules_bytes settings most (length (places_of pool)) (found i) (enough i) (needs i))
-            ∙ sym also.whole),
+      let groups : map (λ n. n.group) is.needs ≡ map (λ n. n.group) also.needs = one_list (IsNeededInSearch s)
+      (map (λ n. n.group) is.needs) (map (λ n. n.group) also.needs) is.needed also.needed in
+      let needs : is.needs ≡ also.needs = same_keyed (λ n. n.group) (IsNeedOfSearch s settings.explain)
+      (need_one s settings.explain) is.needs also.needs groups is.listed also.listed in (
+        is.whole ∙ ((λ i. rules_bytes settings (record {
+          head = head_of_search settings most pool (found i);
+          enough = map (rules_at s.rules) (enough i);
+          needs = needs i;
+        })) ∙ sym also.whole),
         is.number_of ∙ (ap exit_of found ∙ sym also.number_of),
       )

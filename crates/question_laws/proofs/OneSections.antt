@@ -1,59 +1,60 @@
--- Sections are determined, and so are the order of faults and the first set of a fault.
-use Rattle.std.proofs.Common.{◌≡◌, ◌≢◌, ℕ, ◌≤◌, List, [], ◌∷◌, ◌++◌, length, map, All, arith, refl, sym}
-use Rattle.std.proofs.Common.{subst, ap, ◌∙◌, inl, inr}
-use Rattle.std.specs.Prelude.{◌⊎◌, Option, Some, None}
-use Rattle.std.specs.List.{Contains}
+-- Crashes are determined by their sets, and so are the order of faults and the first set of a fault.
+use Rattle.std.proofs.Common.{◌≡◌, ◌≢◌, ℕ, List, sym, subst, ap, ◌∙◌, inl, inr}
+use Rattle.std.specs.Prelude.{◌⊎◌}
 use Rattle.std.specs.Ordering.{ordering_reverse}
 use Rattle.std.specs.Cmp.Lexicographic.{nat_list_cmp_total}
 use Rattle.std.specs.declared.cmp.Ordering.TheVariants.{Less, Greater}
-use Rattle.std.proofs.lemmas.List.Elements.{All-contains, All-head, All-tail, Contains-append_right}
-use Rattle.state_space.specs.Counts.{HoldsOf}
-use Rattle.state_space.proofs.Counting.{one_number, not_more}
-use Rattle.patch_sets.specs.declared.write.BlockWrite.{BlockWrite}
-use Rattle.patch_sets.specs.Closed.{IsClosed}
+use Rattle.patch_sets.specs.Writes.{AreRuns}
 use Rattle.patch_sets.proofs.Bits.{eq_or_not}
-use Rattle.patch_sets.proofs.Canonical.{one_list}
-use Rattle.patch_sets.proofs.Lists.{in_front}
 use Rattle.patch_sets.proofs.Writes.{one_runs}
-use Rattle.report_model.specs.ScriptGraph.{ordering_rules}
 use Rattle.crash_model.specs.Disk.{Disk}
-use Rattle.crash_model.specs.Patches.{ExceedsLimit, deps_of, homes_of, image_of}
-use Rattle.crash_model.specs.Checker.{Demands, IsFailingUnder, faults_under}
-use Rattle.crash_model.specs.Replay.{image_after_replay}
-use Rattle.report_model.specs.Report.{Detail, Section, AreSections, replay_of, shows_of}
-use Rattle.crash_model.specs.ChosenRules.{rules_in_first}
 use Rattle.crash_model.specs.FaultOrder.{numbers_of, IsFaultBefore}
-use Rattle.crash_model.specs.FirstSets.{HasFault, IsFirst}
-use Rattle.crash_model.specs.Tracing.{Tracing}
+use Rattle.crash_model.specs.FirstSets.{IsFirst}
+use Rattle.crash_model.specs.Patches.{homes_of, image_of}
+use Rattle.crash_model.specs.Replay.{image_after_replay}
 use Rattle.crash_model.specs.declared.fault.Fault.{Fault}
 use Rattle.crash_model.specs.declared.patches.Patch.{Patch}
-use Rattle.crash_model.specs.declared.rules.Rule.{Rule}
-use Rattle.crash_model.specs.declared.settings.Settings.{Settings}
-use Rattle.uniqueness_laws.proofs.OneGraph.{graph_one, heads, tails}
-use Rattle.question_laws.proofs.Orders.{one_keyed, same_parts, same_listed}
+use Rattle.question_model.specs.declared.decided_fault.DecidedFault.{DecidedFault}
+use Rattle.report.specs.Made.{Detail, AreSections, IsSection, crash_of, found_of, section_of}
+use Rattle.report.specs.FirstCrashes.{IsFirstCrash, decided_of}
+use Rattle.report.specs.Parts.{Crash, Section}
+use Rattle.report.specs.Found.{FirstCrash}
+use Rattle.question_laws.proofs.Orders.{same_keyed}
 use Rattle.question_laws.proofs.SetOrder.{order}
 
--- ---- sections
+-- ---- crashes
 
--- the section of a set with these block writes
-abbrev section_with : Detail → Disk → List Patch → ℕ → List BlockWrite → Section
-section_with detail base patches set writes = record {
-  set = set;
-  writes = writes;
-  replay = replay_of detail.explain (image_of base patches set);
-  found = faults_under detail.demands set (image_after_replay (image_of base patches set));
-  shows = shows_of detail set (image_after_replay (image_of base patches set))
-      (faults_under detail.demands set (image_after_replay (image_of base patches set)));
-}
+module _ (detail : Detail) (base : Disk) (patches : List Patch) where
+  writes_one : (c d : Crash) → AreRuns (homes_of patches) c.set c.writes → AreRuns (homes_of patches) d.set d.writes
+      → c.set ≡ d.set → c.writes ≡ d.writes
+  writes_one c d is also same =
+      one_runs (homes_of patches) d.set c.writes d.writes
+      (subst (λ (set : ℕ). AreRuns (homes_of patches) set c.writes) same is) also
 
-pub sections_one : (detail : Detail) (base : Disk) (patches : List Patch) (some : List ℕ)
-    (sections others : List Section)
-    → AreSections detail base patches some sections → AreSections detail base patches some others → sections ≡ others
-sections_one detail base patches [] sections others are are_too = are ∙ sym are_too
-sections_one detail base patches (set ∷ some) sections others are are_too =
-    let writes : are.0 ≡ are_too.0 = one_runs (homes_of patches) set are.0 are_too.0 are.2 are_too.2 in
-    let rest : are.1 ≡ are_too.1 = sections_one detail base patches some are.1 are_too.1 are.3 are_too.3 in
-    are.4 ∙ ((λ i. section_with detail base patches set (writes i) ∷ rest i) ∙ sym are_too.4)
+  pub section_one : (s t : Section) → IsSection detail base patches s → IsSection detail base patches t
+      → s.crash.set ≡ t.crash.set → s ≡ t
+  section_one s t is also same =
+      let writes : s.crash.writes ≡ t.crash.writes = writes_one s.crash t.crash is.runs also.runs same in
+      is.whole ∙ ((λ i. section_of detail base patches (same i) (writes i)) ∙ sym also.whole)
+
+  pub sections_one : (sets : List ℕ) (sections others : List Section) → AreSections detail base patches sets sections
+      → AreSections detail base patches sets others → sections ≡ others
+  sections_one sets sections others are also =
+      same_keyed (λ (s : Section). s.crash.set) (IsSection detail base patches) section_one sections others
+      (are.of_sets ∙ sym also.of_sets) are.each also.each
+
+  pub made_one : (f g : FirstCrash) → IsFirstCrash detail base patches f → IsFirstCrash detail base patches g
+      → decided_of f ≡ decided_of g → f ≡ g
+  made_one f g is also same =
+      let set : f.crash.set ≡ g.crash.set = ap (λ (d : DecidedFault). d.first) same in
+      let of : f.fault.fault ≡ g.fault.fault = ap (λ (d : DecidedFault). d.fault) same in
+      let writes : f.crash.writes ≡ g.crash.writes = writes_one f.crash g.crash is.runs also.runs set in
+      let fault : f.fault ≡ g.fault =
+      is.fault ∙ ((λ i. found_of detail (set i) (image_after_replay (image_of base patches (set i))) (of i))
+      ∙ sym also.fault) in
+      let crash : f.crash ≡ g.crash =
+      is.crash ∙ ((λ i. crash_of detail base patches (set i) (writes i)) ∙ sym also.crash) in
+      λ i. record { fault = fault i; crash = crash i }
 
 -- ---- each fault once
 

@@ -1,9 +1,11 @@
 -- A script has at most one base and one graph, and none where it is refused.
 use Rattle.std.proofs.Common.{◌≡◌, ℕ, List, subst, ap}
 use Rattle.std.specs.Prelude.{Result, Ok, Err}
-use Rattle.report_model.specs.Answer.{Answer, Refused, Reported, IsReported, untraced}
-use Rattle.report_model.specs.ScriptGraph.{HasBase, HasGraph, ordering_rules, asked_by}
-use Rattle.report_model.specs.Untraced.{IsUntraced, bad_script, bad_geometry, bad_base, bad_trace}
+use Rattle.report.specs.Answers.{Answer, Refused, Reported}
+use Rattle.question_model.specs.Reported.{IsReported}
+use Rattle.question_model.specs.Refusals.{untraced}
+use Rattle.question_model.specs.ScriptGraph.{HasBase, HasGraph, ordering_rules, asked_by}
+use Rattle.question_model.specs.Refusals.{IsUntraced, bad_script, bad_geometry, bad_base, bad_trace}
 use Rattle.crash_model.specs.Disk.{Disk}
 use Rattle.crash_model.specs.Generations.{new_disk}
 use Rattle.crash_model.specs.Checker.{Demands, AreDemands}

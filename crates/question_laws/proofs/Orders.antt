@@ -97,26 +97,3 @@ same_keyed key P one (x ∷ xs) (y ∷ ys) same are also =
     let front : x ≡ y = one x y (All-head P x xs are) (All-head P y ys also) (heads same) in
     let rest : xs ≡ ys = same_keyed key P one xs ys (tails same) (All-tail P x xs are) (All-tail P y ys also) in
     cc (front, rest)
-
--- parts of what lists have are the same if that is the same
-pub same_parts : {X A B : Type 0} (key : X → A) (part : A → B) (xs ys : List X) → map key xs ≡ map key ys
-    → map (λ x. part (key x)) xs ≡ map (λ x. part (key x)) ys
-same_parts key part [] [] same = refl
-same_parts key part [] (y ∷ ys) same = cc
-same_parts key part (x ∷ xs) [] same = cc
-same_parts key part (x ∷ xs) (y ∷ ys) same =
-    let front : part (key x) ≡ part (key y) = ap part (heads same) in
-    let rest : map (λ z. part (key z)) xs ≡ map (λ z. part (key z)) ys = same_parts key part xs ys (tails same) in
-    cc (front, rest)
-
--- two lists are one if two things of each element determine it, and are the same
-pub same_listed : {X A B : Type 0} (key : X → A) (listed : X → B)
-    (one : (a b : X) → key a ≡ key b → listed a ≡ listed b → a ≡ b) (xs ys : List X) → map key xs ≡ map key ys
-    → map listed xs ≡ map listed ys → xs ≡ ys
-same_listed key listed one [] [] keys same = refl
-same_listed key listed one [] (y ∷ ys) keys same = cc
-same_listed key listed one (x ∷ xs) [] keys same = cc
-same_listed key listed one (x ∷ xs) (y ∷ ys) keys same =
-    let front : x ≡ y = one x y (heads keys) (heads same) in
-    let rest : xs ≡ ys = same_listed key listed one xs ys (tails keys) (tails same) in
-    cc (front, rest)

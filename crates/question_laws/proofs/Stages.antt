@@ -1,9 +1,12 @@
 -- An answer as what comes of the script, its base, its trace and its graph, one after another.
 use Rattle.std.proofs.Common.{◌≡◌, ℕ, List, refl, sym, subst, inl, inr}
 use Rattle.std.specs.Prelude.{◌⊎◌, Result, Ok, Err}
-use Rattle.report_model.specs.Answer.{Answer, Refused, Reported, IsReport, IsReported, IsSetsRefusal, untraced, too_many}
-use Rattle.report_model.specs.ScriptGraph.{HasBase, HasGraph, ordering_rules, asked_by}
-use Rattle.report_model.specs.Untraced.{IsUntraced, bad_script, bad_geometry, bad_base, bad_trace}
+use Rattle.report.specs.Answers.{Answer, Refused, Reported}
+use Rattle.report.specs.OnGraphs.{IsReport}
+use Rattle.question_model.specs.Reported.{IsReported}
+use Rattle.question_model.specs.Refusals.{IsSetsRefusal, untraced, too_many}
+use Rattle.question_model.specs.ScriptGraph.{HasBase, HasGraph, ordering_rules, asked_by}
+use Rattle.question_model.specs.Refusals.{IsUntraced, bad_script, bad_geometry, bad_base, bad_trace}
 use Rattle.crash_model.specs.Disk.{Disk, IsGeometry}
 use Rattle.crash_model.specs.Generations.{new_disk}
 use Rattle.crash_model.specs.Patches.{ExceedsLimit}

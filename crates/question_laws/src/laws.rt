@@ -1,9 +1,9 @@
 //! What the definitions determine, as a function that does nothing and promises the law.
 
 ghost use Rattle.std.specs.Prelude.{◌≡◌, ℕ, List};
-ghost use Rattle.report_model.specs.Answer.{Answer};
+ghost use Rattle.report.specs.Answers.{Answer};
 ghost use Rattle.crash_model.specs.declared.settings.Settings.{Settings};
-ghost use Rattle.question_model.specs.Answers.{IsAnswerTo};
+ghost use Rattle.report.specs.Answers.{IsAnswerTo};
 ghost use Rattle.question_model.specs.declared.question.Question.{Question};
 
 /// Two answers to one question about one script, under the same settings, are the same.

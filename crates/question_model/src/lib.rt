@@ -1,9 +1,8 @@
-//! What a run is asked, and what each answer is.
+//! What a run is asked, and what each answer is about. `report` has the definitions of whole answers.
 //!
-//! Which closed sets fail is answered by exploring them; `crash_model` and `report_model` have the definitions for that.
-//! The other questions are answered without: which faults a crash can leave, which rules of an ordering or which lines
-//! that wait a script needs, and which workloads of a pool fail. A pool is a list of operations, and a workload is a
-//! sequence of a few of them, with repetitions.
+//! Which closed sets fail is answered by exploring them. The other questions are answered without: which faults a crash
+//! can leave, which rules of an ordering or which lines that wait a script needs, and which workloads of a pool fail. A
+//! pool is a list of operations, and a workload is a sequence of a few of them, with repetitions.
 //!
 //! The definitions that contracts cite are in `specs/`. None of them is code; the crates above are proved to meet them.
 #![tactic(auto)]

@@ -5,7 +5,6 @@ use command_line::settings_of;
 use crash_text::host::Host;
 use crash_text::run::{Outcome, run};
 use explorers::{Gate, OpenGate};
-use std::alloc::Global;
 use std::process::Abort;
 use std::sync::Wait;
 use std::test::Fail;
@@ -57,7 +56,7 @@ fn report<R: AllocGlobal + Threads + Wait + Sync, G: Gate + Sync>(
     asked: &Asked,
     workers: &'static str,
     gate: &G,
-) -> Result<Outcome<Global>, Fail> {
+) -> Result<Outcome, Fail> {
     let mut words = Vec::new(rt.alloc());
     words.extend_from_slice(asked.words)?;
     words.extend_from_slice(&["--workers", workers])?;

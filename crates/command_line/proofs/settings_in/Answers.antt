@@ -19,12 +19,19 @@ returns-clause-said c =
       blocks = c.number_of.ensures;
       journal = c.number_of-2.ensures;
       json = flag_got found (codes "json") c.get_flag.result c.get_flag.ensures.value c.get_flag.ensures.other;
-      numbers = flag_got found (codes "numbers") c.get_flag-2.result c.get_flag-2.ensures.value c.get_flag-2.ensures.other;
-      explain = flag_got found (codes "explain") c.get_flag-3.result c.get_flag-3.ensures.value c.get_flag-3.ensures.other;
-      whole_blocks = flag_got found (codes "whole-blocks") c.get_flag-4.result c.get_flag-4.ensures.value c.get_flag-4.ensures.other;
-      generations = flag_got found (codes "generations") c.get_flag-5.result c.get_flag-5.ensures.value c.get_flag-5.ensures.other;
-      strict = flag_got found (codes "strict") c.get_flag-6.result c.get_flag-6.ensures.value c.get_flag-6.ensures.other;
-      atomic = flag_got found (codes "atomic") c.get_flag-7.result c.get_flag-7.ensures.value c.get_flag-7.ensures.other;
-      durable = flag_got found (codes "durable") c.get_flag-8.result c.get_flag-8.ensures.value c.get_flag-8.ensures.other;
+      numbers = flag_got found (codes "numbers") c.get_flag-2.result c.get_flag-2.ensures.value
+          c.get_flag-2.ensures.other;
+      explain = flag_got found (codes "explain") c.get_flag-3.result c.get_flag-3.ensures.value
+          c.get_flag-3.ensures.other;
+      whole_blocks = flag_got found (codes "whole-blocks") c.get_flag-4.result c.get_flag-4.ensures.value
+          c.get_flag-4.ensures.other;
+      generations = flag_got found (codes "generations") c.get_flag-5.result c.get_flag-5.ensures.value
+          c.get_flag-5.ensures.other;
+      strict = flag_got found (codes "strict") c.get_flag-6.result c.get_flag-6.ensures.value
+          c.get_flag-6.ensures.other;
+      atomic = flag_got found (codes "atomic") c.get_flag-7.result c.get_flag-7.ensures.value
+          c.get_flag-7.ensures.other;
+      durable = flag_got found (codes "durable") c.get_flag-8.result c.get_flag-8.ensures.value
+          c.get_flag-8.ensures.other;
       counted = c.in_ok-counted_of.ensures;
     }

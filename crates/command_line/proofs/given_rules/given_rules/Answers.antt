@@ -14,7 +14,8 @@ pub loop-word-preserved : goal.loop-word-preserved
 loop-word-preserved c =
     let rules = c.loop-word.rules.items in
     let words = c.unwrap_or-words.result.now in
-    subst (λ (items : List Rule). (map rule_text items ≡ texts (take (c.loop-word.word-index + 1) words)) × AreOnce items)
+    subst
+    (λ (items : List Rule). (map rule_text items ≡ texts (take (c.loop-word.word-index + 1) words)) × AreOnce items)
     (sym c.push.ensures.items) (
       one_more_word rules c.in-Ok.rule words c.loop-word.word-index _ c.loop-word-test.true c.loop-word.invariant.0
           c.in-Ok.ensures.word,
@@ -26,5 +27,5 @@ returns-clause-words c =
     let f = found_of c.args.matches.now in
     let words = c.unwrap_or-words.result.now in
     c.loop-word.invariant.0 ∙ (ap texts (take_all c.loop-word.word-index words c.loop-word-test.false)
-    ∙ texts_got c.get_strs.result _ c.unwrap_or-words.result (all_of c.args.option.now (rows_of f)) c.unwrap_or-words.ensures refl
-    (c.get_strs.ensures ∙ raw_values-rows f c.args.option.now))
+    ∙ texts_got c.get_strs.result _ c.unwrap_or-words.result (all_of c.args.option.now (rows_of f))
+    c.unwrap_or-words.ensures refl (c.get_strs.ensures ∙ raw_values-rows f c.args.option.now))

@@ -24,10 +24,10 @@ returns c =
     let start = ap app_of_fields c.next_help_heading.ensures in
     let first = added c.next_help_heading.result c.in_ok-arg.field-0 c.default_value.result (app_of c.args.program)
     (usually (codes "soft") among) start kind c.in_ok-arg.ensures in
-    let second = added c.in_ok-arg.field-0 c.in_ok-arg-2.field-0 c.action.result _ (values (codes "without")) first without
-    c.in_ok-arg-2.ensures in
-    let third = added c.in_ok-arg-2.field-0 c.in_ok-arg-3.field-0 c.action-2.result _ (values (codes "with")) second putting
-    c.in_ok-arg-3.ensures in
+    let second = added c.in_ok-arg.field-0 c.in_ok-arg-2.field-0 c.action.result _ (values (codes "without"))
+    first without c.in_ok-arg-2.ensures in
+    let third = added c.in_ok-arg-2.field-0 c.in_ok-arg-3.field-0 c.action-2.result _ (values (codes "with"))
+    second putting c.in_ok-arg-3.ensures in
     let fourth = added c.in_ok-arg-3.field-0 c.in_ok-arg-4.field-0 c.flag.result _ (flag (codes "whole-blocks")) third
     c.flag.ensures c.in_ok-arg-4.ensures in
     IfOk-weaker c.arg-5.result _ _ (λ r adds. (

@@ -8,5 +8,6 @@ pub returns : goal.returns
 returns c =
     let chain = YieldsList-from_str_split {s = c.into_iter-piece-iterator.result} 44 c.args.word.now (lit< tt) (cc) (cc)
     (cc) in
-    let end = YieldsList-end chain c.loop-piece.yielded _ c.loop-piece.yielded_by _ _ c.in-None.is c.next.ensures.steps in
+    let end =
+    YieldsList-end chain c.loop-piece.yielded _ c.loop-piece.yielded_by _ _ c.in-None.is c.next.ensures.steps in
     c.loop-piece.invariant ∙ ap set_of end.0

@@ -19,9 +19,10 @@ second false false false false any a_out c_out d_out = any
 soft_left : (t : Text) → list_any (λ (name : Text). bytes_eq name t) module_words ≡ true → (t ≡ codes "async" → ⊥)
     → (t ≡ codes "meta" → ⊥) → (t ≡ codes "full" → ⊥) → t ≡ codes "soft"
 soft_left t any a m f =
-    let apart = λ (other : Text) (none : t ≡ other → ⊥) (e : bytes_eq other t ≡ true). none (sym ((bytes_eq-Decides other t).0 e)) in
-    let soft = second (bytes_eq (codes "async") t) (bytes_eq (codes "soft") t) (bytes_eq (codes "meta") t) (bytes_eq (codes "full") t)
-    any (apart (codes "async") a) (apart (codes "meta") m) (apart (codes "full") f) in
+    let apart = λ (other : Text) (none : t ≡ other → ⊥) (e : bytes_eq other t ≡ true).
+    none (sym ((bytes_eq-Decides other t).0 e)) in
+    let soft = second (bytes_eq (codes "async") t) (bytes_eq (codes "soft") t) (bytes_eq (codes "meta") t)
+    (bytes_eq (codes "full") t) any (apart (codes "async") a) (apart (codes "meta") m) (apart (codes "full") f) in
     sym ((bytes_eq-Decides (codes "soft") t).0 soft)
 
 pub returns-in-Some-async : goal.returns-in-Some-async
@@ -41,12 +42,13 @@ returns-in-Some-full c = λ t said.
 
 pub returns-in_default : goal.returns-in_default
 returns-in_default c = λ t said.
-    let same = text_got (found_of c.args.matches.now) (codes "module") c.get_str.result c.in_default.field-0 c.get_str.ensures
-    c.in_default.is t said in
-    soft_left t (c.requires.kind t said) (λ e. c.in_default.not-async (cc (same, e))) (λ e. c.in_default.not-meta (cc (same, e)))
-    (λ e. c.in_default.not-full (cc (same, e)))
+    let same = text_got (found_of c.args.matches.now) (codes "module") c.get_str.result c.in_default.field-0
+    c.get_str.ensures c.in_default.is t said in
+    soft_left t (c.requires.kind t said) (λ e. c.in_default.not-async (cc (same, e)))
+    (λ e. c.in_default.not-meta (cc (same, e))) (λ e. c.in_default.not-full (cc (same, e)))
 
 pub returns-in_default-2 : goal.returns-in_default-2
 returns-in_default-2 c = λ t said.
-    let none = no_text_got (found_of c.args.matches.now) (codes "module") c.get_str.result c.get_str.ensures c.in_default.is t said in
+    let none = no_text_got (found_of c.args.matches.now) (codes "module") c.get_str.result c.get_str.ensures
+    c.in_default.is t said in
     absurd none

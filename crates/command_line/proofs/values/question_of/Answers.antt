@@ -33,7 +33,8 @@ returns-in-None-true c =
     (flag_got f (codes "decide") c.get_flag.result c.get_flag.ensures.value c.get_flag.ensures.other)
     (flag_got f (codes "enough") c.get_flag-2.result c.get_flag-2.ensures.value c.get_flag-2.ensures.other)
     c.if-get_flag.false c.get_flag-then-this.result
-    (flag_got f (codes "syncs") c.get_flag-then-this.result c.get_flag-then-this.ensures.value c.get_flag-then-this.ensures.other)
+    (flag_got f (codes "syncs") c.get_flag-then-this.result c.get_flag-then-this.ensures.value
+    c.get_flag-then-this.ensures.other)
     c.if-get_flag-3.true (cc) (sym c.longest_workload.ensures ∙ c.in-None-true.is-0)
 
 pub returns-in-None-true-2 : goal.returns-in-None-true-2
@@ -43,7 +44,8 @@ returns-in-None-true-2 c =
     (flag_got f (codes "decide") c.get_flag.result c.get_flag.ensures.value c.get_flag.ensures.other)
     (flag_got f (codes "enough") c.get_flag-2.result c.get_flag-2.ensures.value c.get_flag-2.ensures.other)
     c.if-get_flag.false c.get_flag-then-this.result
-    (flag_got f (codes "syncs") c.get_flag-then-this.result c.get_flag-then-this.ensures.value c.get_flag-then-this.ensures.other)
+    (flag_got f (codes "syncs") c.get_flag-then-this.result c.get_flag-then-this.ensures.value
+    c.get_flag-then-this.ensures.other)
     c.if-get_flag-3.false (cc) (sym c.longest_workload.ensures ∙ c.in-None-true.is-0)
 
 pub returns-in-None-false : goal.returns-in-None-false
@@ -52,4 +54,5 @@ returns-in-None-false c =
     failing_sets (rows_of f) c.get_flag.result c.get_flag-2.result
     (flag_got f (codes "decide") c.get_flag.result c.get_flag.ensures.value c.get_flag.ensures.other)
     (flag_got f (codes "enough") c.get_flag-2.result c.get_flag-2.ensures.value c.get_flag-2.ensures.other)
-    c.if-get_flag.false c.limit_of.result (cc) (sym c.longest_workload.ensures ∙ c.in-None-false.is-0) c.limit_of.ensures
+    c.if-get_flag.false c.limit_of.result (cc) (sym c.longest_workload.ensures ∙ c.in-None-false.is-0)
+    c.limit_of.ensures

@@ -1,38 +1,54 @@
-use Rattle.std.proofs.Common.{◌≡◌, ◌≤◌, List, ℕ, length, string_bytes, sym, subst, ◌∙◌}
-use Rattle.patch_sets.specs.Sets.{AreAllInOrder}
+use Rattle.std.proofs.Common.{◌≡◌, ◌≤◌, List, ℕ, length, ap₂, subst, subst₂, sym, ◌∙◌}
+use Rattle.std.specs.Prelude.{All}
+use Rattle.patch_sets.specs.Closed.{IsClosed}
 use Rattle.crash_model.specs.Checker.{IsFailingUnder}
-use Rattle.report_model.specs.Answer.{IsReport}
-use Rattle.report_model.proofs.Leading.{failing_closed}
-use Rattle.crash_text.proofs.FoundSets.{is_report}
+use Rattle.crash_model.specs.Patches.{deps_of}
+use Rattle.report.specs.Makers.{Making}
+use Rattle.report.specs.Made.{AreSections}
+use Rattle.report.specs.OnGraphs.{sets_bytes}
+use Rattle.report.specs.Parts.{Section}
+use Rattle.report.specs.Reports.{Head}
+use Rattle.report.proofs.Leading.{closed_are_left, failing_closed}
+use Rattle.crash_text.proofs.Listed.{sections_led}
 use Rattle.crash_text.proofs.Safe.{none_listed}
 use Rattle.crash_text.proofs.exploring.explored.Goals as goal
 
-pub write_report-requires-clause-reportable : goal.write_report-requires-clause-reportable
-write_report-requires-clause-reportable g c = λ _ _.
+pub sections-requires : goal.sections-requires
+sections-requires g c =
     let script = c.args.script.now in
-    let exactly = subst (AreAllInOrder (IsFailingUnder script.demands script.base.now script.traced.patches))
-    (sym c.deref.ensures.value) c.in_ok-found.ensures.failing in
-    record {
-      on_base = c.requires.on_base;
-      closed = failing_closed script.demands script.base.now script.traced.patches c.deref.result.now exactly;
-    }
+    let found = c.in_ok-found.found.broken.items in
+    subst₂ (λ (m : Making) (sets : List ℕ). All (IsClosed (deps_of m.patches)) sets) (sym c.in_ok-maker.ensures)
+    (sym c.deref.ensures.value)
+    (failing_closed script.demands script.base.now script.traced.patches found c.in_ok-found.ensures.failing)
 
 pub returns-clause-reported : goal.returns-clause-reported
 returns-clause-reported g c = λ last is.
     let settings = c.args.request.now.settings in
     let script = c.args.script.now in
-    let text = string_bytes c.in_ok-write_report.field-0 in
-    let sets = c.deref.result.now in
+    let base = script.base.now in
+    let patches = script.traced.patches in
     let found = c.in_ok-found.ensures in
-    let written = c.in_ok-write_report.ensures in
-    let exactly = subst (AreAllInOrder (IsFailingUnder script.demands script.base.now script.traced.patches))
-    (sym c.deref.ensures.value) found.failing in
-    let within = subst (λ (most : ℕ). c.in_ok-found.found.total ≤ most) c.sets.ensures.same found.within in
-    let many : c.len.result ≡ length sets = cc in
-    subst (λ (n : ℕ). IsReport settings c.args.limit script.demands script.base.now last script.traced.patches text n)
-    (sym many)
-    (is_report settings script.demands script.base.now script.traced last c.args.limit c.in_ok-found.found.total sets
-    written.0 text is found.total within exactly written.1 written.2)
+    let total = c.in_ok-found.found.total in
+    let sets = c.in_ok-found.found.broken.items in
+    let sections = c.in_ok-sections.sections.items in
+    let closed = failing_closed script.demands base patches sets found.failing in
+    let listed = subst₂ (λ (m : Making) (all : List ℕ). AreSections m.detail m.base m.patches all sections)
+    c.in_ok-maker.ensures c.deref.ensures.value c.in_ok-sections.ensures in
+    record {
+      total = total;
+      counted = found.total;
+      within = subst (λ (most : ℕ). total ≤ most) c.sets.ensures.same found.within;
+      sets = sets;
+      exactly = found.failing;
+      left = closed_are_left patches is.graph.earlier sets closed;
+      number = cc;
+      sections = sections;
+      listed = listed;
+      led = sections_led base patches is.graph.earlier _ sets sections closed listed;
+      whole = c.in_ok-written.ensures ∙ ap₂ (λ (h : Head) (ss : List Section).
+          sets_bytes settings (record { head = h; sections = ss })) (c.graph_head.ensures last is)
+          c.deref-3.ensures.value;
+    }
 
 pub returns-clause-safe : goal.returns-clause-safe
 returns-clause-safe g c = λ none.

@@ -27,7 +27,8 @@ returns-in_err-found-clause-too_many g c =
     let number = c.closed_number-number.result in
     let room = c.prime_at_least-room.result in
     refused_otherwise c.args.script.now.traced.patches number
-    (subst (λ (patches : List Patch). CountsClosed patches number) same c.closed_number-number.ensures) c.args.limit room
+    (subst (λ (patches : List Patch). CountsClosed patches number) same c.closed_number-number.ensures) c.args.limit
+    room
     c.in_err-found.field-0.0 c.from_residual.result (omega (arith, c.prime_at_least-room.ensures.enough))
     c.from_residual.ensures.1
     (λ is. subst (λ (patches : List Patch). ExceedsLimit patches room) same

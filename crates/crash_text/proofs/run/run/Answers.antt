@@ -1,16 +1,16 @@
 use Rattle.std.proofs.Common.{rules, ◌≡◌, ◌≢◌, List, Result, Ok, Err, IfOk, IfErr, ap, subst, sym, ◌∙◌}
 use Rattle.std.specs.Prelude.{All, string_bytes}
 use Rattle.std.proofs.lemmas.Result.{IfErr-weaker, IfOk-weaker}
-use Rattle.report_model.specs.Answer.{Refused, Reported, IsReport, untraced}
+use Rattle.report.specs.Answers.{Refused, Reported, IsAnswerTo}
+use Rattle.report.specs.OnGraphs.{IsReport}
+use Rattle.question_model.specs.Refusals.{untraced}
 use Rattle.crash_model.specs.Refusals.{run_of_script}
 use Rattle.crash_model.specs.ChosenWaits.{up_to_wait}
 use Rattle.crash_model.specs.Script.{IsAct}
 use Rattle.crash_model.specs.declared.refusals.RunFault.TheVariants.{OutOfMemory}
 use Rattle.crash_model.specs.declared.steps.Step.{Step}
-use Rattle.question_model.specs.Answers.{IsAnswerTo}
-use Rattle.question_model.specs.Decision.{IsDecision}
-use Rattle.question_model.specs.EnoughReport.{IsEnoughReport}
-use Rattle.question_model.specs.LinesReport.{IsLinesReport}
+use Rattle.report.specs.Decisions.{IsDecision}
+use Rattle.report.specs.OnChoices.{IsEnoughReport, IsLinesReport}
 use Rattle.question_model.specs.declared.question.TheConstants.{MAX_SYNCS}
 use Rattle.crash_text.specs.BaseRefusal.{IsBaseRefusal}
 use Rattle.crash_text.specs.Searching.{IsPoolRefusal, IsSearchOf}
@@ -99,7 +99,8 @@ returns-in-FailingSets-clause-refused g c =
     → IsAnswerTo q c.args.script.now asked.settings (Refused f))) (sym c.in-FailingSets.is)
     (IfErr-weaker c.explored.result _ _
     (λ fault says memory. let many = says memory in
-    refused_sets c.args.script.now asked.settings c.in-FailingSets.limit base read.traced.items script fault start traced
+    refused_sets c.args.script.now asked.settings c.in-FailingSets.limit base read.traced.items script fault start
+    traced
     many.0 many.1)
     c.explored.ensures.too_many)
 
@@ -111,7 +112,8 @@ returns-in-FailingSets-clause-full g c = λ full none nothing.
     let start = has_base c.args.script.now asked.settings read.base.items _ read.traced.items base
     c.in_ok-read.ensures.ok c.in_ok-built.ensures.lawful c.deref.ensures.value c.in_ok-built.ensures.built in
     c.explored.ensures.safe (c.in_ok-script-in-FailingSets.ensures.full full none
-    (nothing_at_risk c.args.script.now asked.settings base read.traced.items _ start c.deref-in-FailingSets.ensures.value
+    (nothing_at_risk c.args.script.now asked.settings base read.traced.items _ start
+    c.deref-in-FailingSets.ensures.value
     (subst (λ q. RisksNothing q c.args.script.now asked.settings) c.in-FailingSets.is nothing)))
 
 pub returns-in-FailingSets-clause-at_risk : goal.returns-in-FailingSets-clause-at_risk

@@ -1,27 +1,22 @@
-use Rattle.std.proofs.Common.{ℕ, List, length, map, ap₂, ◌∙◌}
+use Rattle.std.proofs.Common.{ℕ, List, length, ap₂, ◌∙◌}
 use Rattle.std.specs.Prelude.{◌==◌}
-use Rattle.std.proofs.lemmas.List.Elements.{All-map}
-use Rattle.question_model.specs.SearchReport.{IsListedKind, search_bytes}
-use Rattle.pool_judging.specs.Judging.{search_by}
-use Rattle.question_reports.specs.SearchFindings.{listed_kind}
-use Rattle.question_reports.specs.declared.search.findings.KindCrash.{KindCrash}
-use Rattle.crash_text.proofs.PoolReports.{number_of_failing, listed_shown}
+use Rattle.report.specs.OnPools.{kinds_bytes}
+use Rattle.report.specs.Found.{Kind}
+use Rattle.crash_text.proofs.Numbers.{number_of_failing}
 use Rattle.crash_text.proofs.searching.report_on.Goals as goal
 
 pub returns-clause-report : goal.returns-clause-report
 returns-clause-report g c =
     let settings = c.args.settings.now in
     let judge = c.args.judge.now in
-    let pool = judge.pool.now in
-    let crashes = c.in_ok-kinds.kinds.items in
     record {
-      listed = map (listed_kind pool) crashes;
-      kinds = listed_shown pool crashes ∙ (c.in_ok-kinds.ensures.shown ∙ c.as_slice.ensures.value);
-      each = All-map (IsListedKind (search_by judge) settings.explain) (listed_kind pool) crashes
-          c.in_ok-kinds.ensures.listed;
-      whole = c.in_ok-search_report.ensures ∙ ap₂ (λ (n : ℕ) (ks : List (KindCrash g.row.A.Denot)).
-          search_bytes settings n (length pool) c.args.found.now (map (listed_kind pool) ks))
-          c.operations.ensures.same c.deref.ensures.value;
+      kinds = c.in_ok-kinds.kinds.items;
+      shown = c.in_ok-kinds.ensures.shown ∙ c.as_slice.ensures.value;
+      listed = c.in_ok-kinds.ensures.first;
+      whole = c.in_ok-written.ensures ∙ ap₂ (λ (most : ℕ) (kinds : List Kind). kinds_bytes settings (record {
+        head = record { settings = settings; most = most; pool = length judge.pool.now; found = c.args.found.now };
+        kinds = kinds;
+      })) c.operations.ensures.same c.deref.ensures.value;
     }
 
 pub returns-clause-number : goal.returns-clause-number

@@ -3,10 +3,10 @@ use Rattle.std.specs.Prelude.{All}
 use Rattle.crash_model.specs.Disk.{IsDisk}
 use Rattle.crash_model.specs.declared.steps.Step.{Step}
 use Rattle.question_model.specs.SearchCounts.{AreSearchCounts}
-use Rattle.question_model.specs.SearchReport.{IsListedKind, search_bytes}
 use Rattle.question_model.specs.Workloads.{Search}
 use Rattle.pool_judging.specs.Pools.{IsKeep, IsPlace}
 use Rattle.pool_judging.proofs.Pools.{all_keeps, all_places}
+use Rattle.report.specs.OnPools.{IsFirstOfKind, kinds_bytes}
 use Rattle.crash_text.proofs.Pools.{none_reported}
 use Rattle.crash_text.proofs.PoolReports.{same_search}
 use Rattle.crash_text.proofs.searching.searched.Goals as goal
@@ -56,13 +56,13 @@ returns-clause-reported g c =
       record {
         found = found;
         exactly = subst (λ (s : Search). AreSearchCounts s found) same c.in_ok-searched.ensures.found;
-        listed = report.listed;
         kinds = report.kinds;
-        each = subst (λ (s : Search). All (IsListedKind s settings.explain) report.listed) same report.each;
-        whole = report.whole
-            ∙ ap (λ (ps : List Step). search_bytes settings pool.longest
-            (length ps) found report.listed)
-            places;
+        shown = report.shown;
+        listed = subst (λ (s : Search). All (IsFirstOfKind s settings.explain) report.kinds) same report.listed;
+        whole = report.whole ∙ ap (λ (ps : List Step). kinds_bytes settings (record {
+          head = record { settings = settings; most = pool.longest; pool = length ps; found = found };
+          kinds = report.kinds;
+        })) places;
         number_of = c.in_ok-outcome.ensures.number;
       },
     )

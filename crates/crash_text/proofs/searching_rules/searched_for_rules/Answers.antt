@@ -1,14 +1,15 @@
-use Rattle.std.proofs.Common.{rules, List, ap, length, map, refl, subst, sym, ◌∙◌}
+use Rattle.std.proofs.Common.{rules, List, ap₂, length, map, refl, subst, sym, ◌∙◌}
 use Rattle.std.specs.Prelude.{All}
 use Rattle.patch_sets.specs.Sets.{AreAllInOrder}
 use Rattle.crash_model.specs.Disk.{IsDisk}
 use Rattle.crash_model.specs.declared.steps.Step.{Step}
 use Rattle.question_model.specs.EnoughFor.{IsMinimalInSearch, IsNeededInSearch}
 use Rattle.question_model.specs.SearchCounts.{AreSearchCounts}
-use Rattle.question_model.specs.SearchRulesReport.{IsListedNeed, search_rules_bytes}
 use Rattle.question_model.specs.Workloads.{Search}
 use Rattle.pool_judging.specs.Pools.{IsKeep, IsPlace}
 use Rattle.pool_judging.proofs.Pools.{all_keeps, all_places}
+use Rattle.report.specs.OnChoices.{rules_at}
+use Rattle.report.specs.OnPools.{IsNeedOfSearch, rules_bytes}
 use Rattle.crash_text.proofs.Pools.{none_reported}
 use Rattle.crash_text.proofs.PoolReports.{same_search}
 use Rattle.crash_text.proofs.searching_rules.searched_for_rules.Goals as goal
@@ -63,9 +64,12 @@ returns-clause-reported g c =
         needs = report.needs;
         needed = subst (λ (s : Search). AreAllInOrder (IsNeededInSearch s) (map (λ t. t.group) report.needs)) same
             report.needed;
-        listed = subst (λ (s : Search). All (IsListedNeed s settings.explain) report.needs) same report.listed;
-        whole = report.whole ∙ ap (λ (ps : List Step).
-            search_rules_bytes settings longest (length ps) found report.enough report.needs) places;
+        listed = subst (λ (s : Search). All (IsNeedOfSearch s settings.explain) report.needs) same report.listed;
+        whole = report.whole ∙ ap₂ (λ (ps : List Step) (s : Search). rules_bytes settings (record {
+          head = record { settings = settings; most = longest; pool = length ps; found = found };
+          enough = map (rules_at s.rules) report.enough;
+          needs = report.needs;
+        })) places same;
         number_of = c.in_ok-outcome.ensures.number;
       },
     )

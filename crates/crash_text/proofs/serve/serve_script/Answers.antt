@@ -1,9 +1,8 @@
 use Rattle.std.proofs.Common.{rules, ◌≡◌, Some, Err, IfErr, refl, subst, sym, ◌∙◌}
 use Rattle.std.specs.Prelude.{string_bytes}
 use Rattle.std.specs.Io.KnownBytes.{Appends}
-use Rattle.report_model.specs.Answer.{Reported}
+use Rattle.report.specs.Answers.{Reported, IsAnswerTo}
 use Rattle.crash_model.specs.declared.refusals.RunFault.TheVariants.{CannotRead, CannotWrite, ScriptTooLong}
-use Rattle.question_model.specs.Answers.{IsAnswerTo}
 use Rattle.crash_text.specs.Served.{IsRefusedBy}
 use Rattle.crash_text.proofs.Serving.{not_of_device}
 use Rattle.crash_text.proofs.serve.serve_script.Goals as goal

@@ -1,5 +1,5 @@
 use Rattle.std.proofs.Common.{◌≡◌, List, Bool, Ok, refl, subst, ap, ◌∙◌}
-use Rattle.report_model.specs.ScriptGraph.{asked_by, ordering_rules}
+use Rattle.question_model.specs.ScriptGraph.{asked_by, ordering_rules}
 use Rattle.crash_model.specs.Checker.{AreDemands}
 use Rattle.crash_model.specs.Disk.{Disk}
 use Rattle.crash_model.specs.Trace.{trace_from, IsGraphOf}

@@ -1,5 +1,0 @@
-pub mod Without
-pub mod WithoutLines
-pub mod KindCrashes
-pub mod FirstWorkload
-pub mod NeededWorkloads

@@ -1,3 +1,0 @@
-pub mod Sparing
-pub mod SparingLines
-pub mod Kinds

@@ -1,4 +1,0 @@
-pub mod Items
-pub mod Known
-pub mod Patches
-pub mod Written

@@ -1,0 +1,15 @@
+pub mod Adding
+pub mod Joining
+pub mod IdLoops
+pub mod Numbers
+pub mod Numbered
+pub mod Viewed
+pub mod Leading
+pub mod OneMore
+pub mod Firsts
+pub mod SparedLines
+pub mod FirstWorkload
+pub mod FirstOfKind
+pub mod MadeCrashes
+pub mod WaitLines
+pub mod ShownWhere

@@ -1,9 +1,0 @@
-use Rattle.std.proofs.Common.{◌≡◌, ◌++◌, map, string_bytes, take}
-use Rattle.crash_model.specs.Lists.{join_of}
-use Rattle.report_model.specs.JsonParts.{json_string}
-use Rattle.report_model.specs.Shows.{together}
-use Rattle.report_json.proofs.promises.write_allowed.Given as goal
-
-abbrev pub invariant-loop-at : goal.invariant-loop-at
-invariant-loop-at g l = string_bytes l.out ≡ string_bytes l.initial.out
-    ++ join_of 44 (map (λ a. json_string (together a.shows.items)) (take l.at l.allowed))

@@ -1,8 +1,0 @@
-pub mod Pieces
-pub mod Pushed
-pub mod Firsts
-pub mod Joined
-pub mod Shown
-pub mod Items
-pub mod NumberTables
-pub mod MarkedRuns

@@ -1,3 +1,0 @@
-pub mod Patches
-pub mod Promises
-pub mod TextReport

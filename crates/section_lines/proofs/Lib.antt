@@ -1,5 +1,0 @@
-pub mod Listed
-pub mod Runs
-pub mod WriteLines
-pub mod EmptyTables
-pub mod ShownLines

@@ -1,3 +1,0 @@
-pub mod Cache
-pub mod Runs
-pub mod Shows
